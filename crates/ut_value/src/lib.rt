@@ -1,0 +1,23 @@
+//! The values, rows and journal entries of the store. A contract sees each of them as plain data:
+//! lists of bytes, lists of values, and enums and structs of these.
+#![tactic(auto)]
+
+mod duplicate;
+mod entry;
+mod seq;
+mod text;
+mod value;
+
+pub use duplicate::Duplicate;
+pub use entry::{Entry, MergeKind, Op};
+pub use seq::Seq;
+pub use text::{Name, Text, is_digit, is_name, is_text, same_bytes};
+pub use value::{Column, Kind, Row, Value};
+
+pub type Values = Seq<Value>;
+
+pub type Names = Seq<Name>;
+
+pub type Columns = Seq<Column>;
+
+pub type OpList = Seq<Op>;
