@@ -1,7 +1,7 @@
 -- Keys stand in the order of the values, and tell values apart.
-use Rattle.std.proofs.Common.{◌≡◌, ℕ, zero, suc, ◌+◌, ◌-◌, ◌*◌, ◌/◌, ◌%◌, ◌^◌, ◌<◌, ◌≤◌, List, [], ◌∷◌, length, get_or, Bool, true, false, IsTrue, refl, sym, ◌∙◌, ap, subst, arith}
-use Rattle.std.specs.Prelude.{ℤ, pos, negsuc, nat_lt, ◌<ℤ◌}
-use Rattle.std.specs.Int.{w64, to_be_bytes, from_be_bytes, bytes_high_first, byte_at}
+use Rattle.std.proofs.Common.{◌≡◌, ℕ, zero, suc, ◌+◌, ◌*◌, ◌/◌, ◌%◌, ◌^◌, ◌<◌, ◌≤◌, IsTrue, refl, sym, ◌∙◌, ap, arith}
+use Rattle.std.specs.Prelude.{ℤ, pos, negsuc, ◌<ℤ◌}
+use Rattle.std.specs.Int.{w64, from_be_bytes, bytes_high_first, byte_at}
 use Rattle.std.specs.Cmp.{ranks, nat_cmp_is, int_cmp_is}
 use Rattle.std.specs.Cmp.Lexicographic.{slice_cmp}
 use Rattle.std.specs.Ordering.{nat_cmp, int_cmp, ordering_then, MatchOrdering}
@@ -12,12 +12,10 @@ use Rattle.std.proofs.Math.Nat.{mod-lt, pow-suc, mul_comm, mul-le-mul_right}
 use Rattle.std.proofs.lemmas.Nat.{from_be_bytes-to_be_bytes_8}
 use Rattle.std.proofs.Common.{ltb-true, lt→ltb, true≢false}
 use Rattle.ut_key.specs.Keys.{key_cmp}
-use Rattle.ut_value.specs.declared.value.Kind.{Kind}
 use Rattle.ut_value.specs.declared.value.Kind.TheVariants as kinds
-use Rattle.ut_value.specs.declared.value.Value.{Value}
 use Rattle.ut_value.specs.declared.value.Value.TheVariants as values
-use Rattle.ut_value.specs.KeyBytes.{sign_flipped, int_key, is_int, key_of, is_of_kind, is_value, IsKeyOf}
-use Rattle.ut_value.specs.KeyOrder.{KeysInOrder, OneValueEach, value_cmp}
+use Rattle.ut_value.specs.KeyBytes.{sign_flipped, int_key, is_int}
+use Rattle.ut_value.specs.KeyOrder.{KeysInOrder, OneValueEach}
 
 -- the high digit decides, and then the low one
 digits_cmp : (p c d u v : ℕ) → u < p → v < p → ordering_then (nat_cmp c d) (nat_cmp u v) ≡ nat_cmp (c * p + u) (d * p + v)
@@ -25,6 +23,7 @@ digits_cmp p c d u v hu hv = nat_cmp_is (c * p + u) (d * p + v) _ (by (nat_cmp c
   where
     above : (m n : ℕ) → m < n → m * p + p ≤ n * p
     above m n h = omega (arith, mul-le-mul_right p (let le : suc m ≤ n = omega arith in le))
+
     by : (o q : Ordering) → MatchOrdering o (c < d) (c ≡ d) (d < c) → MatchOrdering q (u < v) (u ≡ v) (v < u)
         → MatchOrdering (ordering_then o q) (c * p + u < d * p + v) (c * p + u ≡ d * p + v) (d * p + v < c * p + u)
     by Less q h g = omega (arith, above c d h)
@@ -109,4 +108,3 @@ one_value_each kinds.Text key (values.Int x) (values.Text t) h g = absurd (true�
 one_value_each kinds.Int key (values.Text s) (values.Int y) h g = absurd (true≢false (sym h.0))
 one_value_each kinds.Text key (values.Text s) (values.Int y) h g = absurd (true≢false (sym g.0))
 one_value_each kind key (values.Text s) (values.Text t) h g = ap values.Text (sym h.2 ∙ g.2)
-

@@ -1,6 +1,5 @@
 -- How many bytes a spelling has.
-use Rattle.std.proofs.Common.{◌≡◌, ℕ, ◌+◌, List, [], ◌∷◌, ◌++◌, length, sym, ◌∙◌, ap, arith, length-append, refl}
-use Rattle.std.specs.Int.{w16, w32, to_le_bytes}
+use Rattle.std.proofs.Common.{◌≡◌, ℕ, List, length, ◌∙◌, arith, length-append, refl}
 use Rattle.std.specs.List.{flat_map, sum_by}
 use Rattle.std.proofs.lemmas.List.Concat.{length-flat_map}
 use Rattle.ut_value.specs.declared.value.Value.{Value}
@@ -10,7 +9,7 @@ use Rattle.ut_value.specs.declared.entry.Op.{Op}
 use Rattle.ut_value.specs.declared.entry.Op.TheVariants as ops
 use Rattle.ut_value.specs.declared.entry.Entry.{Entry}
 use Rattle.ut_value.specs.declared.entry.Entry.TheVariants as entries
-use Rattle.ut_value.specs.Spelling.{value_spelling, value_len, column_spelling, column_len, values_spelling, columns_spelling, op_spelling, op_len, ops_len, ops_spelling, spelling, entry_len}
+use Rattle.ut_value.specs.Spelling.{value_spelling, value_len, column_spelling, column_len, columns_spelling, op_spelling, op_len, ops_len, spelling, entry_len}
 
 pub value_length : (v : Value) → length (value_spelling v) ≡ value_len v
 value_length (values.Int x) = refl

@@ -1,5 +1,5 @@
 -- The order of values, and what their keys have of it.
-use Rattle.std.specs.Prelude.{◌≡◌, List, ℕ, IsTrue}
+use Rattle.std.specs.Prelude.{◌≡◌, List, ℕ}
 use Rattle.std.specs.declared.cmp.Ordering.{Ordering}
 use Rattle.std.specs.declared.cmp.Ordering.TheVariants.{Less, Greater}
 use Rattle.std.specs.Cmp.Lexicographic.{slice_cmp}
@@ -8,7 +8,7 @@ use Rattle.ut_key.specs.Keys.{key_cmp}
 use Rattle.ut_value.specs.declared.value.Kind.{Kind}
 use Rattle.ut_value.specs.declared.value.Value.{Value}
 use Rattle.ut_value.specs.declared.value.Value.TheVariants as values
-use Rattle.ut_value.specs.KeyBytes.{key_of, IsKeyOf}
+use Rattle.ut_value.specs.KeyBytes.{IsKeyOf}
 
 -- the order of values: numbers by size, texts by their bytes
 abbrev pub value_cmp : Value → Value → Ordering
