@@ -1,2 +1,2 @@
-pub mod OneSpelling
-pub mod Loops
+pub mod ReadLemmas
+pub mod TxnLemmas

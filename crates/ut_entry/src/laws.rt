@@ -1,5 +1,5 @@
 //! What the spellings of entries have in common.
-ghost use Rattle.ut_entry.specs.Laws.{OneSpelling, SpellingsHaveBytes};
+ghost use Rattle.ut_value.specs.SpellingLaws.{OneSpelling, SpellingsHaveBytes};
 
 /// No spelling is empty, and none begins another.
 pub fn spelling_laws()

@@ -3,8 +3,12 @@
 
 mod laws;
 mod length;
+mod parts;
+mod read;
+mod txn;
 mod write;
 
 pub use laws::spelling_laws;
 pub use length::{entry_len, op_len};
-pub use write::put_op;
+pub use txn::{add_op, begin_txn};
+pub use write::{entry_bytes, put_entry, put_op};

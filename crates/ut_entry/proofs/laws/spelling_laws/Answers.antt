@@ -1,4 +1,4 @@
-use Rattle.ut_entry.proofs.OneSpelling.{one_spelling, spelling_some}
+use Rattle.ut_value.proofs.OneSpelling.{one_spelling, spelling_some}
 use Rattle.ut_entry.proofs.laws.spelling_laws.Goals as goal
 
 pub returns-clause-one : goal.returns-clause-one

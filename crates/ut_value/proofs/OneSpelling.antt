@@ -1,5 +1,5 @@
 -- Bytes begin with one spelling at most.
-use Rattle.std.proofs.Common.{◌≡◌, ℕ, zero, suc, ◌+◌, ◌<◌, ◌≤◌, ◌^◌, List, [], ◌∷◌, ◌++◌, length, take, drop, Bool, true, false, IsTrue, refl, sym, ◌∙◌, ap, arith, append_assoc, true≢false, ltb-true, leb-true}
+use Rattle.std.proofs.Common.{◌≡◌, ℕ, zero, suc, ◌+◌, ◌<◌, ◌≤◌, ◌^◌, List, [], ◌∷◌, ◌++◌, length, take, drop, Bool, true, false, IsTrue, refl, sym, ◌∙◌, ap, subst, arith, append_assoc, true≢false, ltb-true, leb-true}
 use Rattle.std.specs.Prelude.{◌&&◌, nat_le}
 use Rattle.std.specs.Int.{w16, w32, to_le_bytes, from_le_bytes}
 use Rattle.std.specs.List.{flat_map, list_all}
@@ -21,8 +21,8 @@ use Rattle.ut_value.specs.declared.entry.Entry.TheVariants as entries
 use Rattle.ut_value.specs.KeyBytes.{int_key, is_int, is_value}
 use Rattle.ut_value.specs.Spelling.{text_spelling, value_spelling, kind_byte, column_spelling, values_spelling, columns_spelling, place_spelling, op_spelling, ops_spelling, merge_kind_byte, spelling, entry_len, is_u16, is_u32, is_column, is_count, names_differ, op_len, ops_len, are_columns, are_values, is_op, is_entry, has_spelling}
 use Rattle.ut_value.proofs.KeyLemmas.{one_number}
-use Rattle.ut_entry.specs.Reading.{Begins, BeginsOnce}
-use Rattle.ut_entry.specs.Laws.{OneSpelling, SpellingsHaveBytes}
+use Rattle.ut_value.specs.Reading.{Begins, BeginsOnce}
+use Rattle.ut_value.specs.SpellingLaws.{OneSpelling, SpellingsHaveBytes}
 
 -- fronts of one length
 pub same_front : (p q x y : List ℕ) → length p ≡ length q → p ++ x ≡ q ++ y → (p ≡ q) × (x ≡ y)
@@ -211,3 +211,9 @@ spelling_some (entries.Create n cs) = omega arith
 spelling_some (entries.Txn vs) = omega arith
 spelling_some (entries.Begun n t k) = omega arith
 spelling_some (entries.Ended n) = omega arith
+
+-- the number of operations has four bytes
+pub count_fits : (entry : Entry) (os : List Op) (n : ℕ) → IsTrue (has_spelling entry) → entry ≡ entries.Txn os → n ≡ length os → n < 2 ^ 32
+count_fits entry os n h is e =
+    let rule = entry_rule (entries.Txn os) (subst (λ (x : Entry). IsTrue (has_spelling x)) is h) in
+    omega (arith, few_ops os, rule.1, e)
