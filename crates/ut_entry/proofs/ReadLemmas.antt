@@ -1,11 +1,12 @@
 -- A list is read item by item.
-use Rattle.std.proofs.Common.{◌≡◌, ℕ, ◌+◌, ◌<◌, List, [], ◌∷◌, ◌++◌, length, Bool, true, IsTrue, refl, sym, ◌∙◌, ap, subst, arith, append_assoc, length-append}
+use Rattle.std.proofs.Common.{◌≡◌, ℕ, ◌<◌, List, [], ◌∷◌, ◌++◌, length, Bool, true, false, true≢false, IsTrue, refl, sym, ◌∙◌, ap, arith, append_assoc, length-append}
 use Rattle.std.specs.Prelude.{◌&&◌}
 use Rattle.std.specs.List.{flat_map, list_all}
 use Rattle.std.proofs.lemmas.List.{flat_map_more}
 use Rattle.std.proofs.lemmas.List.Folds.{list_all-append}
 use Rattle.ut_value.specs.Reading.{Begins, BeginsNone, BeginsOnce}
-use Rattle.ut_value.proofs.OneSpelling.{both}
+use Rattle.ut_value.specs.Spelling.{text_spelling}
+use Rattle.ut_value.proofs.OneSpelling.{both, one_text}
 
 -- the items so far stand at the front of the bytes, and each list that begins the bytes begins with them and goes on in the rest
 pub record IsReadTo {X : Type 0} (piece : X → List ℕ) (keeps : X → Bool) (count : ℕ) (bytes : List ℕ) (items : List X) (rest : List ℕ) : Type 0 where
@@ -36,7 +37,7 @@ module _ {X : Type 0} (piece : X → List ℕ) (keeps : X → Bool) (count : ℕ
           let more = so_far.goes_on xs after long all is in
           let next = next_item more.0 xs after long all more.1 more.2 in
           let here = once next.0 item (flat_map piece next.1 ++ after) behind rest next.3 begins in
-          (next.1, more.1 ∙ ap (λ (l : List X). items ++ l) next.2 ∙ ap (λ (x : X). items ++ x ∷ next.1) here.0 ∙ sym (append_assoc items (item ∷ []) next.1), sym here.1)
+          (next.1, more.1 ∙ ap (λ (l : List X). items ++ l) next.2 ∙ ap (λ (x : X). items ++ x ∷ next.1) here.0 ∙ sym (append_assoc items (item ∷ []) next.1), sym here.1);
     }
 
     pub stuck : BeginsNone piece keeps rest → (xs : List X) (after : List ℕ) → length xs ≡ count → IsTrue (list_all keeps xs) → bytes ≡ flat_map piece xs ++ after → ⊥
@@ -44,3 +45,9 @@ module _ {X : Type 0} (piece : X → List ℕ) (keeps : X → Bool) (count : ℕ
         let more = so_far.goes_on xs after long all is in
         let next = next_item more.0 xs after long all more.1 more.2 in
         none next.0 (flat_map piece next.1 ++ after) next.3
+
+-- a text that breaks the rule is no spelling
+pub text_refused : (rule : List ℕ → Bool) (text rest bytes : List ℕ) → bytes ≡ text_spelling text ++ rest → rule text ≡ false → BeginsNone text_spelling rule bytes
+text_refused rule text rest bytes is breaks x after begins =
+    let one = one_text text x rest after (sym is ∙ begins.1) in
+    true≢false (sym begins.0 ∙ ap rule (sym one.0) ∙ breaks)

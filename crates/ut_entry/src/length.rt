@@ -47,7 +47,10 @@ fn columns_len(columns: &[Column]) -> u32
     requires { sum_by column_len columns.now < 2 ^ 32 }
     ensures { result ≡ sum_by column_len columns.now }
 {
-    columns.iter().map(|column| column.name.as_slice().len() as u32 + 2).sum()
+    columns
+        .iter()
+        .map(|column| column.name.as_slice().len() as u32 + 2)
+        .sum()
 }
 
 /// The number of bytes of an entry.

@@ -1,6 +1,7 @@
 //! Journal entries as bytes, both ways.
 #![tactic(auto)]
 
+mod entry;
 mod laws;
 mod length;
 mod parts;
@@ -8,6 +9,7 @@ mod read;
 mod txn;
 mod write;
 
+pub use entry::entry_from;
 pub use laws::spelling_laws;
 pub use length::{entry_len, op_len};
 pub use txn::{add_op, begin_txn};

@@ -1,5 +1,6 @@
 //! Reads entries. A length is never trusted for more than the bytes that are there.
 ghost use Rattle.std.specs.Prelude.{◌≡◌, ◌+◌, ◌<◌, ◌≤◌, ◌^◌, ◌++◌, ◌∷◌, ℕ, List, Bool, length, take, IsTrue, IfOk, IfSome, IfNone};
+ghost use Rattle.std.specs.Int.{w16, w32, to_le_bytes};
 ghost use Rattle.std.specs.List.{flat_map, list_all};
 ghost use Rattle.ut_value.specs.KeyBytes.{is_value, is_int, int_key};
 ghost use Rattle.ut_value.specs.Text.{is_name};
@@ -27,7 +28,11 @@ pub(crate) trait Spelled: Drop {
 const FIRST_ROOM: usize = 64;
 
 /// A list of so many things, and what stands behind them.
-pub(crate) fn read_list<T: Spelled>(alloc: Global, count: usize, bytes: &[u8]) -> Result<Option<(Seq<T>, &[u8])>, AllocError>
+pub(crate) fn read_list<T: Spelled>(
+    alloc: Global,
+    count: usize,
+    bytes: &[u8],
+) -> Result<Option<(Seq<T>, &[u8])>, AllocError>
     ensures found { IfOk result (λ o. IfSome o (λ r. (length r.0 ≡ count) × IsTrue (list_all T.keeps r.0) × (bytes.now ≡ flat_map T.spelling r.0 ++ r.1.now))) }
     ensures none { IfOk result (λ o. IfNone o ((xs : List T) (rest : List ℕ) → length xs ≡ count → IsTrue (list_all T.keeps xs) → bytes.now ≡ flat_map T.spelling xs ++ rest → ⊥)) }
 {
@@ -80,4 +85,43 @@ pub(crate) fn read_int(bytes: &[u8]) -> Option<(i64, &[u8])>
         Some(number) => Some((number, rest)),
         None => None,
     }
+}
+
+/// Two bytes of a number, the lowest first, and what stands behind these.
+pub(crate) fn read_u16(bytes: &[u8]) -> Option<(u16, &[u8])>
+    ensures found { IfSome result (λ r. bytes.now ≡ to_le_bytes w16 r.0 ++ r.1.now) }
+    ensures none { IfNone result (length bytes.now < 2) }
+{
+    match bytes {
+        [a, b, rest @ ..] => Some((u16::from_le_bytes([*a, *b]), rest)),
+        _ => None,
+    }
+}
+
+/// Four bytes of a number, the lowest first, and what stands behind these.
+pub(crate) fn read_u32(bytes: &[u8]) -> Option<(u32, &[u8])>
+    ensures found { IfSome result (λ r. bytes.now ≡ to_le_bytes w32 r.0 ++ r.1.now) }
+    ensures none { IfNone result (length bytes.now < 4) }
+{
+    match bytes {
+        [a, b, c, d, rest @ ..] => Some((u32::from_le_bytes([*a, *b, *c, *d]), rest)),
+        _ => None,
+    }
+}
+
+/// The place of a row: its table and its id.
+#[derive(Clone, Copy)]
+pub(crate) struct Place {
+    pub table: u16,
+    pub id: u32,
+}
+
+/// A place, and what stands behind it.
+pub(crate) fn read_place(bytes: &[u8]) -> Option<(Place, &[u8])>
+    ensures found { IfSome result (λ r. bytes.now ≡ place_spelling r.0.table r.0.id ++ r.1.now) }
+    ensures none { IfNone result (length bytes.now < 6) }
+{
+    let (table, rest) = read_u16(bytes)?;
+    let (id, rest) = read_u32(rest)?;
+    Some((Place { table, id }, rest))
 }

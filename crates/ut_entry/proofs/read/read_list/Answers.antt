@@ -1,4 +1,4 @@
-use Rattle.std.proofs.Common.{◌≡◌, ◌<◌, ◌++◌, ◌∷◌, [], List, length, arith, ap, subst, sym, ◌∙◌}
+use Rattle.std.proofs.Common.{◌<◌, List, length, arith, ap, subst, sym}
 use Rattle.std.proofs.lemmas.List.{length_push}
 use Rattle.ut_entry.proofs.ReadLemmas.{IsReadTo, one_more, stuck}
 use Rattle.ut_entry.proofs.read.read_list.Goals as goal
@@ -17,5 +17,5 @@ loop-preserved g c =
     record {
       count = omega (arith, ap length pushed, length_push c.loop.items.items c.in-Some.item, c.loop.invariant.count);
       read = subst (λ (l : List g.row.T.Denot). IsReadTo g.T.Spelled.spelling g.T.Spelled.keeps c.args.count c.args.bytes.now l c.in-Some.behind.now) (sym pushed)
-          (one_more g.T.Spelled.spelling g.T.Spelled.keeps c.args.count c.args.bytes.now c.loop.items.items c.loop.rest.now c.loop.invariant.read left g.met.T.Spelled.once c.in-Some.item c.in-Some.behind.now found)
+          (one_more g.T.Spelled.spelling g.T.Spelled.keeps c.args.count c.args.bytes.now c.loop.items.items c.loop.rest.now c.loop.invariant.read left g.met.T.Spelled.once c.in-Some.item c.in-Some.behind.now found);
     }

@@ -1,4 +1,4 @@
-use Rattle.std.proofs.Common.{◌≡◌, ◌∙◌, sym, ap, length, arith}
+use Rattle.std.proofs.Common.{◌∙◌, sym, ap, length, arith}
 use Rattle.ut_entry.proofs.TxnLemmas.{added}
 use Rattle.ut_entry.proofs.txn.add_op.Goals as goal
 

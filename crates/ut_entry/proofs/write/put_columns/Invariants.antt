@@ -7,5 +7,5 @@ abbrev pub invariant-loop-column : goal.invariant-loop-column
 invariant-loop-column l = record {
   written : l.out.items ++ flat_map column_spelling (drop l.column-index l.columns) ≡ l.fn.out.items ++ flat_map column_spelling l.columns;
   length : vec_len l.out + sum_by column_len (drop l.column-index l.columns) ≡ vec_len l.fn.out + sum_by column_len l.columns;
-  room : vec_capacity l.fn.out ≤ vec_capacity l.out
+  room : vec_capacity l.fn.out ≤ vec_capacity l.out;
 }

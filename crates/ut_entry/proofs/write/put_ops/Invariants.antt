@@ -8,5 +8,5 @@ invariant-loop-op l = record {
   rule : IsTrue (list_all is_op (drop l.op-index l.ops));
   written : l.out.items ++ flat_map op_spelling (drop l.op-index l.ops) ≡ l.fn.out.items ++ flat_map op_spelling l.ops;
   length : vec_len l.out + sum_by op_len (drop l.op-index l.ops) ≡ vec_len l.fn.out + sum_by op_len l.ops;
-  room : vec_capacity l.fn.out ≤ vec_capacity l.out
+  room : vec_capacity l.fn.out ≤ vec_capacity l.out;
 }

@@ -7,5 +7,5 @@ abbrev pub invariant-loop-value : goal.invariant-loop-value
 invariant-loop-value l = record {
   written : l.out.items ++ flat_map value_spelling (drop l.value-index l.values) ≡ l.fn.out.items ++ flat_map value_spelling l.values;
   length : vec_len l.out + sum_by value_len (drop l.value-index l.values) ≡ vec_len l.fn.out + sum_by value_len l.values;
-  room : vec_capacity l.fn.out ≤ vec_capacity l.out
+  room : vec_capacity l.fn.out ≤ vec_capacity l.out;
 }
