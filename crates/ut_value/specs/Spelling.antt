@@ -118,6 +118,11 @@ are_columns cs = is_count 64 (length cs) && list_all is_column cs && names_diffe
 abbrev pub are_values : List Value → Bool
 are_values vs = is_count 64 (length vs) && list_all is_value vs
 
+-- whether an insert has one to 64 values
+abbrev pub are_few_values : Op → Bool
+are_few_values (ops.Insert table id vs) = is_count 64 (length vs)
+are_few_values (ops.Delete table id) = true
+
 -- whether an operation has a spelling
 abbrev pub is_op : Op → Bool
 is_op (ops.Insert table id vs) = is_u16 table && is_u32 id && are_values vs
