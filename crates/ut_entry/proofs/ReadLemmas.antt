@@ -28,7 +28,7 @@ module _ {X : Type 0} (piece : X → List ℕ) (keeps : X → Bool) (count : ℕ
         let parts = both (list_all keeps items) (list_all keeps (m ∷ ms)) (sym (list_all-append keeps items (m ∷ ms)) ∙ ap (list_all keeps) (sym is) ∙ all) in
         (m, ms, refl, ((both (keeps m) (list_all keeps ms) parts.1).0, begins ∙ append_assoc (piece m) (flat_map piece ms) after))
 
-    pub one_more : BeginsOnce piece keeps → (item : X) (behind : List ℕ) → Begins piece keeps rest item behind → IsReadTo piece keeps count bytes (items ++ item ∷ []) behind
+    one_more : BeginsOnce piece keeps → (item : X) (behind : List ℕ) → Begins piece keeps rest item behind → IsReadTo piece keeps count bytes (items ++ item ∷ []) behind
     one_more once item behind begins = record {
       rule = list_all-append keeps items (item ∷ []) ∙ (λ i. so_far.rule i && (begins.0 i && true));
       front = so_far.front ∙ ap (λ (l : List ℕ). flat_map piece items ++ l) begins.1 ∙ sym (append_assoc (flat_map piece items) (piece item) behind)
@@ -39,6 +39,9 @@ module _ {X : Type 0} (piece : X → List ℕ) (keeps : X → Bool) (count : ℕ
           let here = once next.0 item (flat_map piece next.1 ++ after) behind rest next.3 begins in
           (next.1, more.1 ∙ ap (λ (l : List X). items ++ l) next.2 ∙ ap (λ (x : X). items ++ x ∷ next.1) here.0 ∙ sym (append_assoc items (item ∷ []) next.1), sym here.1);
     }
+
+    pub pushed : BeginsOnce piece keeps → (item : X) (behind : List ℕ) (new : List X) → Begins piece keeps rest item behind → new ≡ items ++ item ∷ [] → IsReadTo piece keeps count bytes new behind
+    pushed once item behind new begins is = subst (λ (l : List X). IsReadTo piece keeps count bytes l behind) (sym is) (one_more once item behind begins)
 
     pub stuck : BeginsNone piece keeps rest → (xs : List X) (after : List ℕ) → length xs ≡ count → IsTrue (list_all keeps xs) → bytes ≡ flat_map piece xs ++ after → ⊥
     stuck none xs after long all is =

@@ -13,6 +13,9 @@ use ut_value::{Entry, MergeKind};
 /// No entry has more bytes.
 const MAX_ENTRY_LEN: usize = 1 << 30;
 
+/// No transaction has fewer operations.
+const LEAST_OPS: u32 = 1;
+
 /// The entry that begins the bytes, and its length.
 pub fn entry_from(alloc: Global, bytes: &[u8]) -> Result<Option<(Entry, usize)>, AllocError>
     ensures found { IfOk result (λ o. IfSome o (λ r. (r.1 ≤ length bytes.now) × Spells (take r.1 bytes.now) r.0)) }
@@ -61,7 +64,7 @@ fn read_txn(alloc: Global, bytes: &[u8]) -> Result<Option<(Entry, &[u8])>, Alloc
     let Some((count, rest)) = read_u32(bytes) else {
         return Ok(None);
     };
-    if count == 0 {
+    if count < LEAST_OPS {
         return Ok(None);
     }
     let Some((ops, behind)) = read_list(alloc, count as usize, rest)? else {

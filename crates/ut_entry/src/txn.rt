@@ -15,6 +15,7 @@ const TXN_HEADER_LEN: usize = 5;
 /// Appends the bytes of a transaction without operations.
 pub fn begin_txn(out: &mut Vec<u8>) -> Result<(), AllocError>
     ensures ok { OnOk result (out.new.items ≡ out.old.items ++ spelling (Txn [])) }
+    ensures len { OnOk result (vec_len out.new ≡ vec_len out.old + 5) }
     ensures err { OnErr result (out.new.items ≡ out.old.items) }
 {
     out.extend_from_slice(&[2, 0, 0, 0, 0])

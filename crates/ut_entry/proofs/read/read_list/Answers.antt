@@ -1,6 +1,6 @@
 use Rattle.std.proofs.Common.{◌<◌, List, length, arith, ap, subst, sym}
 use Rattle.std.proofs.lemmas.List.{length_push}
-use Rattle.ut_entry.proofs.ReadLemmas.{IsReadTo, one_more, stuck}
+use Rattle.ut_entry.proofs.ReadLemmas.{pushed, stuck}
 use Rattle.ut_entry.proofs.read.read_list.Goals as goal
 
 pub returns-in_default-clause-none : goal.returns-in_default-clause-none
@@ -13,9 +13,8 @@ pub loop-preserved : goal.loop-preserved
 loop-preserved g c =
     let found = rw c.in-Some.is at c.in_ok-item.ensures.found in
     let left : length c.loop.items.items < c.args.count = omega (arith, c.loop.invariant.count, c.loop-test.true) in
-    let pushed = c.in_ok-push.ensures.items in
+    let more = c.in_ok-push.ensures.items in
     record {
-      count = omega (arith, ap length pushed, length_push c.loop.items.items c.in-Some.item, c.loop.invariant.count);
-      read = subst (λ (l : List g.row.T.Denot). IsReadTo g.T.Spelled.spelling g.T.Spelled.keeps c.args.count c.args.bytes.now l c.in-Some.behind.now) (sym pushed)
-          (one_more g.T.Spelled.spelling g.T.Spelled.keeps c.args.count c.args.bytes.now c.loop.items.items c.loop.rest.now c.loop.invariant.read left g.met.T.Spelled.once c.in-Some.item c.in-Some.behind.now found);
+      count = omega (arith, ap length more, length_push c.loop.items.items c.in-Some.item, c.loop.invariant.count);
+      read = pushed g.T.Spelled.spelling g.T.Spelled.keeps c.args.count c.args.bytes.now c.loop.items.items c.loop.rest.now c.loop.invariant.read left g.met.T.Spelled.once c.in-Some.item c.in-Some.behind.now c.push.new.self.items found more
     }
