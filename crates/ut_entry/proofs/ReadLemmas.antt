@@ -1,8 +1,8 @@
 -- A list is read item by item.
-use Rattle.std.proofs.Common.{◌≡◌, ℕ, ◌<◌, List, [], ◌∷◌, ◌++◌, length, Bool, true, false, true≢false, IsTrue, refl, sym, ◌∙◌, ap, arith, append_assoc, length-append}
+use Rattle.std.proofs.Common.{◌≡◌, ℕ, ◌+◌, ◌<◌, List, [], ◌∷◌, ◌++◌, length, Bool, true, false, true≢false, IsTrue, refl, sym, ◌∙◌, ap, arith, append_assoc, length-append, subst}
 use Rattle.std.specs.Prelude.{◌&&◌}
 use Rattle.std.specs.List.{flat_map, list_all}
-use Rattle.std.proofs.lemmas.List.{flat_map_more}
+use Rattle.std.proofs.lemmas.List.{flat_map_more, length_push}
 use Rattle.std.proofs.lemmas.List.Folds.{list_all-append}
 use Rattle.ut_value.specs.Reading.{Begins, BeginsNone, BeginsOnce}
 use Rattle.ut_value.specs.Spelling.{text_spelling}
@@ -48,6 +48,9 @@ module _ {X : Type 0} (piece : X → List ℕ) (keeps : X → Bool) (count : ℕ
         let more = so_far.goes_on xs after long all is in
         let next = next_item more.0 xs after long all more.1 more.2 in
         none next.0 (flat_map piece next.1 ++ after) next.3
+
+pub one_longer : {X : Type 0} (items new : List X) (x : X) (n : ℕ) → new ≡ items ++ x ∷ [] → length items ≡ n → length new ≡ n + 1
+one_longer items new x n is long = omega (arith, ap length is, length_push items x, long)
 
 -- a text that breaks the rule is no spelling
 pub text_refused : (rule : List ℕ → Bool) (text rest bytes : List ℕ) → bytes ≡ text_spelling text ++ rest → rule text ≡ false → BeginsNone text_spelling rule bytes

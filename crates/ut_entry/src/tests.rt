@@ -4,9 +4,13 @@ use std::alloc::AllocError;
 use ut_value::{Column, Entry, Kind, MergeKind, Op, Value, same_bytes};
 
 const CREATE: &[u8] = b"\x01\x01\x54\x02\x00\x01\x6b\x01\x01\x76";
+
 const INSERT: &[u8] = b"\x02\x01\0\0\0\x01\0\0\x01\0\0\0\x02\x00\x80\0\0\0\0\0\0\x05\x01\x01\x61";
+
 const DELETE: &[u8] = b"\x02\x01\0\0\0\x02\x03\0\x0a\0\0\0";
+
 const BEGUN: &[u8] = b"\x03\x01\0\0\0\x02\x01\x01";
+
 const ENDED: &[u8] = b"\x04\x07\0\0\0";
 
 fn are_k_and_v(columns: &[Column]) -> bool {
@@ -34,7 +38,13 @@ fn is_told(case: usize, entry: &Entry) -> bool {
             case == 0 && same_bytes(name.as_slice(), b"T") && are_k_and_v(columns.as_slice())
         }
         Entry::Txn { ops } => match ops.as_slice() {
-            [Op::Insert { table: 0, id: 1, values }] => case == 1 && are_5_and_a(values.as_slice()),
+            [
+                Op::Insert {
+                    table: 0,
+                    id: 1,
+                    values,
+                },
+            ] => case == 1 && are_5_and_a(values.as_slice()),
             [Op::Delete { table: 3, id: 10 }] => case == 2,
             _ => false,
         },

@@ -1,5 +1,5 @@
 -- Bytes begin with one spelling at most.
-use Rattle.std.proofs.Common.{◌≡◌, ℕ, zero, suc, ◌+◌, ◌<◌, ◌≤◌, ◌^◌, List, [], ◌∷◌, ◌++◌, length, take, drop, Bool, true, false, IsTrue, refl, sym, ◌∙◌, ap, subst, arith, append_assoc, true≢false, ltb-true, leb-true}
+use Rattle.std.proofs.Common.{◌≡◌, ℕ, ◌<◌, ◌≤◌, ◌^◌, List, [], ◌∷◌, ◌++◌, length, take, drop, Bool, true, false, IsTrue, refl, sym, ◌∙◌, ap, subst, arith, append_assoc, true≢false, ltb-true, leb-true}
 use Rattle.std.specs.Prelude.{◌&&◌, nat_le}
 use Rattle.std.specs.Int.{w16, w32, to_le_bytes, from_le_bytes}
 use Rattle.std.specs.List.{flat_map, list_all}
@@ -18,10 +18,10 @@ use Rattle.ut_value.specs.declared.entry.Op.{Op}
 use Rattle.ut_value.specs.declared.entry.Op.TheVariants as ops
 use Rattle.ut_value.specs.declared.entry.Entry.{Entry}
 use Rattle.ut_value.specs.declared.entry.Entry.TheVariants as entries
-use Rattle.ut_value.specs.KeyBytes.{int_key, is_int, is_value}
-use Rattle.ut_value.specs.Spelling.{text_spelling, value_spelling, kind_byte, column_spelling, values_spelling, columns_spelling, place_spelling, op_spelling, ops_spelling, merge_kind_byte, spelling, entry_len, is_u16, is_u32, is_column, is_count, names_differ, op_len, ops_len, are_columns, are_values, is_op, is_entry, has_spelling}
+use Rattle.ut_value.specs.KeyBytes.{int_key, is_value}
+use Rattle.ut_value.specs.Spelling.{text_spelling, value_spelling, kind_byte, column_spelling, values_spelling, columns_spelling, place_spelling, op_spelling, ops_spelling, merge_kind_byte, entry_len, is_u16, is_u32, is_column, is_count, names_differ, op_len, ops_len, are_columns, are_values, is_op, is_entry, has_spelling}
 use Rattle.ut_value.proofs.KeyLemmas.{one_number}
-use Rattle.ut_value.specs.Reading.{Begins, BeginsOnce}
+use Rattle.ut_value.specs.Reading.{BeginsOnce}
 use Rattle.ut_value.specs.SpellingLaws.{OneSpelling, SpellingsHaveBytes}
 
 -- fronts of one length
@@ -174,7 +174,7 @@ one_spelling (entries.Create n cs) (entries.Create m ds) x y ha hb same =
     let a = both (is_name n) (are_columns cs) (entry_rule (entries.Create n cs) ha).0 in
     let b = both (is_name m) (are_columns ds) (entry_rule (entries.Create m ds) hb).0 in
     let split : text_spelling n ++ (columns_spelling cs ++ x) ≡ text_spelling m ++ (columns_spelling ds ++ y) =
-        sym (append_assoc (text_spelling n) (columns_spelling cs) x) ∙ ap others same ∙ append_assoc (text_spelling m) (columns_spelling ds) y in
+    sym (append_assoc (text_spelling n) (columns_spelling cs) x) ∙ ap others same ∙ append_assoc (text_spelling m) (columns_spelling ds) y in
     let name = one_text n m (columns_spelling cs ++ x) (columns_spelling ds ++ y) split in
     let more = one_columns cs ds x y (columns_spelling ds ++ y) (a.1, sym name.1) (b.1, refl) in
     (λ i. entries.Create (name.0 i) (more.0 i), more.1)

@@ -1,9 +1,7 @@
 -- What the spellings of entries have in common.
-use Rattle.std.specs.Prelude.{◌≡◌, ℕ, ◌≤◌, IsTrue, List, [], ◌∷◌, ◌++◌, length}
-use Rattle.ut_value.specs.declared.entry.Op.{Op}
+use Rattle.std.specs.Prelude.{◌≡◌, ℕ, ◌≤◌, IsTrue, List, ◌++◌, length}
 use Rattle.ut_value.specs.declared.entry.Entry.{Entry}
-use Rattle.ut_value.specs.declared.entry.Entry.TheVariants.{Txn}
-use Rattle.ut_value.specs.Spelling.{spelling, has_spelling, op_spelling}
+use Rattle.ut_value.specs.Spelling.{spelling, has_spelling}
 
 -- an entry has one spelling, and no entry's spelling begins another's
 abbrev pub OneSpelling : Type 0

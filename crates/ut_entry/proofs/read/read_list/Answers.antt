@@ -1,6 +1,5 @@
-use Rattle.std.proofs.Common.{◌<◌, List, length, arith, ap, subst, sym}
-use Rattle.std.proofs.lemmas.List.{length_push}
-use Rattle.ut_entry.proofs.ReadLemmas.{pushed, stuck}
+use Rattle.std.proofs.Common.{◌<◌, length, arith}
+use Rattle.ut_entry.proofs.ReadLemmas.{one_longer, pushed, stuck}
 use Rattle.ut_entry.proofs.read.read_list.Goals as goal
 
 pub returns-in_default-clause-none : goal.returns-in_default-clause-none
@@ -15,6 +14,6 @@ loop-preserved g c =
     let left : length c.loop.items.items < c.args.count = omega (arith, c.loop.invariant.count, c.loop-test.true) in
     let more = c.in_ok-push.ensures.items in
     record {
-      count = omega (arith, ap length more, length_push c.loop.items.items c.in-Some.item, c.loop.invariant.count);
-      read = pushed g.T.Spelled.spelling g.T.Spelled.keeps c.args.count c.args.bytes.now c.loop.items.items c.loop.rest.now c.loop.invariant.read left g.met.T.Spelled.once c.in-Some.item c.in-Some.behind.now c.push.new.self.items found more
+      count = one_longer c.loop.items.items c.push.new.self.items c.in-Some.item c.loop.counter more c.loop.invariant.count;
+      read = pushed g.T.Spelled.spelling g.T.Spelled.keeps c.args.count c.args.bytes.now c.loop.items.items c.loop.rest.now c.loop.invariant.read left g.met.T.Spelled.once c.in-Some.item c.in-Some.behind.now c.push.new.self.items found more;
     }
