@@ -1,5 +1,5 @@
 -- What is no entry, by the part that fails; and an entry at the front of bytes.
-use Rattle.std.proofs.Common.{◌≡◌, ℕ, ◌-◌, ◌<◌, ◌≤◌, ◌^◌, min, List, ◌∷◌, ◌++◌, length, take, drop, false, true≢false, IsTrue, sym, ◌∙◌, ap, arith, append_assoc, le-leb, leb-true, take-append-drop}
+use Rattle.std.proofs.Common.{◌≡◌, ℕ, ◌-◌, ◌<◌, ◌≤◌, ◌^◌, min, List, ◌∷◌, ◌++◌, length, take, drop, false, true≢false, IsTrue, refl, sym, ◌∙◌, ap, arith, append_assoc, le-leb, leb-true, take-append-drop}
 use Rattle.std.specs.Prelude.{◌&&◌, nat_le}
 use Rattle.std.specs.Int.{w32, to_le_bytes}
 use Rattle.std.specs.List.{flat_map, list_all}
@@ -79,10 +79,17 @@ entry_found bytes rest m entry at begins =
     let front : take n bytes ≡ take n (take m bytes) = sym (take-take n m bytes (omega (arith, whole))) in
     (omega (arith, whole, at), ((λ i. begins.0 i && le-leb (entry_len entry) (2 ^ 30) small i), front ∙ ap (take n) begins.1 ∙ take_at (spelling entry) rest n (sym long)))
 
-pub no_entry : (bytes : List ℕ) (m : ℕ) → m ≡ min (length bytes) (2 ^ 30) → BeginsNone spelling has_spelling (take m bytes)
+none_spelled : (bytes : List ℕ) (m : ℕ) → m ≡ min (length bytes) (2 ^ 30) → BeginsNone spelling has_spelling (take m bytes)
     → (n : ℕ) (entry : Entry) → n ≤ length bytes → Spells (take n bytes) entry → ⊥
-no_entry bytes m at none n entry within spells =
+none_spelled bytes m at none n entry within spells =
     let long : n ≡ entry_len entry = omega (arith, ap length spells.1, entry_length entry, length-take n bytes, within) in
     let small : entry_len entry ≤ 2 ^ 30 = (entry_rule entry spells.0).1 in
     let front : take n (take m bytes) ≡ take n bytes = take-take n m bytes (omega (arith, long, small, within, at)) in
     none entry (drop n (take m bytes)) (spells.0, sym (take-append-drop n (take m bytes)) ∙ ap (λ (l : List ℕ). l ++ drop n (take m bytes)) (front ∙ spells.1))
+
+-- where no entry begins the first bytes, none begins the bytes
+pub no_entry : (bytes : List ℕ) (m : ℕ) → m ≡ min (length bytes) (2 ^ 30) → BeginsNone spelling has_spelling (take m bytes) → BeginsNone spelling has_spelling bytes
+no_entry bytes m at none entry rest begins =
+    let n = length (spelling entry) in
+    let within : n ≤ length bytes = omega (arith, ap length begins.1, length-append (spelling entry) rest) in
+    none_spelled bytes m at none n entry within (begins.0, ap (take n) begins.1 ∙ take_at (spelling entry) rest n refl)

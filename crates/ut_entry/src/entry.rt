@@ -1,6 +1,5 @@
 //! Reads entries.
-ghost use Rattle.std.specs.Prelude.{◌≡◌, ◌≤◌, ◌^◌, ◌++◌, ◌∷◌, List, ℕ, length, take, IsTrue, IfOk, IfSome, IfNone};
-ghost use Rattle.ut_value.specs.declared.entry.Entry.{Entry};
+ghost use Rattle.std.specs.Prelude.{◌≡◌, ◌≤◌, ◌∷◌, length, take, IfOk, IfSome, IfNone};
 ghost use Rattle.ut_value.specs.declared.entry.MergeKind.{MergeKind};
 ghost use Rattle.ut_value.specs.Spelling.{spelling, has_spelling, is_entry, merge_kind_byte, Spells};
 ghost use Rattle.ut_value.specs.Reading.{Begins, BeginsNone};
@@ -19,7 +18,7 @@ const LEAST_OPS: u32 = 1;
 /// The entry that begins the bytes, and its length.
 pub fn entry_from(alloc: Global, bytes: &[u8]) -> Result<Option<(Entry, usize)>, AllocError>
     ensures found { IfOk result (λ o. IfSome o (λ r. (r.1 ≤ length bytes.now) × Spells (take r.1 bytes.now) r.0)) }
-    ensures none { IfOk result (λ o. IfNone o ((n : ℕ) (entry : Entry) → n ≤ length bytes.now → Spells (take n bytes.now) entry → ⊥)) }
+    ensures none { IfOk result (λ o. IfNone o (BeginsNone spelling has_spelling bytes.now)) }
 {
     let front = &bytes[..bytes.len().min(MAX_ENTRY_LEN)];
     match read_entry(alloc, front)? {

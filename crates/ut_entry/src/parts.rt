@@ -1,9 +1,9 @@
 //! Reads the parts of an entry: values, columns and operations, and lists of these.
-ghost use Rattle.std.specs.Prelude.{◌≡◌, ◌<◌, ◌^◌, ◌++◌, ◌∷◌, ℕ, List, length, IsTrue, IfOk, IfSome, IfNone};
+ghost use Rattle.std.specs.Prelude.{◌≡◌, ◌<◌, ◌∷◌, IfOk, IfSome, IfNone};
 ghost use Rattle.ut_value.specs.declared.value.Kind.{Kind};
 ghost use Rattle.ut_value.specs.KeyBytes.{is_value};
 ghost use Rattle.ut_value.specs.Text.{is_name, is_text};
-ghost use Rattle.ut_value.specs.Spelling.{value_spelling, column_spelling, text_spelling, place_spelling, values_spelling, columns_spelling, op_spelling, kind_byte, has_column, names_differ, is_column, are_values, are_columns, is_op};
+ghost use Rattle.ut_value.specs.Spelling.{value_spelling, column_spelling, text_spelling, values_spelling, columns_spelling, op_spelling, kind_byte, has_column, names_differ, is_column, are_values, are_columns, is_op};
 ghost use Rattle.ut_value.specs.Reading.{Begins, BeginsNone};
 ghost use Rattle.ut_value.proofs.OneSpelling.{one_value, one_column, one_op};
 

@@ -1,10 +1,9 @@
 //! Reads entries. A length is never trusted for more than the bytes that are there.
-ghost use Rattle.std.specs.Prelude.{◌≡◌, ◌+◌, ◌<◌, ◌≤◌, ◌^◌, ◌++◌, ◌∷◌, ℕ, List, Bool, length, take, IsTrue, IfOk, IfSome, IfNone};
+ghost use Rattle.std.specs.Prelude.{◌≡◌, ◌+◌, ◌<◌, ◌++◌, ◌∷◌, ℕ, List, Bool, length, IsTrue, IfOk, IfSome, IfNone};
 ghost use Rattle.std.specs.Int.{w16, w32, to_le_bytes};
 ghost use Rattle.std.specs.List.{flat_map, list_all};
-ghost use Rattle.ut_value.specs.KeyBytes.{is_value, is_int, int_key};
-ghost use Rattle.ut_value.specs.Text.{is_name};
-ghost use Rattle.ut_value.specs.Spelling.{value_spelling, column_spelling, text_spelling, place_spelling, values_spelling, columns_spelling, op_spelling, spelling, is_u16, is_u32, is_column, are_values, are_columns, is_op, has_spelling};
+ghost use Rattle.ut_value.specs.KeyBytes.{is_int, int_key};
+ghost use Rattle.ut_value.specs.Spelling.{text_spelling, place_spelling, spelling};
 ghost use Rattle.ut_value.specs.Reading.{Begins, BeginsNone, BeginsOnce};
 
 use std::alloc::{AllocError, Global};

@@ -2,7 +2,7 @@
 ghost use Rattle.std.specs.Prelude.{◌≡◌, ◌+◌, ◌<◌, ◌≤◌, ◌^◌, ◌++◌, ◌∷◌, [], ℕ, List, length, IsTrue, OnOk, OnErr, vec_len, vec_capacity};
 ghost use Rattle.std.specs.Int.{w32, to_le_bytes};
 ghost use Rattle.ut_value.specs.declared.entry.Op.{Op};
-ghost use Rattle.ut_value.specs.Spelling.{is_op, op_len, op_spelling, spelling};
+ghost use Rattle.ut_value.specs.Spelling.{is_op, op_len, spelling};
 ghost use Rattle.ut_value.specs.declared.entry.Entry.TheVariants.{Txn};
 
 use crate::write::put_op;

@@ -1,8 +1,7 @@
 //! Writes entries into a vector with room for them. Only `entry_bytes` takes memory.
-ghost use Rattle.std.specs.Prelude.{◌≡◌, ◌+◌, ◌<◌, ◌≤◌, ◌^◌, ◌++◌, length, IsTrue, OnOk, OnErr, vec_len, vec_capacity};
+ghost use Rattle.std.specs.Prelude.{◌≡◌, ◌+◌, ◌<◌, ◌≤◌, ◌++◌, length, IsTrue, OnOk, OnErr, vec_len, vec_capacity};
 ghost use Rattle.std.specs.List.{flat_map, list_all, sum_by};
-ghost use Rattle.ut_value.specs.KeyBytes.{is_value};
-ghost use Rattle.ut_value.specs.Spelling.{value_spelling, value_len, column_spelling, column_len, text_spelling, op_spelling, op_len, ops_len, is_op, spelling, entry_len, has_spelling, is_column, merge_kind_byte, kind_byte};
+ghost use Rattle.ut_value.specs.Spelling.{value_spelling, value_len, column_spelling, column_len, text_spelling, op_spelling, op_len, ops_len, is_op, spelling, entry_len, has_spelling, merge_kind_byte, kind_byte};
 
 use crate::length::entry_len;
 use std::alloc::AllocError;
