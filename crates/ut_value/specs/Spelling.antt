@@ -22,14 +22,17 @@ use Rattle.ut_value.specs.Text.{is_name, same_bytes}
 abbrev pub text_spelling : List ℕ → List ℕ
 text_spelling bytes = length bytes ∷ bytes
 
+-- a value: 0 and the key bytes of a number, or 1 and a text
 abbrev pub value_spelling : Value → List ℕ
 value_spelling (values.Int x) = 0 ∷ int_key x
 value_spelling (values.Text bytes) = 1 ∷ text_spelling bytes
 
+-- the byte of a column's kind
 abbrev pub kind_byte : Kind → ℕ
 kind_byte kinds.Int = 0
 kind_byte kinds.Text = 1
 
+-- a column: its kind and its name
 abbrev pub column_spelling : Column → List ℕ
 column_spelling c = kind_byte c.kind ∷ text_spelling c.name
 
@@ -45,6 +48,7 @@ columns_spelling cs = length cs ∷ flat_map column_spelling cs
 abbrev pub place_spelling : ℕ → ℕ → List ℕ
 place_spelling table id = to_le_bytes w16 table ++ to_le_bytes w32 id
 
+-- an operation: 1, the place and the values of an inserted row, or 2 and the place of a deleted one
 abbrev pub op_spelling : Op → List ℕ
 op_spelling (ops.Insert table id vs) = 1 ∷ (place_spelling table id ++ values_spelling vs)
 op_spelling (ops.Delete table id) = 2 ∷ place_spelling table id
@@ -53,11 +57,13 @@ op_spelling (ops.Delete table id) = 2 ∷ place_spelling table id
 abbrev pub ops_spelling : List Op → List ℕ
 ops_spelling os = to_le_bytes w32 (length os) ++ flat_map op_spelling os
 
+-- the byte of a merge's kind
 abbrev pub merge_kind_byte : MergeKind → ℕ
 merge_kind_byte merges.Classic = 0
 merge_kind_byte merges.Resort = 1
 merge_kind_byte merges.Partial = 2
 
+-- an entry: the byte of its case, and its parts in order
 abbrev pub spelling : Entry → List ℕ
 spelling (entries.Create name columns) = 1 ∷ (text_spelling name ++ columns_spelling columns)
 spelling (entries.Txn os) = 2 ∷ ops_spelling os
@@ -66,20 +72,25 @@ spelling (entries.Ended n) = 4 ∷ to_le_bytes w32 n
 
 -- ---- how many bytes each spelling has
 
+-- of a value
 abbrev pub value_len : Value → ℕ
 value_len (values.Int x) = 9
 value_len (values.Text bytes) = length bytes + 2
 
+-- of a column
 abbrev pub column_len : Column → ℕ
 column_len c = length c.name + 2
 
+-- of an operation
 abbrev pub op_len : Op → ℕ
 op_len (ops.Insert table id vs) = sum_by value_len vs + 8
 op_len (ops.Delete table id) = 7
 
+-- of operations, one after the other
 abbrev pub ops_len : List Op → ℕ
 ops_len os = sum_by op_len os
 
+-- of an entry
 abbrev pub entry_len : Entry → ℕ
 entry_len (entries.Create name columns) = length name + sum_by column_len columns + 3
 entry_len (entries.Txn os) = ops_len os + 5
@@ -92,16 +103,19 @@ entry_len (entries.Ended n) = 5
 abbrev pub is_count : ℕ → ℕ → Bool
 is_count most n = nat_le 1 n && nat_le n most
 
--- whether a number has 16 bits, or 32
+-- whether a number has 16 bits
 abbrev pub is_u16 : ℕ → Bool
 is_u16 n = nat_lt n 65536
 
+-- whether a number has 32 bits
 abbrev pub is_u32 : ℕ → Bool
 is_u32 n = nat_lt n 4294967296
 
+-- whether a column's name is a name
 abbrev pub is_column : Column → Bool
 is_column c = is_name c.name
 
+-- whether a column has this name
 abbrev pub has_column : List Column → List ℕ → Bool
 has_column columns name = list_any (λ c. same_bytes c.name name) columns
 

@@ -18,10 +18,14 @@ pub use seq::Seq;
 pub use text::{Name, Text, is_digit, is_name, is_text, same_bytes};
 pub use value::{Column, Kind, Row, Value};
 
+/// The values of a row.
 pub type Values = Seq<Value>;
 
+/// A list of names.
 pub type Names = Seq<Name>;
 
+/// The columns of a table.
 pub type Columns = Seq<Column>;
 
+/// The operations of a transaction.
 pub type OpList = Seq<Op>;

@@ -1,4 +1,4 @@
-//! The rules that types keep by themselves, as facts. None of these calls does anything when it runs.
+//! The rules that types keep by themselves, as facts for a caller. These calls read, and change nothing.
 ghost use Rattle.std.specs.Prelude.{IsTrue};
 ghost use Rattle.std.specs.List.{list_all};
 ghost use Rattle.ut_value.specs.KeyBytes.{is_value};

@@ -4,24 +4,28 @@ ghost use Rattle.std.specs.Prelude.{◌≡◌, IfOk};
 use crate::{Duplicate, Name, Seq, Text};
 use std::alloc::{AllocError, Global};
 
+/// What a column holds.
 #[derive(Clone, Copy, Debug, PartialEq, Eq)]
 pub enum Kind {
     Int,
     Text,
 }
 
+/// One value of a row.
 #[derive(Drop)]
 pub enum Value {
     Int(i64),
     Text(Text),
 }
 
+/// A column of a table.
 #[derive(Drop)]
 pub struct Column {
     pub name: Name,
     pub kind: Kind,
 }
 
+/// A row: its id, and a value for each column of its table.
 #[derive(Drop)]
 pub struct Row {
     pub id: u32,
@@ -29,6 +33,7 @@ pub struct Row {
 }
 
 impl Value {
+    /// A copy. Only a text takes memory.
     pub fn copy(&self, alloc: Global) -> Result<Value, AllocError>
         ensures { IfOk result (λ v. v ≡ self.now) }
     {
@@ -40,6 +45,7 @@ impl Value {
 }
 
 impl Row {
+    /// A copy. It takes memory.
     pub fn copy(&self, alloc: Global) -> Result<Row, AllocError>
         ensures { IfOk result (λ row. row ≡ self.now) }
     {
