@@ -1,0 +1,9 @@
+pub mod Sums
+pub mod Views
+pub mod Rules
+pub mod Looks
+pub mod Leaves
+pub mod Splits
+pub mod Joins
+pub mod Gathers
+pub mod Jobs
