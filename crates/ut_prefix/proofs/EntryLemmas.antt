@@ -1,12 +1,11 @@
 -- Reading keys one by one: a key that may follow another, and what all of them spell.
-use Rattle.std.proofs.Common.{◌≡◌, ◌≢◌, ℕ, zero, suc, ◌+◌, ◌-◌, ◌*◌, ◌/◌, ◌%◌, ◌^◌, ◌<◌, ◌≤◌, nat_eq, true, false, if◌then◌else◌, List, [], ◌∷◌, ◌++◌, append_assoc, append-nil, length, length-append, take, drop, get_or, refl, sym, ◌∙◌, ap, subst, arith, inl, inr}
-use Rattle.std.specs.declared.cmp.Ordering.{Ordering}
+use Rattle.std.proofs.Common.{◌≡◌, ◌≢◌, ℕ, zero, suc, ◌+◌, ◌-◌, ◌*◌, ◌/◌, ◌%◌, ◌<◌, ◌≤◌, nat_eq, true, false, if◌then◌else◌, List, [], ◌∷◌, ◌++◌, append_assoc, append-nil, length, length-append, take, drop, get_or, refl, sym, ◌∙◌, ap, subst, arith, inl, inr}
 use Rattle.std.specs.declared.cmp.Ordering.TheVariants.{Less, Equal, Greater}
 use Rattle.std.specs.Ordering.{nat_cmp, ordering_then}
 use Rattle.std.specs.Cmp.Lexicographic.{slice_cmp}
 use Rattle.std.proofs.lemmas.Cmp.{nat_cmp_total, nat_list_cmp_total, tied_itself, ranked, by_ranked}
 use Rattle.std.proofs.lemmas.Bool.{cases_lt}
-use Rattle.std.proofs.lemmas.List.{length-drop, length-take, length-take-le, take-append-drop, take_all, drop_all, drop-append-le, take-append-le, get_or-drop, get_or_append_left, get_or-append-add}
+use Rattle.std.proofs.lemmas.List.{length-drop, length-take-le, take-append-drop, drop-append-le, take-append-le, get_or_append_left, get_or-append-add}
 use Rattle.std.proofs.lemmas.List.Elements.{All-push, All-nil}
 use Rattle.std.proofs.Math.Seq.{take-append_seam, drop-append_seam, drop-cons}
 use borrow.Author.Tests.{eqb-true, eq-eqb}
@@ -53,8 +52,8 @@ above_differs (x ∷ xs) (y ∷ ys) h =
     by_ranked (x < y) (x ≡ y) (y < x) (nat_cmp x y) (ranked x y (nat_cmp x y) refl)
     (λ _ lt. rw (unequal x y lt) (omega arith, λ _. lt))
     (λ e same.
-      let rest = above_differs xs ys (ap (λ o. ordering_then o (slice_cmp nat_cmp xs ys)) (sym e) ∙ h) in
-      rw (eq-eqb x y same) (omega (arith, rest.0), λ lt. rest.1 (omega (arith, lt))))
+    let rest = above_differs xs ys (ap (λ o. ordering_then o (slice_cmp nat_cmp xs ys)) (sym e) ∙ h) in
+    rw (eq-eqb x y same) (omega (arith, rest.0), λ lt. rest.1 (omega (arith, lt))))
     (λ e _. absurd (greater_less (ap (λ o. ordering_then o (slice_cmp nat_cmp xs ys)) (sym e) ∙ h)))
   where
     greater_less : Greater ≡ Less → ⊥
@@ -126,9 +125,9 @@ IsEntry-next i before key bytes rest own count size h can c s o le k r =
       short = omega (arith, long, can.short);
       above = λ _. ap (λ (l : List ℕ). key_cmp before l) k ∙ cut.1;
       spelled =
-      parts bytes size (omega (arith, le)) ∙ ap (λ (n : ℕ). n ∷ get_or bytes 1 0 ∷ (take size (drop 2 bytes) ++ drop (2 + size) bytes)) (sym c)
-      ∙ ap (λ (n : ℕ). count ∷ n ∷ (take size (drop 2 bytes) ++ drop (2 + size) bytes)) (sym s) ∙ ap (λ (l : List ℕ). count ∷ size ∷ (l ++ drop (2 + size) bytes)) (sym o)
-      ∙ ap (λ (l : List ℕ). count ∷ size ∷ (own ++ l)) (sym r) ∙ ap (λ (l : List ℕ). l ++ rest) (sym (entry-next i before key h ∙ spelled));
+          parts bytes size (omega (arith, le)) ∙ ap (λ (n : ℕ). n ∷ get_or bytes 1 0 ∷ (take size (drop 2 bytes) ++ drop (2 + size) bytes)) (sym c)
+          ∙ ap (λ (n : ℕ). count ∷ n ∷ (take size (drop 2 bytes) ++ drop (2 + size) bytes)) (sym s) ∙ ap (λ (l : List ℕ). count ∷ size ∷ (l ++ drop (2 + size) bytes)) (sym o)
+          ∙ ap (λ (l : List ℕ). count ∷ size ∷ (own ++ l)) (sym r) ∙ ap (λ (l : List ℕ). l ++ rest) (sym (entry-next i before key h ∙ spelled));
     }
 
 -- a block's first bytes don't depend on the key before it
@@ -178,24 +177,24 @@ IsAscending-push keys key up above i j lt within =
     let size : length (keys ++ key ∷ []) ≡ length keys + 1 = length-append keys (key ∷ []) in
     let first : get_or (keys ++ key ∷ []) i [] ≡ get_or keys i [] = get_or_append_left keys (key ∷ []) [] i (omega (arith, lt, within, size)) in
     elim (cases_lt j (length keys)) [
-      inl before ↦ ap (λ (l : List ℕ). key_cmp l (get_or (keys ++ key ∷ []) j [])) first ∙ ap (λ (l : List ℕ). key_cmp (get_or keys i []) l) (get_or_append_left keys (key ∷ []) [] j before) ∙ up i j lt before
-    | inr last ↦
-      let at : j ≡ length keys + 0 = omega (arith, within, size, last) in
-      let second : get_or (keys ++ key ∷ []) j [] ≡ key = ap (λ (k : ℕ). get_or (keys ++ key ∷ []) k []) at ∙ get_or-append-add keys (key ∷ []) 0 [] in
-      let less = above (omega (arith, lt, at)) in
-      ap (λ (l : List ℕ). key_cmp l (get_or (keys ++ key ∷ []) j [])) first ∙ ap (λ (l : List ℕ). key_cmp (get_or keys i []) l) second
-      ∙ last_less keys i key up (omega (arith, lt, at)) less
+      | inl before ↦ ap (λ (l : List ℕ). key_cmp l (get_or (keys ++ key ∷ []) j [])) first ∙ ap (λ (l : List ℕ). key_cmp (get_or keys i []) l) (get_or_append_left keys (key ∷ []) [] j before) ∙ up i j lt before
+      | inr last ↦
+          let at : j ≡ length keys + 0 = omega (arith, within, size, last) in
+          let second : get_or (keys ++ key ∷ []) j [] ≡ key = ap (λ (k : ℕ). get_or (keys ++ key ∷ []) k []) at ∙ get_or-append-add keys (key ∷ []) 0 [] in
+          let less = above (omega (arith, lt, at)) in
+          ap (λ (l : List ℕ). key_cmp l (get_or (keys ++ key ∷ []) j [])) first ∙ ap (λ (l : List ℕ). key_cmp (get_or keys i []) l) second
+          ∙ last_less keys i key up (omega (arith, lt, at)) less
     ]
   where
     last_less : (keys : List (List ℕ)) (i : ℕ) (key : List ℕ) → IsAscending keys → i < length keys → key_cmp (get_or ([] ∷ keys) (length keys) []) key ≡ Less → key_cmp (get_or keys i []) key ≡ Less
     last_less keys i key up lt less =
-      let here : length keys ≡ suc (length keys - 1) = omega (arith, lt) in
-      let last : get_or ([] ∷ keys) (length keys) [] ≡ get_or keys (length keys - 1) [] = ap (λ (k : ℕ). get_or ([] ∷ keys) k []) here in
-      let end : key_cmp (get_or keys (length keys - 1) []) key ≡ Less = ap (λ (l : List ℕ). key_cmp l key) (sym last) ∙ less in
-      elim (cases_lt i (length keys - 1)) [
-        inl far ↦ nat_list_cmp_total.trans (get_or keys i []) (get_or keys (length keys - 1) []) key (up i (length keys - 1) far (omega (arith, lt))) end
-      | inr near ↦ let e : i ≡ length keys - 1 = omega (arith, near, lt) in ap (λ (k : ℕ). key_cmp (get_or keys k []) key) e ∙ end
-      ]
+        let here : length keys ≡ suc (length keys - 1) = omega (arith, lt) in
+        let last : get_or ([] ∷ keys) (length keys) [] ≡ get_or keys (length keys - 1) [] = ap (λ (k : ℕ). get_or ([] ∷ keys) k []) here in
+        let end : key_cmp (get_or keys (length keys - 1) []) key ≡ Less = ap (λ (l : List ℕ). key_cmp l key) (sym last) ∙ less in
+        elim (cases_lt i (length keys - 1)) [
+          | inl far ↦ nat_list_cmp_total.trans (get_or keys i []) (get_or keys (length keys - 1) []) key (up i (length keys - 1) far (omega (arith, lt))) end
+          | inr near ↦ let e : i ≡ length keys - 1 = omega (arith, near, lt) in ap (λ (k : ℕ). key_cmp (get_or keys k []) key) e ∙ end
+        ]
 
 -- keys behind those of the last block that starts don't move a start
 starts_of-front : (m at : ℕ) (keys more : List (List ℕ)) → 16 * m ≤ length keys → starts_of (suc m) at (keys ++ more) ≡ starts_of (suc m) at keys
@@ -221,27 +220,29 @@ pub starts_of-push : (i : ℕ) (keys : List (List ℕ)) (key : List ℕ) (at : �
 starts_of-push i keys key at starts new size is s n =
     either (nat_eq (i % 16) 0)
     (λ yes.
-      let zero_rest = eqb-true (i % 16) 0 yes in
-      let m : (i + 15) / 16 ≡ i / 16 = omega (arith, zero_rest) in
-      let next : (i + 1 + 15) / 16 ≡ suc (i / 16) = omega (arith, zero_rest) in
-      let blocks : entries 0 [] keys ≡ blocks_bytes (i / 16) keys = entries-blocks (i / 16) 0 [] keys refl (omega (arith, zero_rest, size)) in
-      let here : at ≡ 0 + length (blocks_bytes (i / 16) keys) = is ∙ ap (λ (l : List ℕ). length l) blocks ∙ omega arith in
-      n ∙ pick yes ∙ ap (λ (l : List ℕ). l ++ at ∷ []) (s ∙ ap (λ (k : ℕ). starts_of k 0 keys) m)
-      ∙ ap (λ (k : ℕ). starts_of (i / 16) 0 keys ++ k ∷ []) here
-      ∙ sym (starts_of-next (i / 16) 0 keys) ∙ sym (starts_of-front (i / 16) 0 keys (key ∷ []) (omega (arith, size)))
-      ∙ ap (λ (k : ℕ). starts_of k 0 (keys ++ key ∷ [])) (sym next))
+    let zero_rest = eqb-true (i % 16) 0 yes in
+    let m : (i + 15) / 16 ≡ i / 16 = omega (arith, zero_rest) in
+    let next : (i + 1 + 15) / 16 ≡ suc (i / 16) = omega (arith, zero_rest) in
+    let blocks : entries 0 [] keys ≡ blocks_bytes (i / 16) keys = entries-blocks (i / 16) 0 [] keys refl (omega (arith, zero_rest, size)) in
+    let here : at ≡ 0 + length (blocks_bytes (i / 16) keys) = is ∙ ap (λ (l : List ℕ). length l) blocks ∙ omega arith in
+    n ∙ pick yes ∙ ap (λ (l : List ℕ). l ++ at ∷ []) (s ∙ ap (λ (k : ℕ). starts_of k 0 keys) m)
+    ∙ ap (λ (k : ℕ). starts_of (i / 16) 0 keys ++ k ∷ []) here
+    ∙ sym (starts_of-next (i / 16) 0 keys) ∙ sym (starts_of-front (i / 16) 0 keys (key ∷ []) (omega (arith, size)))
+    ∙ ap (λ (k : ℕ). starts_of k 0 (keys ++ key ∷ [])) (sym next))
     (λ other.
-      let some : i % 16 ≢ 0 = λ e. cc_false (sym (eq-eqb (i % 16) 0 e) ∙ other) in
-      let m : (i + 15) / 16 ≡ suc (i / 16) = omega (arith, some) in
-      let next : (i + 1 + 15) / 16 ≡ suc (i / 16) = omega (arith, some) in
-      n ∙ pick_not other ∙ s ∙ ap (λ (k : ℕ). starts_of k 0 keys) m
-      ∙ sym (starts_of-front (i / 16) 0 keys (key ∷ []) (omega (arith, size)))
-      ∙ ap (λ (k : ℕ). starts_of k 0 (keys ++ key ∷ [])) (sym next))
+    let some : i % 16 ≢ 0 = λ e. cc_false (sym (eq-eqb (i % 16) 0 e) ∙ other) in
+    let m : (i + 15) / 16 ≡ suc (i / 16) = omega (arith, some) in
+    let next : (i + 1 + 15) / 16 ≡ suc (i / 16) = omega (arith, some) in
+    n ∙ pick_not other ∙ s ∙ ap (λ (k : ℕ). starts_of k 0 keys) m
+    ∙ sym (starts_of-front (i / 16) 0 keys (key ∷ []) (omega (arith, size)))
+    ∙ ap (λ (k : ℕ). starts_of k 0 (keys ++ key ∷ [])) (sym next))
   where
     cc_false : true ≡ false → ⊥
     cc_false e = cc
+
     pick : nat_eq (i % 16) 0 ≡ true → (if nat_eq (i % 16) 0 then starts ++ at ∷ [] else starts) ≡ starts ++ at ∷ []
     pick first = rw first refl
+
     pick_not : nat_eq (i % 16) 0 ≡ false → (if nat_eq (i % 16) 0 then starts ++ at ∷ [] else starts) ≡ starts
     pick_not other = rw other refl
 
@@ -283,8 +284,8 @@ IsReading-more i bytes key rest starts next later new at h e a n =
       ascending = IsAscending-push h.keys next h.ascending (λ some. ap (λ (l : List ℕ). key_cmp l next) here ∙ e.above (λ zero_i. some (omega (arith, h.count, zero_i))));
       short = All-push IsShort h.keys next h.short e.short;
       spelled =
-      h.spelled ∙ ap (λ (l : List ℕ). entries 0 [] h.keys ++ l) (e.spelled ∙ ap (λ (l : List ℕ). entry i l next ++ later) (sym here) ∙ ap (λ (k : ℕ). entry k (get_or ([] ∷ h.keys) (length h.keys) []) next ++ later) (count_is h))
-      ∙ sym (append_assoc (entries 0 [] h.keys) (entry (0 + length h.keys) (get_or ([] ∷ h.keys) (length h.keys) []) next) later) ∙ ap (λ (l : List ℕ). l ++ later) (sym (entries-push 0 [] h.keys next));
+          h.spelled ∙ ap (λ (l : List ℕ). entries 0 [] h.keys ++ l) (e.spelled ∙ ap (λ (l : List ℕ). entry i l next ++ later) (sym here) ∙ ap (λ (k : ℕ). entry k (get_or ([] ∷ h.keys) (length h.keys) []) next ++ later) (count_is h))
+          ∙ sym (append_assoc (entries 0 [] h.keys) (entry (0 + length h.keys) (get_or ([] ∷ h.keys) (length h.keys) []) next) later) ∙ ap (λ (l : List ℕ). l ++ later) (sym (entries-push 0 [] h.keys next));
       begins = starts_of-push i h.keys next at starts new h.count (omega (arith, a, length-read i bytes key rest starts h)) h.begins n;
     }
   where
@@ -321,12 +322,12 @@ next_of n i bytes key rest all more h lt good size is =
     record {
       short = good.short i [] (omega (arith, lt, size));
       above = λ some.
-        let at : i ≡ suc (i - 1) = from_some i some in
-        let before : key ≡ get_or all (i - 1) [] = agrees.1 ∙ ap (λ (k : ℕ). get_or ([] ∷ all) k []) at in
-        ap (λ (l : List ℕ). key_cmp l (get_or all i [])) before ∙ good.ascending (i - 1) i (omega (arith, at)) (omega (arith, lt, size));
+          let at : i ≡ suc (i - 1) = from_some i some in
+          let before : key ≡ get_or all (i - 1) [] = agrees.1 ∙ ap (λ (k : ℕ). get_or ([] ∷ all) k []) at in
+          ap (λ (l : List ℕ). key_cmp l (get_or all i [])) before ∙ good.ascending (i - 1) i (omega (arith, at)) (omega (arith, lt, size));
       spelled =
-        agrees.0 ∙ ap (λ (l : List ℕ). l ++ more) (entries-from i key all (omega (arith, lt, size)))
-        ∙ append_assoc (entry i key (get_or all i [])) (entries (suc i) (get_or all i []) (drop (suc i) all)) more;
+          agrees.0 ∙ ap (λ (l : List ℕ). l ++ more) (entries-from i key all (omega (arith, lt, size)))
+          ∙ append_assoc (entry i key (get_or all i [])) (entries (suc i) (get_or all i []) (drop (suc i) all)) more;
     }
   where
     from_some : (i : ℕ) → i ≢ 0 → i ≡ suc (i - 1)
@@ -337,17 +338,19 @@ entry-unique : (i : ℕ) (before key other rest more : List ℕ) → entry i bef
 entry-unique i before key other rest more e =
     either (nat_eq (i % 16) 0)
     (λ yes.
-      let first = eqb-true (i % 16) 0 yes in
-      let spelled : length key ∷ (key ++ rest) ≡ length other ∷ (other ++ more) = ap (λ (l : List ℕ). l ++ rest) (sym (entry-first i before key first)) ∙ e ∙ ap (λ (l : List ℕ). l ++ more) (entry-first i before other first) in
-      let size : length key ≡ length other = ap (λ (l : List ℕ). get_or l 0 0) spelled in
-      let text : key ++ rest ≡ other ++ more = ap (λ (l : List ℕ). drop 1 l) spelled in
-      (sym (take-append_seam key rest) ∙ ap (λ (l : List ℕ). take (length key) l) text ∙ ap (λ (k : ℕ). take k (other ++ more)) size ∙ take-append_seam other more,
-      sym (drop-append_seam key rest) ∙ ap (λ (l : List ℕ). drop (length key) l) text ∙ ap (λ (k : ℕ). drop k (other ++ more)) size ∙ drop-append_seam other more))
+    let first = eqb-true (i % 16) 0 yes in
+    let spelled : length key ∷ (key ++ rest) ≡ length other ∷ (other ++ more) = ap (λ (l : List ℕ). l ++ rest) (sym (entry-first i before key first)) ∙ e ∙ ap (λ (l : List ℕ). l ++ more) (entry-first i before other first) in
+    let size : length key ≡ length other = ap (λ (l : List ℕ). get_or l 0 0) spelled in
+    let text : key ++ rest ≡ other ++ more = ap (λ (l : List ℕ). drop 1 l) spelled in (
+      sym (take-append_seam key rest) ∙ ap (λ (l : List ℕ). take (length key) l) text ∙ ap (λ (k : ℕ). take k (other ++ more)) size ∙ take-append_seam other more,
+      sym (drop-append_seam key rest) ∙ ap (λ (l : List ℕ). drop (length key) l) text ∙ ap (λ (k : ℕ). drop k (other ++ more)) size ∙ drop-append_seam other more,
+    ))
     (λ no_first.
-      let next : i % 16 ≢ 0 = λ z. true_false (sym (eq-eqb (i % 16) 0 z) ∙ no_first) in
-      let spelled : key_bytes before key ++ rest ≡ key_bytes before other ++ more = ap (λ (l : List ℕ). l ++ rest) (sym (entry-next i before key next)) ∙ e ∙ ap (λ (l : List ℕ). l ++ more) (entry-next i before other next) in
-      (sym (next_key-key_bytes before key rest) ∙ ap (λ (l : List ℕ). next_key before l) spelled ∙ next_key-key_bytes before other more,
-      sym (after_key-key_bytes before key rest) ∙ ap (λ (l : List ℕ). after_key l) spelled ∙ after_key-key_bytes before other more))
+    let next : i % 16 ≢ 0 = λ z. true_false (sym (eq-eqb (i % 16) 0 z) ∙ no_first) in
+    let spelled : key_bytes before key ++ rest ≡ key_bytes before other ++ more = ap (λ (l : List ℕ). l ++ rest) (sym (entry-next i before key next)) ∙ e ∙ ap (λ (l : List ℕ). l ++ more) (entry-next i before other next) in (
+      sym (next_key-key_bytes before key rest) ∙ ap (λ (l : List ℕ). next_key before l) spelled ∙ next_key-key_bytes before other more,
+      sym (after_key-key_bytes before key rest) ∙ ap (λ (l : List ℕ). after_key l) spelled ∙ after_key-key_bytes before other more,
+    ))
   where
     true_false : true ≡ false → ⊥
     true_false h = cc
@@ -359,6 +362,7 @@ pub AgreesWith-more : (n i : ℕ) (bytes key rest next later : List ℕ) → Agr
 AgreesWith-more n i bytes key rest next later h lt e all more good size is =
     let other = next_of n i bytes key rest all more h lt good size is in
     let one : suc i ≡ i + 1 = omega arith in
-    let same = entry-unique i key next (get_or all i []) later (entries (suc i) (get_or all i []) (drop (suc i) all) ++ more) (sym e.spelled ∙ other.spelled) in
-    (same.1 ∙ ap (λ (l : List ℕ). entries (suc i) l (drop (suc i) all) ++ more) (sym same.0) ∙ ap (λ (k : ℕ). entries k next (drop k all) ++ more) one,
-    same.0 ∙ ap (λ (k : ℕ). get_or ([] ∷ all) k []) one)
+    let same = entry-unique i key next (get_or all i []) later (entries (suc i) (get_or all i []) (drop (suc i) all) ++ more) (sym e.spelled ∙ other.spelled) in (
+      same.1 ∙ ap (λ (l : List ℕ). entries (suc i) l (drop (suc i) all) ++ more) (sym same.0) ∙ ap (λ (k : ℕ). entries k next (drop k all) ++ more) one,
+      same.0 ∙ ap (λ (k : ℕ). get_or ([] ∷ all) k []) one,
+    )

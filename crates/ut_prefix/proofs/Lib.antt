@@ -4,3 +4,4 @@ pub mod LayoutLemmas
 pub mod SpellingLemmas
 pub mod EntryLemmas
 pub mod ParseLemmas
+pub mod ChainLemmas

@@ -33,16 +33,16 @@ pub less_before : (keys : List (List ℕ)) (key : List ℕ) (a i : ℕ) → IsAs
     → key_cmp (get_or keys i []) key ≡ Less
 less_before keys key a i up h lt within =
     elim (not_above _ h) [
-      inl less ↦ nat_list_cmp_total.trans (get_or keys i []) (get_or keys a []) key (up i a lt within) less
-    | inr same ↦ sym (alike_right nat_list_cmp_total (get_or keys a []) key (get_or keys i []) same) ∙ up i a lt within
+      | inl less ↦ nat_list_cmp_total.trans (get_or keys i []) (get_or keys a []) key (up i a lt within) less
+      | inr same ↦ sym (alike_right nat_list_cmp_total (get_or keys a []) key (get_or keys i []) same) ∙ up i a lt within
     ]
 
 pub greater_on : (keys : List (List ℕ)) (key : List ℕ) (a i : ℕ) → IsAscending keys → key_cmp (get_or keys a []) key ≡ Greater → a ≤ i → i < length keys
     → key_cmp (get_or keys i []) key ≡ Greater
 greater_on keys key a i up h le within =
     elim (cases_lt a i) [
-      inl lt ↦ turned key (get_or keys i []) (nat_list_cmp_total.trans key (get_or keys a []) (get_or keys i []) (reversed (get_or keys a []) key h) (up a i lt within))
-    | inr ge ↦ let e : a ≡ i = omega arith in subst (λ (k : ℕ). key_cmp (get_or keys k []) key ≡ Greater) e h
+      | inl lt ↦ turned key (get_or keys i []) (nat_list_cmp_total.trans key (get_or keys a []) (get_or keys i []) (reversed (get_or keys a []) key h) (up a i lt within))
+      | inr ge ↦ let e : a ≡ i = omega arith in subst (λ (k : ℕ). key_cmp (get_or keys k []) key ≡ Greater) e h
     ]
 
 -- a key isn't among ascending keys where those in front of a place are below it and the others above
@@ -52,12 +52,13 @@ absent keys key place below above h =
     let here : get_or keys h.0 [] ≡ key = get_or_from_slice_get keys h.0 (get_or keys h.0 key) [] (slice_get-get_or keys h.0 key h.1) ∙ h.2 in
     let same : key_cmp (get_or keys h.0 []) key ≡ Equal = ap (λ (l : List ℕ). key_cmp l key) here ∙ tied_itself nat_list_cmp_total key in
     elim (cases_lt h.0 place) [
-      inl lt ↦ less_equal (sym (below h.0 lt) ∙ same)
-    | inr ge ↦ greater_equal (sym (above h.0 ge h.1) ∙ same)
+      | inl lt ↦ less_equal (sym (below h.0 lt) ∙ same)
+      | inr ge ↦ greater_equal (sym (above h.0 ge h.1) ∙ same)
     ]
   where
     less_equal : Less ≡ Equal → ⊥
     less_equal e = cc
+
     greater_equal : Greater ≡ Equal → ⊥
     greater_equal e = cc
 
@@ -71,12 +72,12 @@ greater_less e = cc
 pub not_less_from : (keys : List (List ℕ)) (key : List ℕ) (place i : ℕ) → IsAscending keys → get_or keys place [] ≡ key → place ≤ i → i < length keys → key_cmp (get_or keys i []) key ≡ Less → ⊥
 not_less_from keys key place i up same le within less =
     elim (cases_lt place i) [
-      inl lt ↦
-      let above : key_cmp (get_or keys i []) (get_or keys place []) ≡ Greater = turned (get_or keys place []) (get_or keys i []) (up place i lt within) in
-      greater_less (sym above ∙ ap (λ (l : List ℕ). key_cmp (get_or keys i []) l) same ∙ less)
-    | inr ge ↦
-      let e : place ≡ i = omega arith in
-      equal_less (sym (tied_itself nat_list_cmp_total key) ∙ ap (λ (l : List ℕ). key_cmp l key) (sym same) ∙ ap (λ (k : ℕ). key_cmp (get_or keys k []) key) e ∙ less)
+      | inl lt ↦
+          let above : key_cmp (get_or keys i []) (get_or keys place []) ≡ Greater = turned (get_or keys place []) (get_or keys i []) (up place i lt within) in
+          greater_less (sym above ∙ ap (λ (l : List ℕ). key_cmp (get_or keys i []) l) same ∙ less)
+      | inr ge ↦
+          let e : place ≡ i = omega arith in
+          equal_less (sym (tied_itself nat_list_cmp_total key) ∙ ap (λ (l : List ℕ). key_cmp l key) (sym same) ∙ ap (λ (k : ℕ). key_cmp (get_or keys k []) key) e ∙ less)
     ]
 
 -- what holds of either answer
@@ -97,7 +98,7 @@ IsSplit-found keys key place true above up within less there same greater e = re
   less = less;
   same = λ i le lt. let at : place ≡ i = omega (arith, e, le, lt) in ap (λ (k : ℕ). get_or keys k []) (sym at) ∙ same refl;
   greater = λ i le lt.
-    ap (λ (l : List ℕ). key_cmp (get_or keys i []) l) (sym (same refl)) ∙ turned (get_or keys place []) (get_or keys i []) (up place i (omega (arith, e, le)) lt);
+      ap (λ (l : List ℕ). key_cmp (get_or keys i []) l) (sym (same refl)) ∙ turned (get_or keys place []) (get_or keys i []) (up place i (omega (arith, e, le)) lt);
 }
 IsSplit-found keys key place false above up within less there same greater e = record {
   ordered = omega (arith, e);
@@ -115,8 +116,8 @@ absent_between keys key below above h le = absent keys key below h.less (λ i fr
 not_lower : (keys : List (List ℕ)) (key : List ℕ) (below above i : ℕ) → IsSplit keys key below above → below ≤ i → i < length keys → is_lt (key_cmp (get_or keys i []) key) ≡ false
 not_lower keys key below above i h le lt =
     elim (cases_lt i above) [
-      inl on ↦ ap (λ o. is_lt o) (ap (λ (l : List ℕ). key_cmp l key) (h.same i le on) ∙ tied_itself nat_list_cmp_total key)
-    | inr past ↦ ap (λ o. is_lt o) (h.greater i past lt)
+      | inl on ↦ ap (λ o. is_lt o) (ap (λ (l : List ℕ). key_cmp l key) (h.same i le on) ∙ tied_itself nat_list_cmp_total key)
+      | inr past ↦ ap (λ o. is_lt o) (h.greater i past lt)
     ]
 
 count_front : (keys : List (List ℕ)) (key : List ℕ) (below above i : ℕ) → IsSplit keys key below above → i ≤ length keys → count_by (λ other. is_lt (key_cmp other key)) (take i keys) ≡ min i below
@@ -126,8 +127,8 @@ count_front keys key below above (suc i) h le =
     let front = count_front keys key below above i h (omega (arith, le)) in
     ap (λ (k : ℕ). count_by (λ other. is_lt (key_cmp other key)) (take k keys)) one
     ∙ elim (cases_lt i below) [
-      inl lt ↦ count_by_more_yes (λ other. is_lt (key_cmp other key)) keys i [] (omega (arith, le)) (ap (λ o. is_lt o) (h.less i lt)) ∙ omega (arith, front, lt)
-    | inr ge ↦ count_by_more_no (λ other. is_lt (key_cmp other key)) keys i [] (omega (arith, le)) (not_lower keys key below above i h ge (omega (arith, le))) ∙ omega (arith, front, ge)
+      | inl lt ↦ count_by_more_yes (λ other. is_lt (key_cmp other key)) keys i [] (omega (arith, le)) (ap (λ o. is_lt o) (h.less i lt)) ∙ omega (arith, front, lt)
+      | inr ge ↦ count_by_more_no (λ other. is_lt (key_cmp other key)) keys i [] (omega (arith, le)) (not_lower keys key below above i h ge (omega (arith, le))) ∙ omega (arith, front, ge)
     ]
 
 -- the keys before a split are those below the key

@@ -1,5 +1,5 @@
 -- A whole dictionary that was read.
-use Rattle.std.proofs.Common.{◌≡◌, ℕ, ◌+◌, ◌-◌, ◌/◌, ◌^◌, ◌<◌, ◌≤◌, List, [], ◌∷◌, ◌++◌, append_assoc, length, length-append, take, drop, refl, sym, ◌∙◌, ap, subst, arith}
+use Rattle.std.proofs.Common.{◌≡◌, ℕ, ◌+◌, ◌-◌, ◌/◌, ◌^◌, ◌<◌, ◌≤◌, List, [], ◌++◌, length, take, drop, refl, sym, ◌∙◌, ap, arith}
 use Rattle.std.specs.Int.{to_le_bytes, from_le_bytes, w32}
 use Rattle.std.proofs.lemmas.List.{length-drop, take_rest}
 use Rattle.std.proofs.lemmas.Nat.{from_le_bytes-to_le_bytes_4}
@@ -36,16 +36,17 @@ Spells-read n bytes own starts size r o long f =
     record {
       within = omega (arith, r.1.within, size_is, length-drop 4 bytes, long);
       same =
-      joined (to_le_bytes w32) n size bytes r.0 f r.1.count (ap (λ (l : List ℕ). take size l) (sym body) ∙ sym o ∙ blocks)
-      ∙ ap (λ (l : List (List ℕ)). dict_bytes l) (sym keys);
+          joined (to_le_bytes w32) n size bytes r.0 f r.1.count (ap (λ (l : List ℕ). take size l) (sym body) ∙ sym o ∙ blocks)
+          ∙ ap (λ (l : List (List ℕ)). dict_bytes l) (sym keys);
     }
 
 -- the number that bytes begin with is the one that was read
 pub count_read : (n len : ℕ) (bytes rest : List ℕ) → n < 2 ^ 31 → len < 2 ^ 31 → take 4 bytes ≡ to_le_bytes w32 len → bytes ≡ to_le_bytes w32 n ++ rest → (n ≡ len) × (drop 4 bytes ≡ rest)
 count_read n len bytes rest few short f is =
-    let same : to_le_bytes w32 n ≡ to_le_bytes w32 len = sym (ap (λ (l : List ℕ). take 4 l) is) ∙ f in
-    (sym (from_le_bytes-to_le_bytes_4 n (omega (arith, few))) ∙ ap (λ (l : List ℕ). from_le_bytes w32 l) same ∙ from_le_bytes-to_le_bytes_4 len (omega (arith, short)),
-    ap (λ (l : List ℕ). drop 4 l) is)
+    let same : to_le_bytes w32 n ≡ to_le_bytes w32 len = sym (ap (λ (l : List ℕ). take 4 l) is) ∙ f in (
+      sym (from_le_bytes-to_le_bytes_4 n (omega (arith, few))) ∙ ap (λ (l : List ℕ). from_le_bytes w32 l) same ∙ from_le_bytes-to_le_bytes_4 len (omega (arith, short)),
+      ap (λ (l : List ℕ). drop 4 l) is,
+    )
 
 -- bytes that spell a dictionary of so many keys behind their number
 pub body_spelled : (len : ℕ) (bytes rest : List ℕ) (keys : List (List ℕ)) → IsDictionary keys → len < 2 ^ 31 → take 4 bytes ≡ to_le_bytes w32 len → bytes ≡ dict_bytes keys ++ rest

@@ -1,6 +1,6 @@
 -- What is spelled is read again.
-use Rattle.std.proofs.Common.{◌≡◌, ℕ, zero, suc, ◌+◌, ◌-◌, ◌*◌, ◌/◌, ◌<◌, ◌≤◌, min, Bool, true, false, nat_eq, if◌then◌else◌, List, [], ◌∷◌, ◌++◌, append_assoc, append-nil, ◌^◌, add-one, length, length-append, take, drop, get_or, refl, sym, ◌∙◌, ap, subst, arith}
-use Rattle.std.proofs.lemmas.List.{drop-drop, length-drop, length-take, take-append-drop, take_all}
+use Rattle.std.proofs.Common.{◌≡◌, ℕ, zero, suc, ◌+◌, ◌-◌, ◌*◌, ◌/◌, ◌<◌, ◌≤◌, min, nat_eq, List, [], ◌∷◌, ◌++◌, append_assoc, append-nil, ◌^◌, add-one, length, length-append, take, drop, get_or, refl, sym, ◌∙◌, ap, subst, arith}
+use Rattle.std.proofs.lemmas.List.{drop-drop, length-drop, length-take, take-append-drop}
 use Rattle.std.proofs.lemmas.List.Elements.{All-head, All-tail, All-take, All-drop}
 use Rattle.std.proofs.Math.Seq.{take-append_seam, drop-append_seam, drop-cons}
 use borrow.Author.Tests.{eqb-true, eq-eqb}
@@ -43,10 +43,14 @@ CanDecode-key_bytes n before key bytes more e short h =
     let le = shared_le before key in
     let size = length-append (drop (shared before key) key) more in
     let rest = length-drop (shared before key) key in
-    let at : CanDecode (suc n) before (key_bytes before key ++ more) =
-    (omega arith, le.0, omega (arith, size, rest), omega (arith, le.1, short),
-    subst (λ (l : List ℕ). CanDecode n l (after_key (key_bytes before key ++ more))) (sym (next_key-key_bytes before key more))
-    (subst (λ (l : List ℕ). CanDecode n key l) (sym (after_key-key_bytes before key more)) h)) in
+    let at : CanDecode (suc n) before (key_bytes before key ++ more) = (
+      omega arith,
+      le.0,
+      omega (arith, size, rest),
+      omega (arith, le.1, short),
+      subst (λ (l : List ℕ). CanDecode n l (after_key (key_bytes before key ++ more))) (sym (next_key-key_bytes before key more))
+          (subst (λ (l : List ℕ). CanDecode n key l) (sym (after_key-key_bytes before key more)) h),
+    ) in
     subst (λ (l : List ℕ). CanDecode (suc n) before l) (sym e) at
 
 pub decoded-key_bytes : (n : ℕ) (before key bytes more : List ℕ) → bytes ≡ key_bytes before key ++ more → decoded (suc n) before bytes ≡ before ∷ decoded n key more
@@ -85,10 +89,13 @@ pub IsBlock-block_bytes : (keys : List (List ℕ)) (more : List ℕ) → AreShor
 IsBlock-block_bytes [] more h = tt
 IsBlock-block_bytes (key ∷ keys) more h =
     let size = length-append (key ++ rest_bytes key keys) more in
-    let inner = length-append key (rest_bytes key keys) in
-    (omega (arith, size, inner), All-head IsShort key keys h, omega arith,
-    subst (λ (l : List ℕ). CanDecode (length keys) l (after_first (block_bytes (key ∷ keys) ++ more))) (sym (first_key-block_bytes key keys more))
-    (subst (λ (l : List ℕ). CanDecode (length keys) key l) (sym (after_first-block_bytes key keys more)) (CanDecode-rest_bytes keys key more (All-tail IsShort key keys h))))
+    let inner = length-append key (rest_bytes key keys) in (
+      omega (arith, size, inner),
+      All-head IsShort key keys h,
+      omega arith,
+      subst (λ (l : List ℕ). CanDecode (length keys) l (after_first (block_bytes (key ∷ keys) ++ more))) (sym (first_key-block_bytes key keys more))
+          (subst (λ (l : List ℕ). CanDecode (length keys) key l) (sym (after_first-block_bytes key keys more)) (CanDecode-rest_bytes keys key more (All-tail IsShort key keys h))),
+    )
 
 -- the bytes behind the front of a text
 behind : (front rest bytes : List ℕ) (at : ℕ) → bytes ≡ front ++ rest → at ≡ length front → drop at bytes ≡ rest
@@ -119,11 +126,12 @@ AreBlocks-blocks_bytes (suc m) n at keys front bytes e size count blocks short =
     let here = behind front (block_bytes (take 16 keys) ++ blocks_bytes m (drop 16 keys)) bytes at e size in
     let first : min 16 n ≡ length (take 16 keys) = omega (arith, length-take 16 keys) in
     let left : length (drop 16 keys) ≡ n - 16 = omega (arith, length-drop 16 keys) in
-    let within : at ≤ length bytes = omega (arith, ap (λ (l : List ℕ). length l) e, length-append front (blocks_bytes (suc m) keys)) in
-    (within,
-    subst (λ (k : ℕ). IsBlock k (drop at bytes)) (sym first) (subst (λ (l : List ℕ). IsBlock (length (take 16 keys)) l) (sym here) (IsBlock-block_bytes (take 16 keys) (blocks_bytes m (drop 16 keys)) (All-take IsShort 16 keys short))),
-    AreBlocks-blocks_bytes m (n - 16) (at + length (block_bytes (take 16 keys))) (drop 16 keys) (front ++ block_bytes (take 16 keys)) bytes
-    (e ∙ sym (append_assoc front (block_bytes (take 16 keys)) (blocks_bytes m (drop 16 keys)))) (omega (arith, length-append front (block_bytes (take 16 keys)))) left (omega arith) (All-drop IsShort 16 keys short))
+    let within : at ≤ length bytes = omega (arith, ap (λ (l : List ℕ). length l) e, length-append front (blocks_bytes (suc m) keys)) in (
+      within,
+      subst (λ (k : ℕ). IsBlock k (drop at bytes)) (sym first) (subst (λ (l : List ℕ). IsBlock (length (take 16 keys)) l) (sym here) (IsBlock-block_bytes (take 16 keys) (blocks_bytes m (drop 16 keys)) (All-take IsShort 16 keys short))),
+      AreBlocks-blocks_bytes m (n - 16) (at + length (block_bytes (take 16 keys))) (drop 16 keys) (front ++ block_bytes (take 16 keys)) bytes
+          (e ∙ sym (append_assoc front (block_bytes (take 16 keys)) (blocks_bytes m (drop 16 keys)))) (omega (arith, length-append front (block_bytes (take 16 keys)))) left (omega arith) (All-drop IsShort 16 keys short),
+    )
 
 pub length-starts_of : (m at : ℕ) (keys : List (List ℕ)) → length (starts_of m at keys) ≡ m
 length-starts_of zero at keys = refl

@@ -2,11 +2,11 @@
 #![tactic(auto)]
 
 mod block;
-// mod chain;
+mod chain;
 mod dict;
 mod parse;
 mod search;
 mod write;
 
-// pub use chain::DictChain;
+pub use chain::DictChain;
 pub use dict::PrefixDict;

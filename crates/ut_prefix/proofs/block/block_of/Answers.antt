@@ -1,4 +1,3 @@
-use Rattle.std.proofs.Common.{sym, ◌∙◌, ap}
 use Rattle.ut_prefix.proofs.LayoutLemmas.{take-rest}
 use Rattle.ut_prefix.proofs.block.block_of.Goals as goal
 

@@ -1,5 +1,5 @@
-use Rattle.std.proofs.Common.{◌≡◌, ◌+◌, ◌-◌, ◌<◌, ◌≤◌, arith, suc, sym, ◌∙◌}
-use Rattle.ut_prefix.proofs.BlockLemmas.{at_first, at_next, CanDecode-one}
+use Rattle.std.proofs.Common.{◌+◌, ◌-◌, arith, ◌∙◌}
+use Rattle.ut_prefix.proofs.BlockLemmas.{at_first, at_next}
 use Rattle.ut_prefix.proofs.block.key_in_block.Goals as goal
 
 pub loop-init : goal.loop-init

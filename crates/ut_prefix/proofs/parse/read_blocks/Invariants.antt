@@ -1,4 +1,3 @@
-use Rattle.std.proofs.Common.{◌≤◌, length}
 use Rattle.ut_prefix.proofs.EntryLemmas.{IsReading, AgreesWith}
 use Rattle.ut_prefix.proofs.parse.read_blocks.Given as goal
 

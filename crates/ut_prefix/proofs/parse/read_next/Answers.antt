@@ -1,6 +1,6 @@
-use Rattle.std.proofs.Common.{◌≡◌, ◌+◌, ◌-◌, ◌≤◌, List, ℕ, length, take, drop, get_or, sym, ap, ◌∙◌, arith, refl, true, false, subst}
+use Rattle.std.proofs.Common.{◌≡◌, ◌+◌, ◌-◌, List, ℕ, take, drop, get_or, sym, ap, arith, refl, true, false, subst}
 use Rattle.std.proofs.lemmas.List.{take_rest}
-use Rattle.ut_prefix.specs.Reading.{CanFollow, IsEntry}
+use Rattle.ut_prefix.specs.Reading.{CanFollow}
 use Rattle.ut_prefix.proofs.EntryLemmas.{CanFollow-entry, IsEntry-next}
 use Rattle.ut_prefix.proofs.parse.read_next.Goals as goal
 

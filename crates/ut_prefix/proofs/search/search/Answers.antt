@@ -1,12 +1,10 @@
-use Rattle.std.proofs.Common.{◌≡◌, ◌≢◌, ◌+◌, ◌-◌, ◌*◌, ◌/◌, ◌^◌, ◌<◌, ◌≤◌, ℕ, min, zero, suc, List, length, get_or, [], arith, sym, ap, ◌∙◌, refl, subst, inl, inr}
-use Rattle.std.specs.declared.cmp.Ordering.{Ordering}
-use Rattle.std.specs.declared.cmp.Ordering.TheVariants.{Less, Equal, Greater}
+use Rattle.std.proofs.Common.{◌≡◌, ◌+◌, ◌-◌, ◌*◌, ◌<◌, ℕ, List, get_or, [], arith, sym, ap, ◌∙◌, inl, inr}
 use Rattle.std.proofs.lemmas.Bool.{cases_lt}
 use Rattle.std.specs.FinMap.{slice_cmp-IsAntisymmetric, nat_cmp-IsAntisymmetric}
 use Rattle.ut_key.specs.Keys.{key_cmp}
-use Rattle.ut_prefix.specs.Reading.{keys_of, first_key, block_keys}
+use Rattle.ut_prefix.specs.Reading.{keys_of, block_keys}
 use Rattle.ut_prefix.proofs.OrderLemmas.{less_before, greater_on}
-use Rattle.ut_prefix.proofs.LayoutLemmas.{block_at, first-in_block, IsBlock-at, get_or-in_block, length-keys_of}
+use Rattle.ut_prefix.proofs.LayoutLemmas.{block_at, IsBlock-at, get_or-in_block, length-keys_of}
 use Rattle.ut_prefix.proofs.search.search.Goals as goal
 
 pub returns-then-blocks-eq0-clause-above : goal.returns-then-blocks-eq0-clause-above
@@ -32,12 +30,12 @@ pub returns-clause-below : goal.returns-clause-below
 returns-clause-below g c = λ i lt.
     let size = length-keys_of c.args.starts.now c.args.len c.args.bytes.now c.requires.count in
     elim (cases_lt i (16 * (c.search_starts-blocks.result - 1))) [
-      inl before ↦ less_before (keys_of c.args.starts.now c.args.len c.args.bytes.now) c.args.key.now (16 * (c.search_starts-blocks.result - 1)) i c.requires.ascending (c.search_starts-blocks.ensures.before (omega arith)) before (omega (arith, size, c.search_starts-blocks.ensures.within))
-    | inr on ↦
-      let at : 16 * (c.search_starts-blocks.result - 1) + (i - 16 * (c.search_starts-blocks.result - 1)) ≡ i = omega arith in
-      let here = in_block g c (i - 16 * (c.search_starts-blocks.result - 1)) (omega (arith, c.search_block-i.ensures.within)) in
-      ap (λ (k : ℕ). key_cmp (get_or (keys_of c.args.starts.now c.args.len c.args.bytes.now) k []) c.args.key.now) (sym at)
-      ∙ ap (λ (l : List ℕ). key_cmp l c.args.key.now) (sym here) ∙ c.search_block-i.ensures.below (i - 16 * (c.search_starts-blocks.result - 1)) (omega arith)
+      | inl before ↦ less_before (keys_of c.args.starts.now c.args.len c.args.bytes.now) c.args.key.now (16 * (c.search_starts-blocks.result - 1)) i c.requires.ascending (c.search_starts-blocks.ensures.before (omega arith)) before (omega (arith, size, c.search_starts-blocks.ensures.within))
+      | inr on ↦
+          let at : 16 * (c.search_starts-blocks.result - 1) + (i - 16 * (c.search_starts-blocks.result - 1)) ≡ i = omega arith in
+          let here = in_block g c (i - 16 * (c.search_starts-blocks.result - 1)) (omega (arith, c.search_block-i.ensures.within)) in
+          ap (λ (k : ℕ). key_cmp (get_or (keys_of c.args.starts.now c.args.len c.args.bytes.now) k []) c.args.key.now) (sym at)
+          ∙ ap (λ (l : List ℕ). key_cmp l c.args.key.now) (sym here) ∙ c.search_block-i.ensures.below (i - 16 * (c.search_starts-blocks.result - 1)) (omega arith)
     ]
 
 pub returns-clause-equal : goal.returns-clause-equal
@@ -51,10 +49,10 @@ pub returns-clause-above : goal.returns-clause-above
 returns-clause-above g c = λ h i le lt.
     let size = length-keys_of c.args.starts.now c.args.len c.args.bytes.now c.requires.count in
     elim (cases_lt c.search_block-i.result.0 c.min-count.result) [
-      inl within ↦
-      let here = in_block g c c.search_block-i.result.0 within in
-      greater_on (keys_of c.args.starts.now c.args.len c.args.bytes.now) c.args.key.now (16 * (c.search_starts-blocks.result - 1) + c.search_block-i.result.0) i c.requires.ascending
-      (ap (λ (l : List ℕ). key_cmp l c.args.key.now) (sym here) ∙ c.search_block-i.ensures.above h within) (omega arith) (omega (arith, size))
-    | inr past ↦
-      greater_on (keys_of c.args.starts.now c.args.len c.args.bytes.now) c.args.key.now (16 * c.search_starts-blocks.result) i c.requires.ascending (c.search_starts-blocks.ensures.after (omega (arith, c.min-count.ensures, c.search_block-i.ensures.within))) (omega (arith, c.min-count.ensures, c.search_block-i.ensures.within)) (omega (arith, size))
+      | inl within ↦
+          let here = in_block g c c.search_block-i.result.0 within in
+          greater_on (keys_of c.args.starts.now c.args.len c.args.bytes.now) c.args.key.now (16 * (c.search_starts-blocks.result - 1) + c.search_block-i.result.0) i c.requires.ascending
+          (ap (λ (l : List ℕ). key_cmp l c.args.key.now) (sym here) ∙ c.search_block-i.ensures.above h within) (omega arith) (omega (arith, size))
+      | inr past ↦
+          greater_on (keys_of c.args.starts.now c.args.len c.args.bytes.now) c.args.key.now (16 * c.search_starts-blocks.result) i c.requires.ascending (c.search_starts-blocks.ensures.after (omega (arith, c.min-count.ensures, c.search_block-i.ensures.within))) (omega (arith, c.min-count.ensures, c.search_block-i.ensures.within)) (omega (arith, size))
     ]

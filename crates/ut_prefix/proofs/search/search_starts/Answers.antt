@@ -1,9 +1,8 @@
-use Rattle.std.proofs.Common.{◌≡◌, ◌≢◌, ◌+◌, ◌-◌, ◌*◌, ◌/◌, ◌^◌, ◌<◌, ◌≤◌, ℕ, zero, suc, List, length, get_or, [], arith, sym, ap, ◌∙◌, refl, subst, inl, inr}
+use Rattle.std.proofs.Common.{◌≡◌, ◌+◌, ◌-◌, ◌*◌, ◌/◌, ◌^◌, ◌<◌, ◌≤◌, ℕ, zero, suc, List, get_or, [], arith, sym, ap, ◌∙◌, inl, inr}
 use Rattle.std.proofs.Math.Nat.{pow-suc}
-use Rattle.std.specs.declared.cmp.Ordering.{Ordering}
 use Rattle.std.specs.declared.cmp.Ordering.TheVariants.{Less, Equal, Greater}
 use Rattle.ut_key.specs.Keys.{key_cmp}
-use Rattle.ut_prefix.specs.Reading.{keys_of, first_key}
+use Rattle.ut_prefix.specs.Reading.{keys_of}
 use Rattle.ut_prefix.proofs.LayoutLemmas.{block_at, first-in_block, IsBlock-at}
 use Rattle.ut_prefix.proofs.search.search_starts.Goals as goal
 
@@ -52,8 +51,8 @@ loop-low-preserved g c =
       ordered = omega arith;
       within = c.loop-low.invariant.within;
       under = λ _ is.
-        let same : c.compare.result ≡ Greater = c.compare.ensures.order ∙ ap (λ (l : List ℕ). key_cmp l c.args.key.now) first ∙ ap (λ (k : ℕ). key_cmp (get_or (keys_of c.args.starts.now c.args.len c.args.bytes.now) k []) c.args.key.now) at ∙ is in
-        elim c.in-Less.is [ inl less ↦ less_greater (sym less ∙ same) | inr equal ↦ equal_greater (sym equal ∙ same) ];
+          let same : c.compare.result ≡ Greater = c.compare.ensures.order ∙ ap (λ (l : List ℕ). key_cmp l c.args.key.now) first ∙ ap (λ (k : ℕ). key_cmp (get_or (keys_of c.args.starts.now c.args.len c.args.bytes.now) k []) c.args.key.now) at ∙ is in
+          elim c.in-Less.is [ inl less ↦ less_greater (sym less ∙ same) | inr equal ↦ equal_greater (sym equal ∙ same) ];
       over = c.loop-low.invariant.over;
       cost = λ digits lt. halves (c.loop-low.high - c.loop-low.low) _ _ c.loop-low.steps _ digits (omega arith) (omega arith) c.compare.ensures.step (c.loop-low.invariant.cost digits lt);
     }

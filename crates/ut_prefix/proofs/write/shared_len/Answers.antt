@@ -1,4 +1,4 @@
-use Rattle.std.proofs.Common.{◌≡◌, ◌+◌, ◌≤◌, min, length, ◌∙◌, sym, ap, arith}
+use Rattle.std.proofs.Common.{arith}
 use Rattle.ut_prefix.proofs.SpellingLemmas.{shared-end}
 use Rattle.ut_prefix.proofs.write.shared_len.Goals as goal
 

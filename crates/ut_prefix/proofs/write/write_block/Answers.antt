@@ -1,4 +1,4 @@
-use Rattle.std.proofs.Common.{◌≡◌, ◌+◌, ◌-◌, length, sym, ap, ◌∙◌, arith, refl, List, ℕ, ◌++◌, ◌∷◌, []}
+use Rattle.std.proofs.Common.{◌+◌, arith, refl}
 use Rattle.ut_prefix.proofs.SpellingLemmas.{block_begun, block_more}
 use Rattle.ut_prefix.proofs.write.write_block.Goals as goal
 

@@ -1,6 +1,5 @@
-use Rattle.std.proofs.Common.{◌≡◌, ◌+◌, ◌/◌, ◌++◌, length, ◌∙◌, sym, ap, ℕ, List}
+use Rattle.std.proofs.Common.{◌+◌, ◌/◌, length, ◌∙◌, sym, ap}
 use Rattle.ut_prefix.specs.Spelling.{blocks_bytes}
-use Rattle.ut_prefix.specs.Reading.{keys_of}
 use Rattle.ut_prefix.proofs.LayoutLemmas.{length-keys_of}
 use Rattle.ut_prefix.proofs.SpellingLemmas.{dict_bytes-written}
 use Rattle.ut_prefix.proofs.dict.PrefixDict.bytes_of.Goals as goal

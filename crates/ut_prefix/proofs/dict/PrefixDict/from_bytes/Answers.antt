@@ -1,4 +1,3 @@
-use Rattle.std.proofs.Common.{◌≡◌, ◌+◌, ◌-◌, ◌≤◌, length, arith, refl, sym, ap, ◌∙◌, subst, List, ℕ, []}
 use Rattle.ut_prefix.proofs.ParseLemmas.{IsLaidOut-read, Spells-read, body_spelled}
 use Rattle.ut_prefix.proofs.dict.PrefixDict.from_bytes.Goals as goal
 

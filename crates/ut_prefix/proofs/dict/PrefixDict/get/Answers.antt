@@ -1,4 +1,4 @@
-use Rattle.std.proofs.Common.{◌≡◌, ◌+◌, ◌-◌, ◌*◌, ◌/◌, ◌%◌, ◌<◌, ◌≤◌, ℕ, List, length, drop, get_or, [], arith, sym, ap, ◌∙◌, subst}
+use Rattle.std.proofs.Common.{◌≡◌, ◌+◌, ◌*◌, ◌/◌, ◌%◌, ◌<◌, ℕ, List, length, drop, get_or, [], arith, sym, ap, ◌∙◌, subst}
 use Rattle.ut_prefix.specs.Reading.{keys_of, first_key, after_first}
 use Rattle.ut_prefix.proofs.BlockLemmas.{nth, get_or-block_keys}
 use Rattle.ut_prefix.proofs.LayoutLemmas.{block_at, IsBlock-at, get_or-keys_of, length-keys_of}

@@ -1,4 +1,4 @@
-use Rattle.std.proofs.Common.{sym, ◌∙◌, ap, length, subst, ◌<◌, ◌^◌, ℕ, arith}
+use Rattle.std.proofs.Common.{sym, ◌∙◌, ap, length, subst, ◌<◌, ◌^◌, ℕ}
 use Rattle.ut_key.specs.Keys.{IsAscending, AreShort}
 use Rattle.ut_prefix.proofs.LayoutLemmas.{length-keys_of, AreShort-keys_of}
 use Rattle.ut_prefix.proofs.dict.PrefixDict.len.Goals as goal

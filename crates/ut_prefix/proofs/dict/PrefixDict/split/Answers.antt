@@ -1,5 +1,4 @@
-use Rattle.std.proofs.Common.{◌≡◌, ◌+◌, ◌/◌, ◌^◌, ◌<◌, ◌≤◌, ℕ, List, length, get_or, [], arith, sym, ap, ◌∙◌, subst}
-use Rattle.std.specs.declared.cmp.Ordering.TheVariants.{Less, Greater}
+use Rattle.std.proofs.Common.{◌≡◌, ◌+◌, ◌/◌, ◌^◌, ◌<◌, ℕ, length, get_or, [], arith, sym, ap, ◌∙◌, subst}
 use Rattle.ut_key.specs.Keys.{key_cmp, IsAscending}
 use Rattle.ut_prefix.specs.Lookup.{binary_digits}
 use Rattle.ut_prefix.specs.Reading.{keys_of}
