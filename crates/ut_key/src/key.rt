@@ -1,5 +1,5 @@
 //! A key of a column: the bytes that a value is ordered by.
-ghost use Rattle.std.specs.Prelude.{◌≡◌, ◌+◌, ◌<◌, ◌≤◌, ◌++◌, [], length, take, ℕ};
+ghost use Rattle.std.specs.Prelude.{◌≡◌, ◌+◌, ◌≤◌, ◌++◌, [], length, take, ℕ};
 ghost use Rattle.ut_key.specs.Keys.{key_cmp};
 
 use crate::steps::Steps;

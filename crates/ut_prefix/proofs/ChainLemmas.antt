@@ -19,7 +19,7 @@ use Rattle.ut_key.specs.declared.comparison.Cmp.{Cmp}
 use Rattle.ut_key.specs.declared.comparison.Cmp.TheVariants.{Eq, Ne, Lt, Le, Gt, Ge}
 use Rattle.ut_key.specs.Keys.{key_cmp, allows, meets}
 use Rattle.ut_prefix.specs.Lookup.{IsSplit, search_steps}
-use Rattle.ut_prefix.specs.Chain.{chain_steps, shared_dicts, end_to_end, IsChain, is_in, code_meets, ranges_each, ranges_between, AddsRanges}
+use Rattle.ut_prefix.specs.Chain.{chain_steps, shared_dicts, end_to_end, IsChain, is_in, code_meets, ranges_each, ranges_between, AddsRanges, LacksAll}
 
 -- the keys of one more dictionary
 pub end_to_end-more : (chain : List (List (List ℕ))) (i : ℕ) → i < length chain → end_to_end (take (i + 1) chain) ≡ end_to_end (take i chain) ++ get_or chain i []
@@ -288,7 +288,7 @@ Contains-end_to_end chain i key lt h =
     Contains-found (end_to_end chain) (length (end_to_end (take i chain)) + h.0) key all
 
 -- one dictionary more keeps them apart
-pub IsChain-push : (chain : List (List (List ℕ))) (keys : List (List ℕ)) → IsChain chain → ((key : List ℕ) → Contains keys key → ¬ Contains (end_to_end chain) key) → length (end_to_end chain) + length keys < 2 ^ 31 → IsChain (chain ++ keys ∷ [])
+pub IsChain-push : (chain : List (List (List ℕ))) (keys : List (List ℕ)) → IsChain chain → LacksAll chain keys → length (end_to_end chain) + length keys < 2 ^ 31 → IsChain (chain ++ keys ∷ [])
 IsChain-push chain keys h absent few = record {
   few = omega (arith, ap (λ l. length l) (end_to_end-push chain keys), length-append (end_to_end chain) keys, few);
   apart = λ c d key lt within in_c in_d.
@@ -303,3 +303,9 @@ IsChain-push chain keys h absent few = record {
             absent key (subst (λ l. Contains l key) here in_d) (Contains-end_to_end chain c key front first)
       ];
 }
+
+-- one more key that isn't in the chain
+pub LacksAll-take : (chain : List (List (List ℕ))) (keys : List (List ℕ)) (n : ℕ) → length keys ≤ n → ((i : ℕ) → i < n → ¬ Contains (end_to_end chain) (get_or keys i [])) → LacksAll chain keys
+LacksAll-take chain keys n le h = λ key there in_chain.
+    let here : get_or keys there.0 [] ≡ key = get_or_from_slice_get keys there.0 key [] (slice_get-get_or keys there.0 key there.1 ∙ ap (λ (l : List ℕ). Some l) there.2) in
+    h there.0 (omega (arith, le, there.1)) (subst (λ l. Contains (end_to_end chain) l) (sym here) in_chain)

@@ -16,6 +16,10 @@ shared_dicts dicts = map (λ dict. arc_value dict) dicts
 abbrev pub end_to_end : List (List (List ℕ)) → List (List ℕ)
 end_to_end chain = flat_map (λ keys. keys) chain
 
+-- none of the keys stands in a chain
+abbrev pub LacksAll : List (List (List ℕ)) → List (List ℕ) → Type 0
+LacksAll chain keys = (key : List ℕ) → Contains keys key → ¬ Contains (end_to_end chain) key
+
 -- no key stands in two dictionaries
 abbrev pub AreApart : List (List (List ℕ)) → Type 0
 AreApart chain = (c d : ℕ) (key : List ℕ) → c < d → d < length chain → Contains (get_or chain c []) key → ¬ Contains (get_or chain d []) key

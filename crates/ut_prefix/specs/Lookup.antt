@@ -5,14 +5,22 @@ use Rattle.std.specs.Ordering.{is_lt}
 use Rattle.std.specs.declared.cmp.Ordering.TheVariants.{Less, Greater}
 use Rattle.ut_key.specs.Keys.{key_cmp}
 
+-- the first n keys are below a key
+abbrev pub AreBelow : List (List ℕ) → ℕ → List ℕ → Type 0
+AreBelow keys n key = (i : ℕ) → i < n → key_cmp (get_or keys i []) key ≡ Less
+
+-- the keys from one place on, up to and without another, are above a key
+abbrev pub AreAbove : List (List ℕ) → ℕ → ℕ → List ℕ → Type 0
+AreAbove keys from to key = (i : ℕ) → from ≤ i → i < to → key_cmp (get_or keys i []) key ≡ Greater
+
 -- the keys before one place are below the key, those from another on are above it, and the one between is it
 pub record IsSplit (keys : List (List ℕ)) (key : List ℕ) (below above : ℕ) : Type 0 where
   pub ordered : below ≤ above
   pub near : above ≤ below + 1
   pub within : above ≤ length keys
-  pub less : (i : ℕ) → i < below → key_cmp (get_or keys i []) key ≡ Less
+  pub less : AreBelow keys below key
   pub same : (i : ℕ) → below ≤ i → i < above → get_or keys i [] ≡ key
-  pub greater : (i : ℕ) → above ≤ i → i < length keys → key_cmp (get_or keys i []) key ≡ Greater
+  pub greater : AreAbove keys above (length keys) key
 
 -- how many of the keys are below a key
 abbrev pub count_below : List (List ℕ) → List ℕ → ℕ

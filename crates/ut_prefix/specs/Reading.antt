@@ -75,6 +75,10 @@ pub record IsEntry (i : ℕ) (before key bytes rest : List ℕ) : Type 0 where
   pub above : i ≢ 0 → key_cmp before key ≡ Less
   pub spelled : bytes ≡ entry i before key ++ rest
 
+-- the bytes begin with no key i behind this one
+abbrev pub IsNoEntry : ℕ → List ℕ → List ℕ → Type 0
+IsNoEntry i before bytes = (key rest : List ℕ) → ¬ IsEntry i before key bytes rest
+
 -- where m blocks of keys start, the first at a place
 abbrev pub starts_of : ℕ → ℕ → List (List ℕ) → List ℕ
 starts_of zero at keys = []

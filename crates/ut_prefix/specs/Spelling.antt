@@ -1,5 +1,5 @@
 -- The bytes of a dictionary: ascending keys in blocks of 16, each behind a block's first by what it shares.
-use Rattle.std.specs.Prelude.{◌≡◌, ℕ, zero, suc, ◌+◌, ◌-◌, ◌/◌, ◌^◌, ◌<◌, ◌≤◌, nat_eq, if◌then◌else◌, List, [], ◌∷◌, ◌++◌, length, take, drop}
+use Rattle.std.specs.Prelude.{◌≡◌, ◌≢◌, ℕ, zero, suc, ◌+◌, ◌-◌, ◌/◌, ◌^◌, ◌<◌, ◌≤◌, nat_eq, if◌then◌else◌, List, [], ◌∷◌, ◌++◌, length, take, drop}
 use Rattle.std.specs.Int.{to_le_bytes, w32}
 use Rattle.ut_key.specs.Keys.{AreShort, IsAscending}
 
@@ -37,6 +37,10 @@ blocks_bytes (suc m) keys = block_bytes (take 16 keys) ++ blocks_bytes m (drop 1
 -- a dictionary: the number of its keys in four bytes, the lowest first, and its blocks
 abbrev pub dict_bytes : List (List ℕ) → List ℕ
 dict_bytes keys = to_le_bytes w32 (length keys) ++ blocks_bytes ((length keys + 15) / 16) keys
+
+-- the bytes begin with those of no dictionary
+abbrev pub SpellsNone : List ℕ → Type 0
+SpellsNone bytes = (keys : List (List ℕ)) (rest : List ℕ) → IsDictionary keys → bytes ≢ dict_bytes keys ++ rest
 
 -- the first bytes, so many, are those of a dictionary of these keys
 pub record Spells (bytes : List ℕ) (keys : List (List ℕ)) (taken : ℕ) : Type 0 where

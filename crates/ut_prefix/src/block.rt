@@ -4,9 +4,10 @@
 //!        shared: u8, count: u8, byte[count]
 //!
 //! A further key is the first `shared` bytes of the key before it, and these.
-ghost use Rattle.std.specs.Prelude.{◌≡◌, ℕ, ◌+◌, ◌<◌, ◌≤◌, [], slice_index, slice_index_or, IsTrue, false, drop, length};
-ghost use Rattle.std.specs.declared.cmp.Ordering.TheVariants.{Less, Equal, Greater};
+ghost use Rattle.std.specs.Prelude.{◌≡◌, ◌+◌, ◌<◌, ◌≤◌, [], slice_index, slice_index_or, IsTrue, false, drop, length};
+ghost use Rattle.std.specs.declared.cmp.Ordering.TheVariants.{Equal, Greater};
 ghost use Rattle.ut_key.specs.Keys.{key_cmp};
+ghost use Rattle.ut_prefix.specs.Lookup.{AreBelow};
 ghost use Rattle.ut_prefix.specs.Reading.{next_key, after_key, first_key, after_first, block_keys, CanDecode, IsBlock};
 
 use std::cmp::Ordering;
@@ -71,10 +72,12 @@ pub(crate) fn search_block<L: Ledger>(
     requires some { 0 < count }
     requires block { IsBlock count block.now }
     ensures within { result.0 ≤ count }
-    ensures below { (i : ℕ) → i < result.0 → key_cmp (slice_index_or (block_keys count block.now) i []) key.now ≡ Less }
+    ensures below { AreBelow (block_keys count block.now) result.0 key.now }
     ensures found { IsTrue result.1 → result.0 < count }
-    ensures equal { IsTrue result.1 → key_cmp (slice_index_or (block_keys count block.now) result.0 []) key.now ≡ Equal }
-    ensures above { result.1 ≡ false → result.0 < count → key_cmp (slice_index_or (block_keys count block.now) result.0 []) key.now ≡ Greater }
+    ensures equal { IsTrue result.1
+        → key_cmp (slice_index_or (block_keys count block.now) result.0 []) key.now ≡ Equal }
+    ensures above { result.1 ≡ false → result.0 < count
+        → key_cmp (slice_index_or (block_keys count block.now) result.0 []) key.now ≡ Greater }
     ensures cost { steps.new ≤ steps.old + count }
 {
     let (first, mut rest) = first_of(block);

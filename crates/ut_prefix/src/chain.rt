@@ -1,7 +1,7 @@
 //! Dictionaries laid end to end.
-ghost use Rattle.std.specs.Prelude.{◌≡◌, ℕ, List, [], ◌∷◌, ◌+◌, ◌^◌, ◌<◌, ◌≤◌, ◌++◌, ◌↔◌, length, take, slice_get, slice_index_or, Contains, IsNone, IfSome, OnOk, OnErr};
+ghost use Rattle.std.specs.Prelude.{◌≡◌, ℕ, List, [], ◌∷◌, ◌+◌, ◌^◌, ◌<◌, ◌≤◌, ◌++◌, ◌↔◌, length, take, slice_get, slice_index_or, Contains, IsNone, IsTrue, IfSome, OnOk, OnErr};
 ghost use Rattle.std.specs.Arc.{arc_value};
-ghost use Rattle.ut_prefix.specs.Chain.{chain_steps, end_to_end, ranges_between, shared_dicts, AddsRanges, IsChain};
+ghost use Rattle.ut_prefix.specs.Chain.{chain_steps, end_to_end, ranges_between, shared_dicts, AddsRanges, IsChain, LacksAll};
 
 use crate::dict::PrefixDict;
 use std::alloc::{AllocError, Global};
@@ -26,7 +26,8 @@ impl Model for DictChain {
 
     ghost view = { λ c. shared_dicts c.dicts.items };
 
-    ghost invariant = { λ c. IsChain (shared_dicts c.dicts.items) × (c.len ≡ length (end_to_end (shared_dicts c.dicts.items))) };
+    ghost invariant = { λ c. IsChain (shared_dicts c.dicts.items)
+        × (c.len ≡ length (end_to_end (shared_dicts c.dicts.items))) };
 }
 
 /// The key at a place among all keys.
@@ -49,7 +50,8 @@ fn key_in<L: Ledger>(dicts: &[Arc<PrefixDict>], code: u32, steps: &mut Steps<L>)
 /// The place of a key among all keys.
 fn find_in<L: Ledger>(dicts: &[Arc<PrefixDict>], key: &[u8], steps: &mut Steps<L>) -> Option<u32>
     requires { length (end_to_end (shared_dicts dicts.now)) < 2 ^ 31 }
-    ensures found { IfSome result (λ code. slice_get (end_to_end (shared_dicts dicts.now)) code ≡ Some key.now) }
+    ensures found { let keys = end_to_end (shared_dicts dicts.now) in
+        IfSome result (λ code. slice_get keys code ≡ Some key.now) }
     ensures absent { IsNone result ↔ ¬ Contains (end_to_end (shared_dicts dicts.now)) key.now }
     ensures cost { steps.new ≤ steps.old + chain_steps (shared_dicts dicts.now) }
 {
@@ -107,7 +109,8 @@ fn add_ranges<L: Ledger>(
     steps: &mut Steps<L>,
 ) -> Result<(), AllocError>
     requires { length (end_to_end (shared_dicts dicts.now)) < 2 ^ 31 }
-    ensures ok { OnOk result (AddsRanges op key.now (shared_dicts dicts.now) out.old.items out.new.items) }
+    ensures ok { let chain = shared_dicts dicts.now in
+        OnOk result (AddsRanges op key.now chain out.old.items out.new.items) }
     ensures err { OnErr result (take (length out.old.items) out.new.items ≡ out.old.items) }
     ensures cost { steps.new ≤ steps.old + chain_steps (shared_dicts dicts.now) }
 {
@@ -141,7 +144,7 @@ impl DictChain {
 
     /// Adds a dictionary behind the others.
     pub fn push(&mut self, dict: Arc<PrefixDict>) -> Result<(), AllocError>
-        requires absent { (key : List ℕ) → Contains (arc_value dict) key → ¬ Contains (end_to_end self.old) key }
+        requires apart { LacksAll self.old (arc_value dict) }
         requires few { length (end_to_end self.old) + length (arc_value dict) < 2 ^ 31 }
         ensures ok { OnOk result (self.new ≡ self.old ++ arc_value dict ∷ []) }
         ensures err { OnErr result (self.new ≡ self.old) }
@@ -150,6 +153,19 @@ impl DictChain {
         self.dicts.push(dict)?;
         self.len = len;
         Ok(())
+    }
+
+    /// Whether none of a dictionary's keys is in the chain.
+    pub fn lacks_all<L: Ledger>(&self, dict: &PrefixDict, steps: &mut Steps<L>) -> bool
+        ensures { IsTrue result ↔ LacksAll self.now dict.now }
+    {
+        for code in 0..dict.len() {
+            match self.find(dict.get(code, steps).as_slice(), steps) {
+                Some(_) => return false,
+                None => {}
+            }
+        }
+        true
     }
 
     /// How many codes there are.

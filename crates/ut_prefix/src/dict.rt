@@ -1,8 +1,8 @@
 //! A dictionary of ascending keys.
 ghost use Rattle.std.specs.Prelude.{◌≡◌, ◌≢◌, ℕ, List, [], ◌+◌, ◌^◌, ◌<◌, ◌≤◌, ◌++◌, ◌↔◌, length, slice_get, slice_index_or, Contains, IsNone, IfOk, IfSome, IfNone, OnOk, OnErr, take};
 ghost use Rattle.std.specs.Int.{to_le_bytes, w32};
-ghost use Rattle.ut_key.specs.Keys.{IsAscending, key_cmp};
-ghost use Rattle.ut_prefix.specs.Spelling.{dict_bytes, IsDictionary, Spells};
+ghost use Rattle.ut_key.specs.Keys.{IsAscending};
+ghost use Rattle.ut_prefix.specs.Spelling.{dict_bytes, IsDictionary, Spells, SpellsNone};
 ghost use Rattle.ut_prefix.specs.Lookup.{count_below, search_steps, IsSplit};
 
 use crate::block::{BLOCK, block_of, key_in_block};
@@ -44,8 +44,10 @@ pub(crate) struct Split {
 
 /// The number that the first four bytes spell, where it may be one of keys.
 fn read_count(bytes: &[u8]) -> Option<u32>
-    ensures some { IfSome result (λ n. (4 ≤ length bytes.now) × (n < 2 ^ 31) × (take 4 bytes.now ≡ to_le_bytes w32 n)) }
-    ensures none { IfNone result ((n : ℕ) (rest : List ℕ) → n < 2 ^ 31 → bytes.now ≢ to_le_bytes w32 n ++ rest) }
+    ensures some { IfSome result (λ n.
+        (4 ≤ length bytes.now) × (n < 2 ^ 31) × (take 4 bytes.now ≡ to_le_bytes w32 n)) }
+    ensures none { IfNone result (
+        (n : ℕ) (rest : List ℕ) → n < 2 ^ 31 → bytes.now ≢ to_le_bytes w32 n ++ rest) }
 {
     if bytes.len() < 4 {
         return None;
@@ -163,7 +165,7 @@ impl PrefixDict {
         bytes: &[u8],
     ) -> Result<Option<(PrefixDict, usize)>, AllocError>
         ensures some { IfOk result (λ found. IfSome found (λ r. Spells bytes.now r.0 r.1)) }
-        ensures none { IfOk result (λ found. IfNone found ((keys : List (List ℕ)) (rest : List ℕ) → IsDictionary keys → bytes.now ≢ dict_bytes keys ++ rest)) }
+        ensures none { IfOk result (λ found. IfNone found (SpellsNone bytes.now)) }
     {
         let len = match read_count(bytes) {
             Some(len) => len,

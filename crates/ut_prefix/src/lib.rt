@@ -10,3 +10,6 @@ mod write;
 
 pub use chain::DictChain;
 pub use dict::PrefixDict;
+
+#[cfg(test)]
+mod tests;

@@ -1,9 +1,9 @@
 //! Reading a dictionary's blocks back, and refusing any that `write` would not have written.
-ghost use Rattle.std.specs.Prelude.{◌≡◌, ◌≢◌, ℕ, List, [], ◌∷◌, ◌+◌, ◌%◌, ◌<◌, ◌≤◌, ◌↔◌, ◌++◌, length, nat_eq, if◌then◌else◌, slice_index_or, slice_index, IsTrue, IfOk, IfSome, IfNone, OnOk};
+ghost use Rattle.std.specs.Prelude.{◌≡◌, ◌≢◌, ℕ, List, [], ◌∷◌, ◌+◌, ◌%◌, ◌↔◌, ◌++◌, length, nat_eq, if◌then◌else◌, IsTrue, IfOk, IfSome, IfNone, OnOk};
 ghost use Rattle.std.specs.declared.cmp.Ordering.TheVariants.{Less};
 ghost use Rattle.ut_key.specs.Keys.{key_cmp};
 ghost use Rattle.ut_prefix.specs.Spelling.{IsDictionary};
-ghost use Rattle.ut_prefix.specs.Reading.{entries, CanFollow, IsEntry, IsRead};
+ghost use Rattle.ut_prefix.specs.Reading.{entries, CanFollow, IsEntry, IsNoEntry, IsRead};
 
 use crate::block::BLOCK;
 use std::alloc::{AllocError, Global};
@@ -27,7 +27,7 @@ fn may_begin(i: u32, before: &[u8], key: &[u8]) -> bool
 fn read_first<'a>(i: u32, key: &mut Key, bytes: &'a [u8]) -> Option<&'a [u8]>
     requires { i % 16 ≡ 0 }
     ensures some { IfSome result (λ rest. IsEntry i key.old key.new bytes.now rest.now) }
-    ensures none { IfNone result ((next rest : List ℕ) → ¬ IsEntry i key.old next bytes.now rest) }
+    ensures none { IfNone result (IsNoEntry i key.old bytes.now) }
 {
     if bytes.is_empty() {
         return None;
@@ -58,7 +58,7 @@ fn may_follow(before: &[u8], shared: usize, rest: &[u8]) -> bool
 fn read_next<'a>(i: u32, key: &mut Key, bytes: &'a [u8]) -> Option<&'a [u8]>
     requires { i % 16 ≢ 0 }
     ensures some { IfSome result (λ rest. IsEntry i key.old key.new bytes.now rest.now) }
-    ensures none { IfNone result ((next rest : List ℕ) → ¬ IsEntry i key.old next bytes.now rest) }
+    ensures none { IfNone result (IsNoEntry i key.old bytes.now) }
 {
     if bytes.len() < 2 {
         return None;
@@ -79,7 +79,7 @@ fn read_next<'a>(i: u32, key: &mut Key, bytes: &'a [u8]) -> Option<&'a [u8]>
 /// Reads key `i` of all, and gives the bytes behind it.
 fn read_key<'a>(i: u32, key: &mut Key, bytes: &'a [u8]) -> Option<&'a [u8]>
     ensures some { IfSome result (λ rest. IsEntry i key.old key.new bytes.now rest.now) }
-    ensures none { IfNone result ((next rest : List ℕ) → ¬ IsEntry i key.old next bytes.now rest) }
+    ensures none { IfNone result (IsNoEntry i key.old bytes.now) }
 {
     if i % BLOCK == 0 {
         read_first(i, key, bytes)
@@ -90,7 +90,9 @@ fn read_key<'a>(i: u32, key: &mut Key, bytes: &'a [u8]) -> Option<&'a [u8]>
 
 /// Notes a start where key `i` begins a block.
 fn note_start(starts: &mut Vec<usize>, i: u32, at: usize) -> Result<(), AllocError>
-    ensures { OnOk result (starts.new.items ≡ (if nat_eq (i % 16) 0 then starts.old.items ++ at ∷ [] else starts.old.items)) }
+    ensures { OnOk result (
+        starts.new.items
+        ≡ (if nat_eq (i % 16) 0 then starts.old.items ++ at ∷ [] else starts.old.items)) }
 {
     if i % BLOCK == 0 {
         starts.push(at)?;
@@ -105,8 +107,11 @@ pub(crate) fn read_blocks(
     bytes: &[u8],
     len: u32,
 ) -> Result<Option<Blocks>, AllocError>
-    ensures some { IfOk result (λ found. IfSome found (λ b. (keys : List (List ℕ)) × IsRead len bytes.now b.starts.items b.size keys)) }
-    ensures none { IfOk result (λ found. IfNone found ((keys : List (List ℕ)) (rest : List ℕ) → IsDictionary keys → length keys ≡ len → bytes.now ≢ entries 0 [] keys ++ rest)) }
+    ensures some { IfOk result (λ found. IfSome found (λ blocks.
+        (keys : List (List ℕ)) × IsRead len bytes.now blocks.starts.items blocks.size keys)) }
+    ensures none { IfOk result (λ found. IfNone found (
+        (keys : List (List ℕ)) (rest : List ℕ)
+        → IsDictionary keys → length keys ≡ len → bytes.now ≢ entries 0 [] keys ++ rest)) }
 {
     let mut starts = Vec::new(alloc);
     let mut key = Key::new();

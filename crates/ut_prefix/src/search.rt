@@ -1,7 +1,8 @@
 //! Finding the place of a key: a search in halves over the blocks' first keys, then one block.
 ghost use Rattle.std.specs.Prelude.{◌≡◌, ℕ, ◌+◌, ◌-◌, ◌*◌, ◌^◌, ◌<◌, ◌≤◌, ◌≢◌, [], length, slice_index_or, IsTrue, false};
-ghost use Rattle.std.specs.declared.cmp.Ordering.TheVariants.{Less, Greater};
+ghost use Rattle.std.specs.declared.cmp.Ordering.TheVariants.{Greater};
 ghost use Rattle.ut_key.specs.Keys.{key_cmp};
+ghost use Rattle.ut_prefix.specs.Lookup.{AreAbove, AreBelow};
 ghost use Rattle.ut_prefix.specs.Reading.{keys_of, IsLaidOut};
 
 use crate::block::{BLOCK, block_of, first_of, search_block};
@@ -19,8 +20,10 @@ fn search_starts<L: Ledger>(
 ) -> usize
     requires { IsLaidOut starts.now len bytes.now }
     ensures within { result ≤ length starts.now }
-    ensures before { 0 < result → key_cmp (slice_index_or (keys_of starts.now len bytes.now) (16 * (result - 1)) []) key.now ≢ Greater }
-    ensures after { result < length starts.now → key_cmp (slice_index_or (keys_of starts.now len bytes.now) (16 * result) []) key.now ≡ Greater }
+    ensures before { let keys = keys_of starts.now len bytes.now in
+        0 < result → key_cmp (slice_index_or keys (16 * (result - 1)) []) key.now ≢ Greater }
+    ensures after { let keys = keys_of starts.now len bytes.now in
+        result < length starts.now → key_cmp (slice_index_or keys (16 * result) []) key.now ≡ Greater }
     ensures cost { (digits : ℕ) → length starts.now < 2 ^ digits → steps.new ≤ steps.old + digits }
 {
     let mut low = 0;
@@ -47,10 +50,11 @@ pub(crate) fn search<L: Ledger>(
 ) -> (u32, bool)
     requires { IsLaidOut starts.now len bytes.now }
     ensures within { result.0 ≤ len }
-    ensures below { (i : ℕ) → i < result.0 → key_cmp (slice_index_or (keys_of starts.now len bytes.now) i []) key.now ≡ Less }
+    ensures below { AreBelow (keys_of starts.now len bytes.now) result.0 key.now }
     ensures found { IsTrue result.1 → result.0 < len }
-    ensures equal { IsTrue result.1 → slice_index_or (keys_of starts.now len bytes.now) result.0 [] ≡ key.now }
-    ensures above { result.1 ≡ false → (i : ℕ) → result.0 ≤ i → i < len → key_cmp (slice_index_or (keys_of starts.now len bytes.now) i []) key.now ≡ Greater }
+    ensures equal { let keys = keys_of starts.now len bytes.now in
+        IsTrue result.1 → slice_index_or keys result.0 [] ≡ key.now }
+    ensures above { result.1 ≡ false → AreAbove (keys_of starts.now len bytes.now) result.0 len key.now }
     ensures cost { (digits : ℕ) → length starts.now < 2 ^ digits → steps.new ≤ steps.old + digits + 16 }
 {
     let blocks = search_starts(bytes, starts, len, key, steps);

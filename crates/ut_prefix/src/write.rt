@@ -41,7 +41,8 @@ pub(crate) fn write_block(
 ) -> Result<(), AllocError>
     requires some { start < end }
     requires within { end ≤ length keys.now }
-    ensures { OnOk result (out.new.items ≡ out.old.items ++ block_bytes (slice_range keys.now start end)) }
+    ensures { OnOk result (
+        out.new.items ≡ out.old.items ++ block_bytes (slice_range keys.now start end)) }
 {
     let first = keys.key(start);
     out.push(first.len() as u8)?;

@@ -13,6 +13,6 @@ invariant_of-self-2 c =
     let whole = end_to_end-push chain c.args.dict.value in
     let seen = ap (λ l. length (end_to_end l)) c.self.view_is in (
       subst (λ l. IsChain l) (sym added)
-          (IsChain-push chain c.args.dict.value c.self.invariant.0 (λ key in_dict in_chain. c.requires.absent key in_dict (subst (λ l. Contains (end_to_end l) key) c.self.view_is in_chain)) (omega (arith, seen, c.requires.few))),
+          (IsChain-push chain c.args.dict.value c.self.invariant.0 (λ key in_dict in_chain. c.requires.apart key in_dict (subst (λ l. Contains (end_to_end l) key) c.self.view_is in_chain)) (omega (arith, seen, c.requires.few))),
       omega (arith, ap (λ l. length (end_to_end l)) added, ap (λ l. length l) whole, length-append (end_to_end chain) c.args.dict.value, c.self.invariant.1, c.len.ensures.len, ap (λ l. length l) c.deref.ensures),
     )

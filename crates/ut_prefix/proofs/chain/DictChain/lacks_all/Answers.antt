@@ -1,0 +1,30 @@
+use Rattle.std.proofs.Common.{◌≡◌, ℕ, List, ◌<◌, length, get_or, [], true, false, arith, refl, sym, ◌∙◌, subst, below_more}
+use Rattle.std.specs.List.{Contains}
+use Rattle.std.proofs.lemmas.List.{get_or_default}
+use Rattle.ut_prefix.specs.Chain.{end_to_end}
+use Rattle.ut_prefix.proofs.ChainLemmas.{Contains-found, LacksAll-take}
+use Rattle.ut_prefix.proofs.chain.DictChain.lacks_all.Goals as goal
+
+false_true : false ≡ true → ⊥
+false_true e = cc
+
+pub returns-in-Some : goal.returns-in-Some
+returns-in-Some g c =
+    let asked : c.as_slice.result.now ≡ get_or c.args.dict.now c.loop-code.code [] = c.as_slice.ensures.bytes ∙ c.get.ensures.key in
+    let held = Contains-found (end_to_end c.args.self.now) c.in-Some.field-0 c.as_slice.result.now c.in-Some.ensures.found in (
+      λ e _ _ _. false_true e,
+      λ lacks. absurd (lacks (get_or c.args.dict.now c.loop-code.code []) (c.loop-code.code, omega (arith, c.len-code-end.ensures.len, c.loop-code-test.true), in_dict c.args.dict.now c.loop-code.code (omega (arith, c.len-code-end.ensures.len, c.loop-code-test.true)))
+          (subst (λ (l : List ℕ). Contains (end_to_end c.args.self.now) l) asked held)),
+    )
+  where
+    in_dict : (keys : List (List ℕ)) (i : ℕ) → i < length keys → get_or keys i (get_or keys i []) ≡ get_or keys i []
+    in_dict keys i lt = get_or_default keys i (get_or keys i []) [] lt
+
+pub loop-code-preserved : goal.loop-code-preserved
+loop-code-preserved g c =
+    let asked : c.as_slice.result.now ≡ get_or c.args.dict.now c.loop-code.code [] = c.as_slice.ensures.bytes ∙ c.get.ensures.key in
+    below_more _ _ c.loop-code.invariant (λ held. c.in-None.ensures.absent.0 refl (subst (λ (l : List ℕ). Contains (end_to_end c.args.self.now) l) (sym asked) held))
+
+pub returns : goal.returns
+returns g c =
+    (λ _. LacksAll-take c.args.self.now c.args.dict.now c.loop-code.code (omega (arith, c.len-code-end.ensures.len, c.loop-code-test.false)) c.loop-code.invariant, λ _. refl)
