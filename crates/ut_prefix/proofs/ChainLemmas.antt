@@ -10,6 +10,7 @@ use Rattle.std.proofs.lemmas.Cmp.{nat_list_cmp_total, tied_itself}
 use Rattle.std.specs.List.{slice_get}
 use Rattle.std.proofs.lemmas.Option.{slice_get_within, slice_get-get_or, get_or_from_slice_get}
 use Rattle.std.proofs.lemmas.List.{length-take-le, drop_all, length-map, take_more, take_all, take-append-le, drop-append-le, get_or_append_left, get_or-append-add, get_or-map, take-append-drop}
+use Rattle.std.proofs.Math.Nat.{mul-le-mul_left}
 use Rattle.std.proofs.lemmas.List.Sums.{sum_by_more, sum_by_more_le}
 use Rattle.std.proofs.lemmas.List.Concat.{flat_map-append}
 use Rattle.std.proofs.lemmas.List.Folds.{list_any-append}
@@ -309,3 +310,12 @@ pub LacksAll-take : (chain : List (List (List ℕ))) (keys : List (List ℕ)) (n
 LacksAll-take chain keys n le h = λ key there in_chain.
     let here : get_or keys there.0 [] ≡ key = get_or_from_slice_get keys there.0 key [] (slice_get-get_or keys there.0 key there.1 ∙ ap (λ (l : List ℕ). Some l) there.2) in
     h there.0 (omega (arith, le, there.1)) (subst (λ l. Contains (end_to_end chain) l) (sym here) in_chain)
+
+-- the steps of reading a key and looking it up, so many times
+pub steps_so_far : (most code initial now read new : ℕ) → now ≤ initial + code * (most + 1) → read ≡ now + 1 → new ≤ read + most → new ≤ initial + (code + 1) * (most + 1)
+steps_so_far most code initial now read new h r n = omega (arith, h, r, n)
+
+pub steps_in_all : (most code n initial new : ℕ) → code ≤ n → new ≤ initial + code * (most + 1) → new ≤ initial + n * (most + 1)
+steps_in_all most code n initial new le h =
+    let more = mul-le-mul_left (most + 1) le in
+    omega (arith, h, more)

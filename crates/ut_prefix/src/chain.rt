@@ -1,5 +1,5 @@
 //! Dictionaries laid end to end.
-ghost use Rattle.std.specs.Prelude.{◌≡◌, ℕ, List, [], ◌∷◌, ◌+◌, ◌^◌, ◌<◌, ◌≤◌, ◌++◌, ◌↔◌, length, take, slice_get, slice_index_or, Contains, IsNone, IsTrue, IfSome, OnOk, OnErr};
+ghost use Rattle.std.specs.Prelude.{◌≡◌, [], ◌∷◌, ◌+◌, ◌*◌, ◌^◌, ◌<◌, ◌≤◌, ◌++◌, ◌↔◌, length, take, slice_get, slice_index_or, Contains, IsNone, IsTrue, IfSome, OnOk, OnErr};
 ghost use Rattle.std.specs.Arc.{arc_value};
 ghost use Rattle.ut_prefix.specs.Chain.{chain_steps, end_to_end, ranges_between, shared_dicts, AddsRanges, IsChain, LacksAll};
 
@@ -157,7 +157,8 @@ impl DictChain {
 
     /// Whether none of a dictionary's keys is in the chain.
     pub fn lacks_all<L: Ledger>(&self, dict: &PrefixDict, steps: &mut Steps<L>) -> bool
-        ensures { IsTrue result ↔ LacksAll self.now dict.now }
+        ensures lacks { IsTrue result ↔ LacksAll self.now dict.now }
+        ensures cost { steps.new ≤ steps.old + length dict.now * (chain_steps self.now + 1) }
     {
         for code in 0..dict.len() {
             match self.find(dict.get(code, steps).as_slice(), steps) {
