@@ -1,7 +1,9 @@
 -- What keys read from their bytes are.
 use Rattle.std.proofs.Common.{◌≡◌, ℕ, zero, suc, ◌+◌, ◌-◌, ◌<◌, ◌≤◌, List, [], ◌∷◌, ◌++◌, map, length, take, drop, get_or, refl, sym, ◌∙◌, ap, subst, arith}
 use Rattle.std.proofs.lemmas.List.{length-take, length-drop, length-append, take_all, take-append-le, drop-append-le, drop-drop, drop_at, append_assoc, map-append, take_more}
+use Rattle.std.proofs.lemmas.List.Elements.{All-nil, All-cons}
 use Rattle.ut_key.specs.Arena.{keys_from, start_at, AreEnds}
+use Rattle.ut_key.specs.Keys.{AreShort}
 
 pub length-keys_from : (start : ℕ) (ends bytes : List ℕ) → length (keys_from start ends bytes) ≡ length ends
 length-keys_from start [] bytes = refl
@@ -24,6 +26,13 @@ ends_at start [] size i a h = absurd (omega arith)
 ends_at start (e ∷ es) size zero a h = (a.0, a.1, start_within e es size a.2)
 ends_at start (e ∷ es) size (suc zero) a h = ends_at e es size 0 a.2 (omega arith)
 ends_at start (e ∷ es) size (suc (suc i)) a h = ends_at e es size (suc i) a.2 (omega arith)
+
+-- no key that is read has more than 255 bytes
+pub AreShort-keys_from : (start : ℕ) (ends bytes : List ℕ) → AreEnds start ends (length bytes) → AreShort (keys_from start ends bytes)
+AreShort-keys_from start [] bytes h = All-nil (λ (key : List ℕ). length key ≤ 255)
+AreShort-keys_from start (e ∷ es) bytes h =
+    All-cons (λ (key : List ℕ). length key ≤ 255) (take (e - start) (drop start bytes)) (keys_from e es bytes)
+    (omega (arith, h.1, length-take (e - start) (drop start bytes))) (AreShort-keys_from e es bytes h.2)
 
 -- the place behind each key, where the keys begin at by
 abbrev pub shifted : ℕ → List ℕ → List ℕ

@@ -1,5 +1,5 @@
--- The order of keys by their bytes, and the six comparisons.
-use Rattle.std.specs.Prelude.{◌≡◌, ℕ, ◌<◌, Bool, List, [], length, get_or}
+-- Keys as lists of bytes: their order, how long they are, and the six comparisons.
+use Rattle.std.specs.Prelude.{◌≡◌, ℕ, ◌<◌, ◌≤◌, All, Bool, List, [], length, get_or}
 use Rattle.std.specs.declared.cmp.Ordering.{Ordering}
 use Rattle.std.specs.declared.cmp.Ordering.TheVariants.{Less}
 use Rattle.std.specs.Cmp.Lexicographic.{slice_cmp}
@@ -14,6 +14,10 @@ key_cmp = slice_cmp nat_cmp
 -- each key is below those behind it
 abbrev pub IsAscending : List (List ℕ) → Type 0
 IsAscending keys = (i j : ℕ) → i < j → j < length keys → key_cmp (get_or keys i []) (get_or keys j []) ≡ Less
+
+-- no key has more than 255 bytes
+abbrev pub AreShort : List (List ℕ) → Type 0
+AreShort keys = All (λ key. length key ≤ 255) keys
 
 -- whether a comparison allows an order
 abbrev pub allows : Cmp → Ordering → Bool

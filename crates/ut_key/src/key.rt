@@ -1,5 +1,5 @@
 //! A key of a column: the bytes that a value is ordered by.
-ghost use Rattle.std.specs.Prelude.{◌≡◌, ◌+◌, ◌<◌, ◌≤◌, ◌++◌, [], length, take, ℕ};
+ghost use Rattle.std.specs.Prelude.{◌≡◌, ◌+◌, ◌≤◌, ◌++◌, [], length, take, ℕ};
 ghost use Rattle.ut_key.specs.Keys.{key_cmp};
 
 use crate::steps::Steps;
@@ -7,7 +7,7 @@ use std::cmp::Ordering;
 use std::marker::Model;
 use std::sync::ledger::Ledger;
 
-/// At most 255 bytes, held inline.
+/// At most 255 bytes, held inline: for one key at a time, as it is read or made.
 #[derive(Drop)]
 pub struct Key {
     bytes: [u8; 255],
@@ -23,6 +23,7 @@ impl Model for Key {
 }
 
 impl Key {
+    /// The key of no bytes, the least of all.
     pub fn new() -> Self
         ensures { result ≡ [] }
     {
@@ -32,6 +33,7 @@ impl Key {
         }
     }
 
+    /// A copy of these bytes.
     pub fn from_slice(bytes: &[u8]) -> Self
         requires { length bytes.now ≤ 255 }
         ensures { result ≡ bytes.now }
@@ -41,12 +43,14 @@ impl Key {
         key
     }
 
+    /// How many bytes the key has.
     pub fn len(&self) -> usize
         ensures { result ≡ length self.now }
     {
         usize::from(self.len)
     }
 
+    /// The bytes of the key.
     pub fn as_slice(&self) -> &[u8]
         ensures bytes { result.now ≡ self.now }
         ensures short { length result.now ≤ 255 }
@@ -67,10 +71,13 @@ impl Key {
 }
 
 /// How two keys are ordered by their bytes. This is one step.
-pub fn compare<L: Ledger>(a: &Key, b: &Key, steps: &mut Steps<L>) -> Ordering
+///
+/// A key that is looked up is compared with a stored one by this function alone, so that the
+/// steps of a search are the comparisons that it made.
+pub fn compare<L: Ledger>(a: &[u8], b: &[u8], steps: &mut Steps<L>) -> Ordering
     ensures order { result ≡ key_cmp a.now b.now }
     ensures step { steps.new ≡ steps.old + 1 }
 {
     steps.tick();
-    a.as_slice().cmp(&b.as_slice())
+    a.cmp(&b)
 }

@@ -1,13 +1,13 @@
 //! A list of keys as an arena: all their bytes behind one another, and the place behind each key.
-ghost use Rattle.std.specs.Prelude.{◌≡◌, ◌+◌, ◌<◌, ◌≤◌, ◌++◌, ◌∷◌, [], length, slice_index_or, IfOk, IsTrue, OnOk, OnErr};
+ghost use Rattle.std.specs.Prelude.{◌≡◌, ◌+◌, ◌<◌, ◌≤◌, ◌++◌, ◌∷◌, [], length, slice_index_or, IfOk, IsTrue, OnOk, OnErr, ◌↔◌};
 ghost use Rattle.ut_key.specs.Arena.{AreEnds, keys_from, start_at};
-ghost use Rattle.ut_key.specs.Keys.{IsAscending, key_cmp};
+ghost use Rattle.ut_key.specs.Keys.{AreShort, IsAscending, key_cmp};
 
 use std::alloc::{AllocError, Global};
 use std::cmp::Ordering;
 use std::marker::Model;
 
-/// Keys of at most 255 bytes.
+/// Keys of at most 255 bytes each, at 8 bytes a key beside its own.
 #[derive(Drop)]
 pub struct KeyList {
     bytes: Vec<u8>,
@@ -46,6 +46,7 @@ fn part<'a>(bytes: &'a [u8], ends: &[usize], i: usize) -> &'a [u8]
 }
 
 impl KeyList {
+    /// The list of no keys.
     pub fn new(alloc: Global) -> Self
         ensures { result ≡ [] }
     {
@@ -55,12 +56,25 @@ impl KeyList {
         }
     }
 
+    /// The list of no keys, with room for `keys` keys of `bytes` bytes together.
+    pub fn with_capacity(alloc: Global, keys: usize, bytes: usize) -> Result<Self, AllocError>
+        ensures { IfOk result (λ list. list ≡ []) }
+    {
+        Ok(KeyList {
+            bytes: Vec::with_capacity(alloc, bytes)?,
+            ends: Vec::with_capacity(alloc, keys)?,
+        })
+    }
+
+    /// How many keys there are.
     pub fn len(&self) -> usize
-        ensures { result ≡ length self.now }
+        ensures len { result ≡ length self.now }
+        ensures short { AreShort self.now }
     {
         self.ends.as_slice().len()
     }
 
+    /// The bytes of key `i`.
     pub fn key(&self, i: usize) -> &[u8]
         requires { i < length self.now }
         ensures key { result.now ≡ slice_index_or self.now i [] }
@@ -97,6 +111,7 @@ impl KeyList {
         let shift = bytes.as_slice().len();
         bytes.extend_from_slice(other.bytes.as_slice())?;
         let others = other.ends.as_slice();
+        ends.reserve(others.len())?;
         for end in others {
             ends.push(shift + *end)?;
         }
@@ -115,7 +130,7 @@ pub fn compare_at(a: &KeyList, i: usize, b: &KeyList, j: usize) -> Ordering
 
 /// Whether each key is below those behind it.
 pub fn is_ascending(keys: &KeyList) -> bool
-    ensures { IsTrue result → IsAscending keys.now }
+    ensures { IsTrue result ↔ IsAscending keys.now }
 {
     for i in 1..keys.len() {
         match compare_at(keys, i - 1, keys, i) {

@@ -11,5 +11,5 @@ pub use key::{Key, compare};
 pub use key_list::{KeyList, compare_at, is_ascending};
 pub use steps::Steps;
 
-/// The codes from the first on, up to and without the second.
+/// A range of codes: from the first on, up to and without the second.
 pub type CodeRange = (u32, u32);

@@ -1,5 +1,5 @@
-use Rattle.std.proofs.Common.{◌≡◌, ◌+◌, ◌-◌, ◌≤◌, length, sym, ap, ◌∙◌, take, drop, get_or, arith}
-use Rattle.std.proofs.lemmas.List.{length-take, length-drop}
+use Rattle.std.proofs.Common.{◌-◌, length, sym, ap, ◌∙◌, take, drop, get_or, arith}
+use Rattle.std.proofs.lemmas.List.{length-take}
 use Rattle.ut_key.proofs.ArenaLemmas.{ends_at, key_at}
 use Rattle.ut_key.proofs.key_list.part.Goals as goal
 

@@ -1,7 +1,7 @@
-use Rattle.std.proofs.Common.{◌≡◌, ◌<◌, ◌≤◌, ◌+◌, ◌++◌, length, length-append, sym, ap, ◌∙◌, get_or, [], arith, subst, take, ℕ, List}
+use Rattle.std.proofs.Common.{◌≡◌, ◌<◌, ◌+◌, ◌++◌, length, length-append, ap, ◌∙◌, get_or, arith, subst, take, ℕ, List}
 use Rattle.std.proofs.lemmas.List.{take_all}
 use Rattle.ut_key.proofs.ArenaLemmas.{end_within, joined_keys, joined_ends, shifted, shifted_more}
-use Rattle.ut_key.specs.Arena.{keys_from, AreEnds}
+use Rattle.ut_key.specs.Arena.{keys_from}
 use Rattle.ut_key.proofs.key_list.KeyList.followed_by.Goals as goal
 
 pub overflow_add-shift : goal.overflow_add-shift
@@ -16,12 +16,13 @@ overflow_add-shift c =
 
 pub loop-end-preserved : goal.loop-end-preserved
 loop-end-preserved c =
-    shifted_more (length c.as_slice-shift.result.now) c.loop-end.end-index c.loop-end.ends.items c.self.inside.ends.items c.as_slice-others.result.now c.push.new.self.items c.loop-end-test.true c.loop-end.invariant c.in_ok-push.ensures.items
+    shifted_more (length c.as_slice-shift.result.now) c.loop-end.end-index c.loop-end.ends.items c.reserve.new.self.items c.as_slice-others.result.now c.push.new.self.items c.loop-end-test.true c.loop-end.invariant c.in_ok-push.ensures.items
 
 -- the ends that were written
 written : (c : goal.After-loop-end) → c.loop-end.ends.items ≡ c.self.inside.ends.items ++ shifted (length c.self.inside.bytes.items) c.other.inside.ends.items
 written c =
     c.loop-end.invariant
+    ∙ ap (λ (l : List ℕ). l ++ shifted (length c.as_slice-shift.result.now) (take c.loop-end.end-index c.as_slice-others.result.now)) c.in_ok-reserve.ensures.items
     ∙ ap (λ (l : List ℕ). c.self.inside.ends.items ++ shifted (length l) (take c.loop-end.end-index c.as_slice-others.result.now)) c.as_slice-shift.ensures.value
     ∙ ap (λ (l : List ℕ). c.self.inside.ends.items ++ shifted (length c.self.inside.bytes.items) l) (take_all c.loop-end.end-index c.as_slice-others.result.now c.loop-end-test.false ∙ c.as_slice-others.ensures.value)
 

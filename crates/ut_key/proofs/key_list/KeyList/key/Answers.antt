@@ -1,6 +1,5 @@
-use Rattle.std.proofs.Common.{◌≡◌, ◌<◌, ◌≤◌, length, sym, ap, ◌∙◌, get_or, [], arith, subst}
+use Rattle.std.proofs.Common.{length, sym, ap, ◌∙◌, arith}
 use Rattle.ut_key.proofs.ArenaLemmas.{length-keys_from}
-use Rattle.ut_key.specs.Arena.{keys_from, AreEnds}
 use Rattle.ut_key.proofs.key_list.KeyList.key.Goals as goal
 
 pub part-requires-clause-index : goal.part-requires-clause-index

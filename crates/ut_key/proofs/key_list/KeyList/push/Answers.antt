@@ -1,4 +1,4 @@
-use Rattle.std.proofs.Common.{◌≡◌, ◌++◌, ◌∷◌, [], sym, ap, ◌∙◌, length, List, ℕ}
+use Rattle.std.proofs.Common.{◌≡◌, ◌++◌, ◌∷◌, [], ap, ◌∙◌, length, List, ℕ}
 use Rattle.ut_key.proofs.ArenaLemmas.{push_keys, push_ends}
 use Rattle.ut_key.proofs.key_list.KeyList.push.Goals as goal
 

@@ -1,0 +1,7 @@
+pub mod BlockLemmas
+pub mod OrderLemmas
+pub mod LayoutLemmas
+pub mod SpellingLemmas
+pub mod EntryLemmas
+pub mod ParseLemmas
+pub mod ChainLemmas

@@ -1,0 +1,15 @@
+//! Sorted dictionaries: ascending keys, coded by the bytes that each shares with the one before it.
+#![tactic(auto)]
+
+mod block;
+mod chain;
+mod dict;
+mod parse;
+mod search;
+mod write;
+
+pub use chain::DictChain;
+pub use dict::PrefixDict;
+
+#[cfg(test)]
+mod tests;
