@@ -343,7 +343,7 @@ unused-none bits xs h le e =
 top_digit : (a p b u : ℕ) → a + p * b < p * u → b < u
 top_digit a p b u h = elim (cases_lt b u) [ inl lt ↦ lt | inr le ↦ absurd (let m : p * u ≤ p * b = mul-le p u p b (omega arith) le in omega arith) ]
 
-div-zero : (b m : ℕ) → 0 < m → b / m ≡ 0 → b < m
+pub div-zero : (b m : ℕ) → 0 < m → b / m ≡ 0 → b < m
 div-zero b m pos e = let z : m * (b / m) ≡ m * 0 = ap (λ (k : ℕ). m * k) e in omega (arith, z, whole b m, mod_below b m pos)
 
 zero-div_below : (b m : ℕ) → b < m → b / m ≡ 0

@@ -30,3 +30,11 @@ places_from-one test i c e = rw e refl
 
 pub places_from-none : {X : Type 0} (test : X → Bool) (i : ℕ) (c : X) → test c ≡ false → places_from test i (c ∷ []) ≡ []
 places_from-none test i c e = rw e refl
+
+pub places_from-both : {X : Type 0} (test : X → Bool) (i : ℕ) (xs ys : List X)
+    → places_from test i (xs ++ ys) ≡ places_from test i xs ++ places_from test (i + length xs) ys
+places_from-both test i [] ys = let e : i ≡ i + 0 = omega arith in ap (λ (n : ℕ). places_from test n ys) e
+places_from-both test i (x ∷ xs) ys =
+    let e : i + 1 + length xs ≡ i + suc (length xs) = omega arith in
+    if-append (test x) i (places_from test (i + 1) (xs ++ ys)) (places_from test (i + 1) xs) (places_from test (i + suc (length xs)) ys)
+    (places_from-both test (i + 1) xs ys ∙ ap (λ (n : ℕ). places_from test (i + 1) xs ++ places_from test n ys) e)

@@ -4,6 +4,8 @@
 mod bit_list;
 mod bit_writer;
 mod ranges;
+mod words;
 
 pub use bit_list::{BitList, BitListWriter};
 pub use ranges::is_in;
+pub use words::{append_word, append_words, read_word};
