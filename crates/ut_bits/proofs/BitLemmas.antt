@@ -112,7 +112,7 @@ AllBelow-at n (x ∷ xs) zero h below = h.0
 AllBelow-at n (x ∷ xs) (suc i) h below = AllBelow-at n xs i h.1 (omega arith)
 
 -- the low fields of a number that has one more in front
-mod_in_front : (x n m p : ℕ) → x < m → 0 < p → (x + m * n) % (m * p) ≡ x + m * (n % p)
+pub mod_in_front : (x n m p : ℕ) → x < m → 0 < p → (x + m * n) % (m * p) ≡ x + m * (n % p)
 mod_in_front x n m p h pos =
     let below : x + m * (n % p) < m * p = below_product x (n % p) m p h (mod_below n p pos) in
     let split : n / p * p + n % p ≡ n = div-add-mod' n p in

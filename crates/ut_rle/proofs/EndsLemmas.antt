@@ -42,11 +42,12 @@ pub write-run : (limit : ℕ) (rs after : List Run) (r : Run) (codes : List ℕ)
     → expanded (lengths_from 0 rs) ++ copies (r.end - end_from 0 rs) r.code ≡ codes → AreRuns limit (lengths_from 0 rs) → is_last_code (lengths_from 0 rs) r.code ≡ false → r.code < limit
     → (end_from 0 after ≡ r.end) × (expanded (lengths_from 0 after) ≡ codes) × AreRuns limit (lengths_from 0 after) × ((d : ℕ) → is_last_code (lengths_from 0 after) d ≡ eqb r.code d)
 write-run limit rs after r codes e begun is runs other below =
-    let lengths : lengths_from 0 after ≡ lengths_from 0 rs ++ (r.code, r.end - end_from 0 rs) ∷ [] = ap (λ l. lengths_from 0 l) e ∙ lengths_from-push 0 rs r in
-    ( ap (λ l. end_from 0 l) e ∙ end_from-push 0 rs r
-        , ap (λ l. expanded l) lengths ∙ expanded-push (lengths_from 0 rs) r.code (r.end - end_from 0 rs) ∙ is
-        , subst (λ l. AreRuns limit l) (sym lengths) (AreRuns-push limit (lengths_from 0 rs) r.code (r.end - end_from 0 rs) runs other below (omega arith))
-        , λ d. ap (λ l. is_last_code l d) lengths ∙ is_last_code-push (lengths_from 0 rs) r.code (r.end - end_from 0 rs) d)
+    let lengths : lengths_from 0 after ≡ lengths_from 0 rs ++ (r.code, r.end - end_from 0 rs) ∷ [] = ap (λ l. lengths_from 0 l) e ∙ lengths_from-push 0 rs r in (
+      ap (λ l. end_from 0 l) e ∙ end_from-push 0 rs r,
+      ap (λ l. expanded l) lengths ∙ expanded-push (lengths_from 0 rs) r.code (r.end - end_from 0 rs) ∙ is,
+      subst (λ l. AreRuns limit l) (sym lengths) (AreRuns-push limit (lengths_from 0 rs) r.code (r.end - end_from 0 rs) runs other below (omega arith)),
+      λ d. ap (λ l. is_last_code l d) lengths ∙ is_last_code-push (lengths_from 0 rs) r.code (r.end - end_from 0 rs) d,
+    )
 
 take-more : (codes : List ℕ) (i : ℕ) → i < length codes → take (i + 1) codes ≡ take i codes ++ get_or codes i 0 ∷ []
 take-more codes i h = ap (λ (k : ℕ). take k codes) (add-one i) ∙ take-suc codes i 0 h
@@ -206,19 +207,23 @@ pub below-codes : (limit other at : ℕ) (rs : List Run) → AreRuns limit (leng
 below-codes limit other at [] h = (λ _. tt, λ _. refl)
 below-codes limit other at (r ∷ rs) h =
     let rest = below-codes limit other r.end rs h.3 in
-    elim (cases_lt r.code other)
-        [ inl small ↦
-            let test : nat_lt r.code other ≡ true = lt-ltb r.code other small in
-            ( λ all. AllBelow-append other (copies (r.end - at) r.code) (expanded (lengths_from r.end rs)) (AllBelow-copies other (r.end - at) r.code small) (rest.0 (rw test at all))
-                , λ all. rw test (rest.1 (AllBelow-behind other (copies (r.end - at) r.code) (expanded (lengths_from r.end rs)) all)))
-        | inr large ↦
-            let test : nat_lt r.code other ≡ false = le-ltb r.code other large in
-            ( λ all. absurd (let no : false ≡ true = rw test at all in cc)
-                , λ all. absurd (omega (arith, large, first other (r.end - at) r.code (expanded (lengths_from r.end rs)) h.1 all))) ]
+    elim (cases_lt r.code other) [
+      | inl small ↦
+          let test : nat_lt r.code other ≡ true = lt-ltb r.code other small in (
+            λ all. AllBelow-append other (copies (r.end - at) r.code) (expanded (lengths_from r.end rs)) (AllBelow-copies other (r.end - at) r.code small) (rest.0 (rw test at all)),
+            λ all. rw test (rest.1 (AllBelow-behind other (copies (r.end - at) r.code) (expanded (lengths_from r.end rs)) all)),
+          )
+      | inr large ↦
+          let test : nat_lt r.code other ≡ false = le-ltb r.code other large in (
+            λ all. absurd (let no : false ≡ true = rw test at all in cc),
+            λ all. absurd (omega (arith, large, first other (r.end - at) r.code (expanded (lengths_from r.end rs)) h.1 all)),
+          )
+    ]
   where
     AllBelow-behind : (n : ℕ) (xs ys : List ℕ) → AllBelow n (xs ++ ys) → AllBelow n ys
     AllBelow-behind n [] ys h = h
     AllBelow-behind n (x ∷ xs) ys h = AllBelow-behind n xs ys h.1
+
     first : (limit n c : ℕ) (ys : List ℕ) → 0 < n → AllBelow limit (copies n c ++ ys) → c < limit
     first limit zero c ys pos h = absurd (omega arith)
     first limit (suc n) c ys pos h = h.0

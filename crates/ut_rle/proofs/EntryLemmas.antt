@@ -42,9 +42,10 @@ pub entry-at : (n k : ℕ) (bytes : List ℕ) (code size : ℕ) → k < n → co
     → ((get_or (entries_in n bytes) k (0, 0)).0 ≡ code) × ((get_or (entries_in n bytes) k (0, 0)).1 ≡ size)
 entry-at n k bytes code size h e f =
     let rest = take-rest (8 * k) bytes in
-    let here = get_or-entries_in n k bytes h in
-    ( ap (λ r. r.0) here ∙ sym (e ∙ ap (λ (l : List ℕ). word_in l) rest)
-        , ap (λ r. r.1) here ∙ sym (f ∙ ap (λ (l : List ℕ). word_in (drop 4 l)) rest))
+    let here = get_or-entries_in n k bytes h in (
+      ap (λ r. r.0) here ∙ sym (e ∙ ap (λ (l : List ℕ). word_in l) rest),
+      ap (λ r. r.1) here ∙ sym (f ∙ ap (λ (l : List ℕ). word_in (drop 4 l)) rest),
+    )
 
 -- no run goes past the rows
 pub rows_of-take : (rs : List (ℕ × ℕ)) (k : ℕ) → k < length rs → rows_of (take k rs) + (get_or rs k (0, 0)).1 ≤ rows_of rs
@@ -157,13 +158,14 @@ run_bytes-front width codes rest bytes narrow small h e =
     let fit = AllFit-AreRuns (2 ^ width) (runs_of codes) (power-fits width narrow) proper (omega (arith, rows, small)) in
     let front : bytes ≡ word_bytes (length (runs_of codes)) ++ (entries_of (runs_of codes) ++ rest) = e ∙ append_assoc (word_bytes (length (runs_of codes))) (entries_of (runs_of codes)) rest in
     let behind : drop 4 bytes ≡ entries_of (runs_of codes) ++ rest = ap (λ (l : List ℕ). drop 4 l) front ∙ drop-word_bytes (length (runs_of codes)) (entries_of (runs_of codes) ++ rest) in
-    let long = ap (λ (l : List ℕ). length l) front in
-    ( omega (arith, long, length-append (word_bytes (length (runs_of codes))) (entries_of (runs_of codes) ++ rest), length-word_bytes (length (runs_of codes)))
-        , ap (λ (l : List ℕ). word_in l) front ∙ word_in-word_bytes (length (runs_of codes)) _ (omega (arith, few, rows, small))
-        , omega (arith, ap (λ (l : List ℕ). length l) behind, length-append (entries_of (runs_of codes)) rest, length-entries_of (runs_of codes))
-        , ap (λ (l : List ℕ). entries_in (length (runs_of codes)) l) behind ∙ entries_in-entries_of (runs_of codes) rest fit
-        , proper
-        , rows)
+    let long = ap (λ (l : List ℕ). length l) front in (
+      omega (arith, long, length-append (word_bytes (length (runs_of codes))) (entries_of (runs_of codes) ++ rest), length-word_bytes (length (runs_of codes))),
+      ap (λ (l : List ℕ). word_in l) front ∙ word_in-word_bytes (length (runs_of codes)) _ (omega (arith, few, rows, small)),
+      omega (arith, ap (λ (l : List ℕ). length l) behind, length-append (entries_of (runs_of codes)) rest, length-entries_of (runs_of codes)),
+      ap (λ (l : List ℕ). entries_in (length (runs_of codes)) l) behind ∙ entries_in-entries_of (runs_of codes) rest fit,
+      proper,
+      rows,
+    )
 
 -- the bytes that were read
 pub run_bytes-read : (n : ℕ) (codes bytes : List ℕ) → AllBelow 256 bytes → 4 ≤ length bytes → 8 * n ≤ length (drop 4 bytes) → n ≡ word_in bytes → runs_of codes ≡ entries_in n (drop 4 bytes)

@@ -109,4 +109,3 @@ AllBelow-copies limit (suc n) c h = (h, AllBelow-copies limit n c h)
 pub AllBelow-expanded : (limit : ℕ) (rs : List (ℕ × ℕ)) → AreRuns limit rs → AllBelow limit (expanded rs)
 AllBelow-expanded limit [] h = tt
 AllBelow-expanded limit (r ∷ rs) h = AllBelow-append limit (copies r.1 r.0) (expanded rs) (AllBelow-copies limit r.1 r.0 h.0) (AllBelow-expanded limit rs h.3)
-

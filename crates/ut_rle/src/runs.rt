@@ -3,8 +3,8 @@ ghost use Rattle.ut_bits.specs.Bits.{AllBelow};
 ghost use Rattle.ut_bits.specs.Places.{is_in, places_where};
 ghost use Rattle.ut_rle.specs.Runs.{runs_of, run_bytes};
 
-use crate::run::Run;
 use crate::reading::read_runs;
+use crate::run::Run;
 use crate::scan::{append_codes, append_entries, append_places_in, codes_are_below, run_at};
 use std::alloc::{AllocError, Global};
 use std::marker::Model;
@@ -41,17 +41,27 @@ impl Runs {
     {
         let mut runs = Vec::new(alloc);
         if codes.is_empty() {
-            return Ok(Runs { runs, len: 0, width });
+            return Ok(Runs {
+                runs,
+                len: 0,
+                width,
+            });
         }
         let mut current = codes[0];
         for i in 1..codes.len() {
             if codes[i] != current {
-                runs.push(Run { code: current, end: i as u32 })?;
+                runs.push(Run {
+                    code: current,
+                    end: i as u32,
+                })?;
                 current = codes[i];
             }
         }
         let len = codes.len() as u32;
-        runs.push(Run { code: current, end: len })?;
+        runs.push(Run {
+            code: current,
+            end: len,
+        })?;
         Ok(Runs { runs, len, width })
     }
 
@@ -152,7 +162,11 @@ impl Runs {
         let Some(runs) = read_runs(alloc, entries, count, rows, width)? else {
             return Ok(None);
         };
-        let vector = Runs { runs, len: rows, width };
+        let vector = Runs {
+            runs,
+            len: rows,
+            width,
+        };
         Ok(Some((vector, 4 + 8 * count)))
     }
 }

@@ -61,10 +61,10 @@ loop-k-preserved c =
     let lengths = ap (λ l. lengths_from 0 l) c.in_ok-push.ensures.items ∙ lengths_from-push 0 c.loop-k.runs.items _ in
     let ends = ap (λ l. end_from 0 l) c.in_ok-push.ensures.items ∙ end_from-push 0 c.loop-k.runs.items _ in
     record {
-        listed = push-entry c.loop-k.runs.items c.push.new.self.items _ (entries_in c.args.count c.args.entries.now) c.loop-k.k c.in_ok-push.ensures.items inv.listed (omega (arith, size, c.loop-k-test.true)) here.0 (here.1 ∙ omega (arith, inv.ended));
-        proper = subst (λ l. AreRuns (2 ^ c.args.width) l) (sym lengths) (AreRuns-push (2 ^ c.args.width) (lengths_from 0 c.loop-k.runs.items) _ _ inv.proper other small (omega (arith, inv.ended, long)));
-        ended = sym ends;
-        within = omega (arith, c.if-entry-rows.false, inv.within)
+      listed = push-entry c.loop-k.runs.items c.push.new.self.items _ (entries_in c.args.count c.args.entries.now) c.loop-k.k c.in_ok-push.ensures.items inv.listed (omega (arith, size, c.loop-k-test.true)) here.0 (here.1 ∙ omega (arith, inv.ended));
+      proper = subst (λ l. AreRuns (2 ^ c.args.width) l) (sym lengths) (AreRuns-push (2 ^ c.args.width) (lengths_from 0 c.loop-k.runs.items) _ _ inv.proper other small (omega (arith, inv.ended, long)));
+      ended = sym ends;
+      within = omega (arith, c.if-entry-rows.false, inv.within);
     }
 
 pub returns-then-end-rows-clause-none : goal.returns-then-end-rows-clause-none

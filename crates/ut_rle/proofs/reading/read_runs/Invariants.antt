@@ -8,5 +8,5 @@ invariant-loop-k l = record {
   listed : lengths_from 0 l.runs.items ≡ take l.k (entries_in l.count l.entries);
   proper : AreRuns (2 ^ l.width) (lengths_from 0 l.runs.items);
   ended : l.end ≡ end_from 0 l.runs.items;
-  within : l.end ≤ l.rows
+  within : l.end ≤ l.rows;
 }

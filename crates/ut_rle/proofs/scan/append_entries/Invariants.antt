@@ -6,5 +6,5 @@ use Rattle.ut_rle.proofs.scan.append_entries.Given as goal
 abbrev pub invariant-loop-run : goal.invariant-loop-run
 invariant-loop-run l = record {
   begun : l.from ≡ end_from 0 (take l.run-index l.runs);
-  entries : l.out.items ≡ l.initial.out.items ++ entries_of (lengths_from 0 (take l.run-index l.runs))
+  entries : l.out.items ≡ l.initial.out.items ++ entries_of (lengths_from 0 (take l.run-index l.runs));
 }

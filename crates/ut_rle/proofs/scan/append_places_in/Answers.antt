@@ -15,15 +15,16 @@ loop-run-preserved c =
     let inv = c.loop-run.invariant in
     let run = get_or c.args.runs.now c.loop-run.run-index no_run in
     record {
-        begun = sym (end_from-take 0 c.args.runs.now c.loop-run.run-index no_run c.loop-run-test.true);
-        places =
-            elim c.if-is_in.branch
-                [ then-is_in+in-Ok w ↦
-                    ap (λ v. v.items) w.out-is ∙ w.in-Ok.ensures.ok
-                    ∙ ap (λ l. l ++ range_with_len c.loop-run.from (run.end - c.loop-run.from)) inv.places ∙ append_assoc c.args.out.now.items _ _
-                    ∙ ap (λ l. c.args.out.now.items ++ l) (ap (λ (n : ℕ). places_from (is_in c.args.ranges.now) 0 (expanded (lengths_from 0 (take c.loop-run.run-index c.args.runs.now))) ++ range_with_len n (run.end - n)) inv.begun
-                    ∙ sym (places-hit (is_in c.args.ranges.now) c.args.runs.now c.loop-run.run-index no_run c.requires c.loop-run-test.true (sym c.is_in.ensures ∙ w.if-is_in.true)))
-                | else-is_in w ↦
-                    ap (λ v. v.items) w.out-is ∙ inv.places
-                    ∙ ap (λ l. c.args.out.now.items ++ l) (sym (places-miss (is_in c.args.ranges.now) c.args.runs.now c.loop-run.run-index no_run c.requires c.loop-run-test.true (sym c.is_in.ensures ∙ w.if-is_in.false))) ]
+      begun = sym (end_from-take 0 c.args.runs.now c.loop-run.run-index no_run c.loop-run-test.true);
+      places =
+          elim c.if-is_in.branch [
+            | then-is_in+in-Ok w ↦
+                ap (λ v. v.items) w.out-is ∙ w.in-Ok.ensures.ok
+                ∙ ap (λ l. l ++ range_with_len c.loop-run.from (run.end - c.loop-run.from)) inv.places ∙ append_assoc c.args.out.now.items _ _
+                ∙ ap (λ l. c.args.out.now.items ++ l) (ap (λ (n : ℕ). places_from (is_in c.args.ranges.now) 0 (expanded (lengths_from 0 (take c.loop-run.run-index c.args.runs.now))) ++ range_with_len n (run.end - n)) inv.begun
+                ∙ sym (places-hit (is_in c.args.ranges.now) c.args.runs.now c.loop-run.run-index no_run c.requires c.loop-run-test.true (sym c.is_in.ensures ∙ w.if-is_in.true)))
+            | else-is_in w ↦
+                ap (λ v. v.items) w.out-is ∙ inv.places
+                ∙ ap (λ l. c.args.out.now.items ++ l) (sym (places-miss (is_in c.args.ranges.now) c.args.runs.now c.loop-run.run-index no_run c.requires c.loop-run-test.true (sym c.is_in.ensures ∙ w.if-is_in.false)))
+          ];
     }

@@ -7,5 +7,5 @@ use Rattle.ut_rle.proofs.scan.append_places_in.Given as goal
 abbrev pub invariant-loop-run : goal.invariant-loop-run
 invariant-loop-run l = record {
   begun : l.from ≡ end_from 0 (take l.run-index l.runs);
-  places : l.out.items ≡ l.initial.out.items ++ places_where (is_in l.ranges) (expanded (lengths_from 0 (take l.run-index l.runs)))
+  places : l.out.items ≡ l.initial.out.items ++ places_where (is_in l.ranges) (expanded (lengths_from 0 (take l.run-index l.runs)));
 }

@@ -8,8 +8,8 @@ loop-low-init c =
     let some = some-run c.args.runs.now c.args.i c.requires in
     let last = end_from-last 0 c.args.runs.now some in
     record {
-        ordered = omega arith;
-        within = omega (arith, some);
-        before = λ h. absurd (omega arith);
-        holds = omega (arith, last, c.requires)
+      ordered = omega arith;
+      within = omega (arith, some);
+      before = λ h. absurd (omega arith);
+      holds = omega (arith, last, c.requires);
     }

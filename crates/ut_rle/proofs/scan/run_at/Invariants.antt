@@ -6,7 +6,7 @@ invariant-loop-low l = record {
   ordered : l.low ≤ l.high;
   within : l.high < length l.runs;
   before : 0 < l.low → get_or (map (λ r. r.end) l.runs) (l.low - 1) 0 ≤ l.i;
-  holds : l.i < get_or (map (λ r. r.end) l.runs) l.high 0
+  holds : l.i < get_or (map (λ r. r.end) l.runs) l.high 0;
 }
 
 abbrev pub decreases-loop-low : goal.decreases-loop-low

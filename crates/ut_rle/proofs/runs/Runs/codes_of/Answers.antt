@@ -9,4 +9,3 @@ use Rattle.ut_rle.proofs.runs.Runs.codes_of.Goals as goal
 
 pub append_codes-requires : goal.append_codes-requires
 append_codes-requires c = subst (λ l. Ascend 0 l) (sym c.as_slice.ensures.value) (Ascend-AreRuns _ 0 c.self.inside.runs.items c.self.invariant.3)
-

@@ -11,28 +11,29 @@ use Rattle.ut_rle.proofs.runs.Runs.from_codes.Goals.{then-codes-i+in_ok-push, el
 pub loop-i-preserved : goal.loop-i-preserved
 loop-i-preserved c =
     let inv = c.loop-i.invariant in
-    elim c.if-codes-i.branch
-        [ then-codes-i+in_ok-push w ↦
-            let done = write-run (2 ^ c.args.width) c.loop-i.runs.items w.push.new.self.items _ _ w.in_ok-push.ensures.items inv.begun inv.codes inv.runs inv.other inv.below in
-            rw (w.runs-is, w.current-is)
-            record {
-                begun = omega (arith, done.0);
-                within = omega arith;
-                codes = run-begins (expanded (lengths_from 0 w.push.new.self.items)) c.args.codes.now c.loop-i.i (end_from 0 w.push.new.self.items) done.0 c.loop-i-test.true done.1;
-                runs = done.2;
-                other = done.3 _ ∙ ne_eqb _ _ (λ e. w.if-codes-i.true (sym e));
-                below = AllBelow-at _ c.args.codes.now c.loop-i.i c.requires.below c.loop-i-test.true
-            }
-        | else-codes-i w ↦
-            rw (w.runs-is, w.current-is)
-            record {
-                begun = omega (arith, inv.begun);
-                within = omega arith;
-                codes = run-goes_on (expanded (lengths_from 0 c.loop-i.runs.items)) c.args.codes.now c.loop-i.i (end_from 0 c.loop-i.runs.items) c.loop-i.current inv.begun c.loop-i-test.true w.if-codes-i.false inv.codes;
-                runs = inv.runs;
-                other = inv.other;
-                below = inv.below
-            } ]
+    elim c.if-codes-i.branch [
+      | then-codes-i+in_ok-push w ↦
+          let done = write-run (2 ^ c.args.width) c.loop-i.runs.items w.push.new.self.items _ _ w.in_ok-push.ensures.items inv.begun inv.codes inv.runs inv.other inv.below in
+          rw (w.runs-is, w.current-is)
+          record {
+            begun = omega (arith, done.0);
+            within = omega arith;
+            codes = run-begins (expanded (lengths_from 0 w.push.new.self.items)) c.args.codes.now c.loop-i.i (end_from 0 w.push.new.self.items) done.0 c.loop-i-test.true done.1;
+            runs = done.2;
+            other = done.3 _ ∙ ne_eqb _ _ (λ e. w.if-codes-i.true (sym e));
+            below = AllBelow-at _ c.args.codes.now c.loop-i.i c.requires.below c.loop-i-test.true;
+          }
+      | else-codes-i w ↦
+          rw (w.runs-is, w.current-is)
+          record {
+            begun = omega (arith, inv.begun);
+            within = omega arith;
+            codes = run-goes_on (expanded (lengths_from 0 c.loop-i.runs.items)) c.args.codes.now c.loop-i.i (end_from 0 c.loop-i.runs.items) c.loop-i.current inv.begun c.loop-i-test.true w.if-codes-i.false inv.codes;
+            runs = inv.runs;
+            other = inv.other;
+            below = inv.below;
+          }
+    ]
 
 pub invariant_of-result-2 : goal.invariant_of-result-2
 invariant_of-result-2 c =

@@ -10,5 +10,5 @@ invariant-loop-i l = record {
   codes : expanded (lengths_from 0 l.runs.items) ++ copies (l.i - end_from 0 l.runs.items) l.current ≡ take l.i l.codes;
   runs : AreRuns (2 ^ l.width) (lengths_from 0 l.runs.items);
   other : is_last_code (lengths_from 0 l.runs.items) l.current ≡ false;
-  below : l.current < 2 ^ l.width
+  below : l.current < 2 ^ l.width;
 }
