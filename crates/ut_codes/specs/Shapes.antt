@@ -27,3 +27,7 @@ pub record IsChosen (shape : Shape) (reach : ℕ) : Type 0 where
   pub form : form_of (coded_in shape).codes reach ≡ form_in shape
   pub below : AllBelow reach (coded_in shape).codes
   pub few : length (coded_in shape).codes ≤ 2 ^ 31
+
+-- the codes are below their reach, and this is their form of least size
+abbrev pub IsForm : List ℕ → ℕ → Form → Type 0
+IsForm codes reach form = AllBelow reach codes × (form_of codes reach ≡ form)

@@ -1,4 +1,4 @@
-ghost use Rattle.std.specs.Prelude.{◌≡◌, ◌^◌, ◌<◌, ◌≤◌, length, slice_index, IfOk, OnOk, OnErr, ◌++◌};
+ghost use Rattle.std.specs.Prelude.{◌≡◌, ◌^◌, ◌<◌, ◌≤◌, length, slice_index, take, List, ℕ, ◌≢◌, IfOk, IfSome, IfNone, OnOk, OnErr, ◌++◌};
 ghost use Rattle.ut_bits.specs.Bits.{AllBelow};
 ghost use Rattle.ut_bits.specs.Places.{is_in, places_where};
 ghost use Rattle.ut_codes.specs.Sizes.{code_width};
@@ -7,6 +7,7 @@ ghost use Rattle.ut_codes.specs.Shapes.{coded_in, form_in};
 
 use crate::choice::choose;
 use crate::form::{Form, width_of};
+use crate::reading::{is_least, shape_from};
 use std::alloc::{AllocError, Global};
 use std::marker::Model;
 use ut_packed::Packed;
@@ -133,6 +134,35 @@ impl CodeVec {
                 Err(failed)
             }
         }
+    }
+
+    /// The vector that begins the bytes, and how many bytes it takes.
+    pub fn from_bytes(
+        alloc: Global,
+        bytes: &[u8],
+        rows: u32,
+        reach: u32,
+    ) -> Result<Option<(CodeVec, usize)>, AllocError>
+        requires { rows ≤ 2 ^ 31 }
+        ensures within { IfOk result (λ found. IfSome found (λ r. r.1 ≤ length bytes.now)) }
+        ensures reach { IfOk result (λ found. IfSome found (λ r. r.0.reach ≡ reach)) }
+        ensures rows { IfOk result (λ found. IfSome found (λ r. length r.0.codes ≡ rows)) }
+        ensures below { IfOk result (λ found. IfSome found (λ r. AllBelow reach r.0.codes)) }
+        ensures spelled { IfOk result (λ found. IfSome found (λ r. take r.1 bytes.now ≡ code_bytes r.0.codes reach)) }
+        ensures none { IfOk result (λ found. IfNone found ((codes rest : List ℕ) → length codes ≡ rows → AllBelow reach codes → bytes.now ≢ code_bytes codes reach ++ rest)) }
+    {
+        if bytes.is_empty() {
+            return Ok(None);
+        }
+        let width = width_of(reach);
+        let behind = &bytes[1..];
+        let Some((shape, count)) = shape_from(alloc, bytes[0], behind, rows, width)? else {
+            return Ok(None);
+        };
+        if !is_least(alloc, &shape, reach)? {
+            return Ok(None);
+        }
+        Ok(Some((CodeVec { shape, reach }, 1 + count)))
     }
 }
 

@@ -4,6 +4,7 @@
 mod choice;
 mod code_vec;
 mod form;
+mod reading;
 
 pub use code_vec::CodeVec;
 pub use form::{Form, width_of};

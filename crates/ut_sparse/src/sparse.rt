@@ -111,6 +111,13 @@ impl Sparse {
         code_here(self.left_out, &self.marks, &self.others, i, rank)
     }
 
+    /// All codes in order.
+    pub fn codes(&self, alloc: Global) -> Result<Vec<u32>, AllocError>
+        ensures { IfOk result (λ v. v.items ≡ self.now.codes) }
+    {
+        merged_codes(alloc, self.left_out, &self.marks, &self.others)
+    }
+
     /// Appends the places, ascending, whose code stands in one of the ranges.
     pub fn places_in(&self, ranges: &[(u32, u32)], out: &mut Vec<u32>) -> Result<(), AllocError>
         ensures ok { OnOk result (out.new.items ≡ out.old.items ++ places_where (is_in ranges.now) self.now.codes) }
