@@ -65,6 +65,7 @@ front-number n xs h le =
         split [] (suc n) = refl
         split (x ∷ xs) zero = refl
         split (x ∷ xs) (suc n) = ap (λ (l : List ℕ). x ∷ l) (split xs n)
+
         reduced : (n : ℕ) (xs : List ℕ) → AllBelow 256 xs → n ≤ length xs → number_of (take n xs) ≡ number_of xs % 256 ^ n
         reduced n xs h le =
             let size : length (take n xs) ≡ n = length-take-le n xs le in

@@ -8,3 +8,6 @@ mod reading;
 
 pub use code_vec::CodeVec;
 pub use form::{Form, width_of};
+
+#[cfg(test)]
+mod tests;
