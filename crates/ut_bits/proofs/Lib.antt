@@ -1,0 +1,4 @@
+pub mod BitLemmas
+pub mod ListLemmas
+pub mod PlacesLemmas
+pub mod WordLemmas

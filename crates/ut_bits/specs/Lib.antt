@@ -1,0 +1,4 @@
+pub mod Bits
+pub mod Coded
+pub mod Places
+pub mod Words

@@ -1,0 +1,11 @@
+//! Lists of codes packed at a width of bits into bytes, the lowest bits first.
+#![tactic(auto)]
+
+mod bit_list;
+mod bit_writer;
+mod ranges;
+mod words;
+
+pub use bit_list::{BitList, BitListWriter};
+pub use ranges::is_in;
+pub use words::{append_word, append_words, read_word};

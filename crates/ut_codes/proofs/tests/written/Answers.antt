@@ -1,0 +1,6 @@
+use Rattle.std.proofs.Common.{◌≡◌, true, sym, ◌∙◌}
+use Rattle.ut_codes.proofs.SizeLemmas.{below-test}
+use Rattle.ut_codes.proofs.tests.written.Goals as goal
+
+pub from_codes-requires-clause-below : goal.from_codes-requires-clause-below
+from_codes-requires-clause-below g c = (below-test c.args.reach c.args.codes.now).0 cc

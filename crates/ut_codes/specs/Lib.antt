@@ -1,0 +1,4 @@
+pub mod Reached
+pub mod Sizes
+pub mod Forms
+pub mod Shapes

@@ -1,0 +1,6 @@
+use Rattle.std.proofs.Common.{◌≡◌, ◌++◌, take, [], ◌∷◌}
+use Rattle.ut_bits.specs.Places.{places_where, is_in}
+use Rattle.ut_packed.proofs.packed.places_between.Given as goal
+
+abbrev pub invariant-loop-i : goal.invariant-loop-i
+invariant-loop-i l = l.out.items ≡ l.initial.out.items ++ places_where (is_in (l.range ∷ [])) (take l.i l.list.codes)

@@ -1,0 +1,6 @@
+//! The packed form of a code vector: each code takes the same number of bits.
+#![tactic(auto)]
+
+mod packed;
+
+pub use packed::Packed;

@@ -1,0 +1,165 @@
+ghost use Rattle.std.specs.Prelude.{◌≡◌, ◌^◌, ◌<◌, ◌≤◌, length, slice_index, IfOk, IfSome, IfNone, OnOk, OnErr, ◌++◌, ◌∷◌, [], ◌≢◌, List, ℕ, take};
+ghost use Rattle.ut_bits.specs.Bits.{AllBelow, packed_bytes};
+ghost use Rattle.ut_bits.specs.Places.{is_in, places_where};
+
+use std::alloc::{AllocError, Global};
+use std::marker::Model;
+use ut_bits::{BitList, is_in};
+
+/// A vector of codes of `width` bits each, one behind the other.
+#[derive(Drop)]
+pub struct Packed {
+    list: BitList,
+}
+
+impl Model for Packed {
+    ghost use Rattle.ut_bits.specs.Coded.{Coded};
+
+    ghost Value = { Coded };
+
+    ghost view = { λ p. p.list };
+}
+
+impl Packed {
+    /// The codes, each in `width` bits.
+    pub fn from_codes(alloc: Global, codes: &[u32], width: u8) -> Result<Self, AllocError>
+        requires width { width ≤ 32 }
+        requires below { AllBelow (2 ^ width) codes.now }
+        requires count { length codes.now ≤ 2 ^ 31 }
+        ensures width { IfOk result (λ p. p.width ≡ width) }
+        ensures codes { IfOk result (λ p. p.codes ≡ codes.now) }
+    {
+        Ok(Packed {
+            list: BitList::from_codes(alloc, codes, width)?,
+        })
+    }
+
+    pub fn len(&self) -> u32
+        ensures len { result ≡ length self.now.codes }
+        ensures small { result ≤ 2 ^ 31 }
+    {
+        self.list.len()
+    }
+
+    /// How many bits each code has.
+    pub fn width(&self) -> u8
+        ensures width { result ≡ self.now.width }
+        ensures small { result ≤ 32 }
+    {
+        self.list.width()
+    }
+
+    pub fn get(&self, i: u32) -> u32
+        requires { i < length self.now.codes }
+        ensures { result ≡ slice_index self.now.codes i }
+    {
+        self.list.get(i)
+    }
+
+    /// Appends the places, ascending, whose code stands in one of the ranges.
+    pub fn places_in(&self, ranges: &[(u32, u32)], out: &mut Vec<u32>) -> Result<(), AllocError>
+        ensures ok { OnOk result (out.new.items ≡ out.old.items ++ places_where (is_in ranges.now) self.now.codes) }
+        ensures err { OnErr result (out.new.items ≡ out.old.items) }
+    {
+        if ranges.len() == 1 {
+            return places_between(&self.list, ranges[0], out);
+        }
+        places_among(&self.list, ranges, out)
+    }
+
+    /// Appends all codes in order.
+    pub fn codes_of(&self, out: &mut Vec<u32>) -> Result<(), AllocError>
+        ensures ok { OnOk result (out.new.items ≡ out.old.items ++ self.now.codes) }
+        ensures err { OnErr result (out.new.items ≡ out.old.items) }
+    {
+        out.reserve(self.list.len() as usize)?;
+        let start = out.len();
+        for i in 0..self.list.len() {
+            match out.push(self.list.get(i)) {
+                Ok(()) => {}
+                Err(failed) => {
+                    out.truncate(start);
+                    return Err(AllocError::from(failed));
+                }
+            }
+        }
+        Ok(())
+    }
+
+    /// Appends the packed bytes.
+    pub fn bytes_of(&self, out: &mut Vec<u8>) -> Result<(), AllocError>
+        ensures ok { OnOk result (out.new.items ≡ out.old.items ++ packed_bytes self.now.width self.now.codes) }
+        ensures err { OnErr result (out.new.items ≡ out.old.items) }
+    {
+        self.list.bytes_of(out)
+    }
+
+    /// The vector that begins the bytes, and how many bytes it takes.
+    pub fn from_bytes(
+        alloc: Global,
+        bytes: &[u8],
+        rows: u32,
+        width: u8,
+    ) -> Result<Option<(Packed, usize)>, AllocError>
+        requires width { width ≤ 32 }
+        requires rows { rows ≤ 2 ^ 31 }
+        ensures within { IfOk result (λ found. IfSome found (λ r. r.1 ≤ length bytes.now)) }
+        ensures width { IfOk result (λ found. IfSome found (λ r. r.0.width ≡ width)) }
+        ensures rows { IfOk result (λ found. IfSome found (λ r. length r.0.codes ≡ rows)) }
+        ensures below { IfOk result (λ found. IfSome found (λ r. AllBelow (2 ^ width) r.0.codes)) }
+        ensures spelled { IfOk result (λ found. IfSome found (λ r. take r.1 bytes.now ≡ packed_bytes width r.0.codes)) }
+        ensures none { IfOk result (λ found. IfNone found ((codes rest : List ℕ) → length codes ≡ rows → AllBelow (2 ^ width) codes → bytes.now ≢ packed_bytes width codes ++ rest)) }
+    {
+        match BitList::from_bytes(alloc, bytes, rows, width)? {
+            Some((list, count)) => Ok(Some((Packed { list }, count))),
+            None => Ok(None),
+        }
+    }
+}
+
+/// Whether a code stands in a range without its end.
+fn is_between(code: u32, range: (u32, u32)) -> bool
+    ensures { result ≡ is_in (range ∷ []) code }
+{
+    range.0 <= code && code < range.1
+}
+
+/// The places of one range, the common case.
+fn places_between(list: &BitList, range: (u32, u32), out: &mut Vec<u32>) -> Result<(), AllocError>
+    ensures ok { OnOk result (out.new.items ≡ out.old.items ++ places_where (is_in (range ∷ [])) list.now.codes) }
+    ensures err { OnErr result (out.new.items ≡ out.old.items) }
+{
+    let start = out.len();
+    for i in 0..list.len() {
+        if is_between(list.get(i), range) {
+            match out.push(i) {
+                Ok(()) => {}
+                Err(failed) => {
+                    out.truncate(start);
+                    return Err(AllocError::from(failed));
+                }
+            }
+        }
+    }
+    Ok(())
+}
+
+/// The places of several ranges.
+fn places_among(list: &BitList, ranges: &[(u32, u32)], out: &mut Vec<u32>) -> Result<(), AllocError>
+    ensures ok { OnOk result (out.new.items ≡ out.old.items ++ places_where (is_in ranges.now) list.now.codes) }
+    ensures err { OnErr result (out.new.items ≡ out.old.items) }
+{
+    let start = out.len();
+    for i in 0..list.len() {
+        if is_in(list.get(i), ranges) {
+            match out.push(i) {
+                Ok(()) => {}
+                Err(failed) => {
+                    out.truncate(start);
+                    return Err(AllocError::from(failed));
+                }
+            }
+        }
+    }
+    Ok(())
+}

@@ -1,0 +1,3 @@
+pub mod EndsLemmas
+pub mod EntryLemmas
+pub mod RunsLemmas

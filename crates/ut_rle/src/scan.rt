@@ -1,0 +1,125 @@
+ghost use Rattle.std.specs.Prelude.{◌≡◌, ◌<◌, ◌≤◌, ◌+◌, ◌-◌, length, slice_index, map, nat_lt, OnOk, OnErr, ◌++◌};
+ghost use Rattle.std.specs.List.{range_with_len, list_all};
+ghost use Rattle.ut_bits.specs.Places.{is_in, places_where};
+ghost use Rattle.ut_rle.specs.Runs.{entries_of, expanded};
+ghost use Rattle.ut_rle.specs.Ends.{lengths_from, end_from, Ascend};
+
+use crate::run::Run;
+use std::alloc::AllocError;
+use ut_bits::{append_words, is_in};
+
+/// The place of the run that holds a row.
+pub fn run_at(runs: &[Run], i: u32) -> usize
+    requires { i < end_from 0 runs.now }
+    ensures within { result < length runs.now }
+    ensures before { 0 < result → slice_index (map (λ r. r.end) runs.now) (result - 1) ≤ i }
+    ensures holds { i < slice_index (map (λ r. r.end) runs.now) result }
+{
+    let mut low = 0;
+    let mut high = runs.len() - 1;
+    while low < high {
+        let middle = low + (high - low) / 2;
+        if runs[middle].end <= i {
+            low = middle + 1;
+        } else {
+            high = middle;
+        }
+    }
+    low
+}
+
+/// Whether the code of every run is below a limit.
+pub fn codes_are_below(runs: &[Run], limit: u32) -> bool
+    ensures { result ≡ list_all (λ r. nat_lt r.code limit) runs.now }
+{
+    runs.iter().all(|run| run.code < limit)
+}
+
+/// Appends the places of a range.
+fn append_range(from: u32, to: u32, out: &mut Vec<u32>) -> Result<(), AllocError>
+    requires { from ≤ to }
+    ensures ok { OnOk result (out.new.items ≡ out.old.items ++ range_with_len from (to - from)) }
+    ensures err { OnErr result (out.new.items ≡ out.old.items) }
+{
+    let before = out.len();
+    for i in from..to {
+        match out.push(i) {
+            Ok(()) => {}
+            Err(failed) => {
+                out.truncate(before);
+                return Err(AllocError::from(failed));
+            }
+        }
+    }
+    Ok(())
+}
+
+/// Appends the places whose code stands in one of the ranges.
+pub fn append_places_in(
+    runs: &[Run],
+    ranges: &[(u32, u32)],
+    out: &mut Vec<u32>,
+) -> Result<(), AllocError>
+    requires { Ascend 0 runs.now }
+    ensures ok { OnOk result (out.new.items ≡ out.old.items ++ places_where (is_in ranges.now) (expanded (lengths_from 0 runs.now))) }
+    ensures err { OnErr result (out.new.items ≡ out.old.items) }
+{
+    let before = out.len();
+    let mut from = 0;
+    for run in runs {
+        if is_in(run.code, ranges) {
+            match append_range(from, run.end, out) {
+                Ok(()) => {}
+                Err(failed) => {
+                    out.truncate(before);
+                    return Err(failed);
+                }
+            }
+        }
+        from = run.end;
+    }
+    Ok(())
+}
+
+/// Appends the codes that the runs stand for.
+pub fn append_codes(runs: &[Run], out: &mut Vec<u32>) -> Result<(), AllocError>
+    requires { Ascend 0 runs.now }
+    ensures ok { OnOk result (out.new.items ≡ out.old.items ++ expanded (lengths_from 0 runs.now)) }
+    ensures err { OnErr result (out.new.items ≡ out.old.items) }
+{
+    let before = out.len();
+    let mut from = 0;
+    for run in runs {
+        let count = out.as_slice().len() + (run.end - from) as usize;
+        match out.resize(count, run.code) {
+            Ok(()) => {}
+            Err(failed) => {
+                out.truncate(before);
+                return Err(failed);
+            }
+        }
+        from = run.end;
+    }
+    Ok(())
+}
+
+/// Appends each run's code and length.
+pub fn append_entries(runs: &[Run], out: &mut Vec<u8>) -> Result<(), AllocError>
+    requires { Ascend 0 runs.now }
+    ensures ok { OnOk result (out.new.items ≡ out.old.items ++ entries_of (lengths_from 0 runs.now)) }
+    ensures err { OnErr result (out.new.items ≡ out.old.items) }
+{
+    let before = out.len();
+    let mut from = 0;
+    for run in runs {
+        match append_words(run.code, run.end - from, out) {
+            Ok(()) => {}
+            Err(failed) => {
+                out.truncate(before);
+                return Err(failed);
+            }
+        }
+        from = run.end;
+    }
+    Ok(())
+}

@@ -1,0 +1,2 @@
+pub mod FrequentLemmas
+pub mod SparseLemmas

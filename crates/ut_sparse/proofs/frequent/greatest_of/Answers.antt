@@ -1,0 +1,12 @@
+use Rattle.std.proofs.Common.{◌≡◌, ℕ, ◌+◌, ◌<◌, ◌≤◌, length, take, get_or, ap, sym, subst, ◌∙◌, arith, List}
+use Rattle.ut_bits.specs.Bits.{AllBelow}
+use Rattle.ut_sparse.proofs.SparseLemmas.{AllBelow-next}
+use Rattle.ut_sparse.proofs.frequent.greatest_of.Goals as goal
+use Rattle.ut_sparse.proofs.frequent.greatest_of.Goals.{then-code-greatest, else-code-greatest}
+
+pub loop-code-preserved : goal.loop-code-preserved
+loop-code-preserved c =
+    elim c.if-code-greatest.branch [
+      | then-code-greatest w ↦ rw w.greatest-is (AllBelow-next _ _ c.args.codes.now c.loop-code.code-index c.loop-code.invariant c.loop-code-test.true (omega arith) (omega arith))
+      | else-code-greatest w ↦ rw w.greatest-is (AllBelow-next _ _ c.args.codes.now c.loop-code.code-index c.loop-code.invariant c.loop-code-test.true (omega arith) (omega arith))
+    ]

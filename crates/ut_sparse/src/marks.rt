@@ -1,0 +1,80 @@
+ghost use Rattle.std.specs.Prelude.{◌≡◌, ◌+◌, ◌*◌, ◌^◌, ◌<◌, ◌≤◌, ◌++◌, length, slice_index, take, IfOk};
+ghost use Rattle.ut_bits.specs.Bits.{AllBelow};
+ghost use Rattle.ut_sparse.specs.Sparse.{AreRanks, marked, merged, AreSparse};
+
+use std::alloc::{AllocError, Global};
+use ut_bits::BitList;
+
+/// For each 64 rows, and behind the last, how many rows are marked before them.
+pub fn ranks_of(alloc: Global, marks: &BitList) -> Result<Vec<u32>, AllocError>
+    requires width { marks.now.width ≡ 1 }
+    requires bits { AllBelow 2 marks.now.codes }
+    ensures { IfOk result (λ v. AreRanks marks.now.codes v.items) }
+{
+    let blocks = marks.len() / 64 + 1;
+    let mut ranks = Vec::with_capacity(alloc, blocks as usize + 1)?;
+    let mut before = 0;
+    for k in 0..blocks {
+        ranks.push(before)?;
+        before += marks.word(k).count_ones();
+    }
+    ranks.push(before)?;
+    Ok(ranks)
+}
+
+/// The code of a row, before which `rank` rows are marked.
+pub fn code_here(left_out: u32, marks: &BitList, others: &BitList, i: u32, rank: u32) -> u32
+    requires bits { AllBelow 2 marks.now.codes }
+    requires paired { marked marks.now.codes ≡ length others.now.codes }
+    requires within { i < length marks.now.codes }
+    requires rank { rank ≡ marked (take i marks.now.codes) }
+    ensures { result ≡ slice_index (merged left_out marks.now.codes others.now.codes) i }
+{
+    if marks.get(i) == 0 {
+        return left_out;
+    }
+    others.get(rank)
+}
+
+/// All codes in order.
+pub fn merged_codes(
+    alloc: Global,
+    left_out: u32,
+    marks: &BitList,
+    others: &BitList,
+) -> Result<Vec<u32>, AllocError>
+    requires bits { AllBelow 2 marks.now.codes }
+    requires paired { marked marks.now.codes ≡ length others.now.codes }
+    ensures { IfOk result (λ v. v.items ≡ merged left_out marks.now.codes others.now.codes) }
+{
+    let mut codes = Vec::with_capacity(alloc, marks.len() as usize)?;
+    let mut rank = 0;
+    for i in 0..marks.len() {
+        codes.push(code_here(left_out, marks, others, i, rank))?;
+        rank += marks.get(i);
+    }
+    Ok(codes)
+}
+
+/// How many rows before a row are marked.
+pub fn rank_at(marks: &BitList, ranks: &[u32], i: u32) -> u32
+    requires width { marks.now.width ≡ 1 }
+    requires bits { AllBelow 2 marks.now.codes }
+    requires ranks { AreRanks marks.now.codes ranks.now }
+    requires within { i < length marks.now.codes }
+    ensures { result ≡ marked (take i marks.now.codes) }
+{
+    let word = marks.word(i / 64);
+    let before = word & ((1u64 << (i % 64)) - 1);
+    let block = ranks[(i / 64) as usize];
+    block + before.count_ones()
+}
+
+/// How many rows are marked.
+pub fn marked_rows(marks: &BitList, ranks: &[u32]) -> u32
+    requires { AreRanks marks.now.codes ranks.now }
+    ensures { result ≡ marked marks.now.codes }
+{
+    let last = ranks.len() - 1;
+    ranks[last]
+}
