@@ -112,14 +112,14 @@ table_is p name h (At place cs e k) =
       columns = ap are_columns columns_is ∙ columns-are (current p.journal).tables place cs s.tables k
     }
 
-suits_is : (p : Plain) (session : ℕ) (name : List ℕ) (vs : List Value) → IsTable (current p.journal).tables name → IsTrue (fits_columns (columns_in (view p session) name) vs) → IsTrue (list_all is_value vs) → IsTrue (suits_table (current p.journal).tables (place_in (view p session) name) vs)
+pub suits_is : (p : Plain) (session : ℕ) (name : List ℕ) (vs : List Value) → IsTable (current p.journal).tables name → IsTrue (fits_columns (columns_in (view p session) name) vs) → IsTrue (list_all is_value vs) → IsTrue (suits_table (current p.journal).tables (place_in (view p session) name) vs)
 suits_is p session name vs t f v = and_both _ _ (ap (λ o. fits_table o vs) t.at ∙ f) (are_values-fit (columns_in (view p session) name) vs t.columns f v)
 
 -- the operations that a statement makes over what its session may change
 abbrev pub AreMadeBy : Plain → ℕ → List Op → Type 0
 AreMadeBy p session os = AreMade (current p.journal).tables (with_ops (current p.journal).rows (own_ops (open_at p.sessions session))) p.next_id (IsUntouched p session) os
 
-all_suit : (p : Plain) (session : ℕ) (name : List ℕ) (n w : ℕ) (vs : List Value) → IsTable (current p.journal).tables name → IsTrue (list_all (fits_columns (columns_in (view p session) name)) (cut n w vs)) → IsTrue (list_all is_value vs)
+pub all_suit : (p : Plain) (session : ℕ) (name : List ℕ) (n w : ℕ) (vs : List Value) → IsTable (current p.journal).tables name → IsTrue (list_all (fits_columns (columns_in (view p session) name)) (cut n w vs)) → IsTrue (list_all is_value vs)
   → IsTrue (list_all (suits_table (current p.journal).tables (place_in (view p session) name)) (cut n w vs))
 all_suit p session name zero w vs t f v = refl
 all_suit p session name (suc n) w [] t f v = refl
