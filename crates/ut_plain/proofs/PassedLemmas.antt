@@ -1,10 +1,9 @@
 -- What holds of a statement that is not refused.
-use Rattle.std.proofs.Common.{◌≡◌, ℕ, zero, suc, ◌+◌, ◌<◌, ◌≤◌, Bool, true, false, ◌&&◌, ◌||◌, List, [], ◌∷◌, ◌++◌, length, take, drop, Option, None, Some, refl, sym, ap, ◌∙◌, subst, arith, IsTrue, set, nat_eq, nat_le, nat_lt, eqb-true, leb-true, length-set}
+use Rattle.std.proofs.Common.{◌≡◌, ℕ, zero, suc, ◌+◌, ◌<◌, ◌≤◌, Bool, true, false, ◌&&◌, ◌||◌, List, [], ◌∷◌, ◌++◌, length, take, drop, Option, None, Some, refl, sym, ap, ◌∙◌, subst, arith, IsTrue, nat_eq, nat_le, eqb-true, leb-true}
 use Rattle.std.specs.Option.{option_map, is_some, unwrap_or, option_and_then}
-use Rattle.std.specs.List.{list_all, find}
+use Rattle.std.specs.List.{list_all}
 use Rattle.std.specs.FinMap as finmap
 use Rattle.ut_value.specs.declared.value.Value.{Value}
-use Rattle.ut_value.specs.declared.value.Column.{Column}
 use Rattle.ut_value.specs.declared.entry.Op.{Op}
 use Rattle.ut_value.specs.declared.entry.Entry.TheVariants.{Txn}
 use Rattle.ut_value.specs.KeyBytes.{is_value}
@@ -15,26 +14,24 @@ use Rattle.ut_plain.specs.declared.statement.Pred.{Pred}
 use Rattle.ut_plain.specs.declared.statement.Statement.{Statement}
 use Rattle.ut_plain.specs.declared.reply.Refusal.{Refusal}
 use Rattle.ut_plain.specs.declared.reply.Refusal.TheVariants as refusals
-use Rattle.ut_plain.specs.declared.transaction.OpenTransaction.{OpenTransaction}
 use Rattle.ut_plain.specs.Tables.{place_of, columns_at, columns_of, fits_columns, fits_table}
 use Rattle.ut_plain.specs.Rows.{inserts_of, with_ops}
-use Rattle.ut_plain.specs.State.{IsState}
 use Rattle.ut_plain.specs.Journal.{current}
 use Rattle.ut_plain.specs.Plain.{Plain, open_at, seen, is_taken}
 use Rattle.ut_plain.specs.View.{View, view, own_ops, place_in, columns_in, found}
 use Rattle.ut_plain.specs.Condition.{meets}
-use Rattle.ut_plain.specs.Made.{made, cut, rows_of, inserts, deletes_all, updates, changed_value}
-use Rattle.ut_plain.specs.Names.{names_known, known_in, has_table, pred_names}
+use Rattle.ut_plain.specs.Made.{cut, inserts, deletes_all, updates, changed_value}
+use Rattle.ut_plain.specs.Names.{names_known}
 use Rattle.ut_plain.specs.Kinds.{kinds_fit, kind_in, has_kind}
-use Rattle.ut_plain.specs.Limits.{has_room, has_ops_room, has_ids, has_entry_room, has_journal_room}
+use Rattle.ut_plain.specs.Limits.{has_room, has_ops_room, has_ids, has_entry_room}
 use Rattle.ut_plain.specs.Refusals.{refusal, is_supported, state_why, conflict, first_taken, unless, or_else}
 use Rattle.ut_plain.specs.Reached.{IsPlain, AreOwn}
 use Rattle.ut_plain.proofs.BoolLemmas.{and_left, and_right, and_both}
 use Rattle.ut_plain.proofs.ListLemmas.{list_all_take, list_all_drop, list_all_set}
 use Rattle.ut_plain.proofs.StateLaws.{IsState-current}
-use Rattle.ut_plain.proofs.TableLemmas.{IsThere, At, there, there_known, columns_at-below, columns-are, fits_columns-set, are_values-fit}
+use Rattle.ut_plain.proofs.TableLemmas.{IsThere, At, columns_at-below, columns-are, fits_columns-set, are_values-fit}
 use Rattle.ut_plain.proofs.HitLemmas.{AreHits, AreHits-filter, AreHits-table_rows, NoneTaken, none_taken, AllEntries, each_hit, AreHits-map}
-use Rattle.ut_plain.proofs.MadeLemmas.{AreMade, IsHit, suits_table, inserts_made, deletes_made, updates_made, inserts_of-inserts, inserts_of-updates}
+use Rattle.ut_plain.proofs.MadeLemmas.{AreMade, suits_table, inserts_made, deletes_made, updates_made, inserts_of-inserts, inserts_of-updates}
 use Rattle.ut_plain.proofs.SeenLemmas.{seen_now, untouched, IsUntouched, IsFresh-own, AreRows-own}
 
 -- the tests that a statement passed
@@ -86,11 +83,11 @@ append_nothing (x ∷ xs) = ap (λ ys. x ∷ ys) (append_nothing xs)
 pub room_is : (p : Plain) (session : ℕ) (os : List Op) → IsPlain p → AreOwn (current p.journal) p.next_id (own_ops (open_at p.sessions session)) → IsTrue (has_ops_room (view p session) os) → HasRoom p session os
 room_is p session [] h own k = record {
   ids = let last = h.last in omega arith;
-  bytes = let short = own.short in subst (λ (os : List Op). entry_len (Txn os) ≤ 1073741824) (sym (append_nothing (own_ops (open_at p.sessions session)))) short
+  bytes = let short = own.short in subst (λ (os : List Op). entry_len (Txn os) ≤ 1073741824) (sym (append_nothing (own_ops (open_at p.sessions session)))) short;
 }
 room_is p session (op ∷ os) h own k = record {
   ids = ids_room p session (inserts_of (op ∷ os)) h (and_left _ _ (and_left (has_ids (view p session) (inserts_of (op ∷ os)) && has_entry_room (view p session) (op ∷ os)) _ k));
-  bytes = leb-true _ 1073741824 (and_right (has_ids (view p session) (inserts_of (op ∷ os))) _ (and_left (has_ids (view p session) (inserts_of (op ∷ os)) && has_entry_room (view p session) (op ∷ os)) _ k))
+  bytes = leb-true _ 1073741824 (and_right (has_ids (view p session) (inserts_of (op ∷ os))) _ (and_left (has_ids (view p session) (inserts_of (op ∷ os)) && has_entry_room (view p session) (op ∷ os)) _ k));
 }
 
 -- the table of a statement: its columns, and what suits it
@@ -109,7 +106,7 @@ table_is p name h (At place cs e k) =
     record {
       at = ap (columns_at (current p.journal).tables) place_is ∙ k ∙ ap Some (sym columns_is);
       few = omega (arith, place_is, below, few);
-      columns = ap are_columns columns_is ∙ columns-are (current p.journal).tables place cs s.tables k
+      columns = ap are_columns columns_is ∙ columns-are (current p.journal).tables place cs s.tables k;
     }
 
 pub suits_is : (p : Plain) (session : ℕ) (name : List ℕ) (vs : List Value) → IsTable (current p.journal).tables name → IsTrue (fits_columns (columns_in (view p session) name) vs) → IsTrue (list_all is_value vs) → IsTrue (suits_table (current p.journal).tables (place_in (view p session) name) vs)
@@ -120,7 +117,7 @@ abbrev pub AreMadeBy : Plain → ℕ → List Op → Type 0
 AreMadeBy p session os = AreMade (current p.journal).tables (with_ops (current p.journal).rows (own_ops (open_at p.sessions session))) p.next_id (IsUntouched p session) os
 
 pub all_suit : (p : Plain) (session : ℕ) (name : List ℕ) (n w : ℕ) (vs : List Value) → IsTable (current p.journal).tables name → IsTrue (list_all (fits_columns (columns_in (view p session) name)) (cut n w vs)) → IsTrue (list_all is_value vs)
-  → IsTrue (list_all (suits_table (current p.journal).tables (place_in (view p session) name)) (cut n w vs))
+    → IsTrue (list_all (suits_table (current p.journal).tables (place_in (view p session) name)) (cut n w vs))
 all_suit p session name zero w vs t f v = refl
 all_suit p session name (suc n) w [] t f v = refl
 all_suit p session name (suc n) w (x ∷ vs) t f v =
@@ -128,13 +125,13 @@ all_suit p session name (suc n) w (x ∷ vs) t f v =
     (all_suit p session name n w (drop w (x ∷ vs)) t (and_right (fits_columns (columns_in (view p session) name) (take w (x ∷ vs))) _ f) (list_all_drop is_value w (x ∷ vs) v))
 
 pub inserts_are_made : (p : Plain) (session : ℕ) (name : List ℕ) (news : List (List Value)) → IsPlain p → IsTable (current p.journal).tables name → IsTrue (list_all (suits_table (current p.journal).tables (place_in (view p session) name)) news)
-  → HasRoom p session (inserts (place_in (view p session) name) p.next_id news) → AreMadeBy p session (inserts (place_in (view p session) name) p.next_id news)
+    → HasRoom p session (inserts (place_in (view p session) name) p.next_id news) → AreMadeBy p session (inserts (place_in (view p session) name) p.next_id news)
 inserts_are_made p session name news h t s r =
     let count = inserts_of-inserts (place_in (view p session) name) p.next_id news in
     let room = r.ids in
     let load = h.load in
     inserts_made (current p.journal).tables (place_in (view p session) name) t.few (IsUntouched p session) (with_ops (current p.journal).rows (own_ops (open_at p.sessions session))) p.next_id news
-        (IsFresh-own p session h) (omega arith) (omega (arith, count, room)) s
+    (IsFresh-own p session h) (omega arith) (omega (arith, count, room)) s
 
 -- what is found stands where the session's operations apply, and suits the table
 pub record AreFound (p : Plain) (session table : ℕ) (es : List (ℕ × Stored)) : Type 0 where
@@ -149,7 +146,7 @@ found_is p session name preds h clear =
     let none : NoneTaken (is_taken p session) (found v name preds) = none_taken (is_taken p session) (found v name preds) clear in
     record {
       hits = AreHits-map (finmap.get (seen p session)) _ (is_taken p session) table (found v name preds) now hits none;
-      each = each_hit (finmap.get (seen p session)) (is_taken p session) _ table (found v name preds) (λ id row at free. (untouched p session id row h at free, suits id row (now id row at free))) hits none
+      each = each_hit (finmap.get (seen p session)) (is_taken p session) _ table (found v name preds) (λ id row at free. (untouched p session id row h at free, suits id row (now id row at free))) hits none;
     }
   where
     now : (id : ℕ) (row : Stored) → finmap.get (seen p session) id ≡ Some row → is_taken p session id ≡ false → finmap.get (with_ops (current p.journal).rows (own_ops (open_at p.sessions session))) id ≡ Some row
@@ -158,6 +155,7 @@ found_is p session name preds h clear =
         or_first : (a b : Bool) → (a || b) ≡ false → a ≡ false
         or_first true b h = h
         or_first false b h = refl
+
     suits : (id : ℕ) (row : Stored) → finmap.get (with_ops (current p.journal).rows (own_ops (open_at p.sessions session))) id ≡ Some row → IsTrue (suits_table (current p.journal).tables row.table row.values)
     suits id row at = let is = (AreRows-own p session h).each id row at in and_both _ _ is.fits is.spelled
 
@@ -166,18 +164,18 @@ deletes_are_made p session name es h t f =
     deletes_made (current p.journal).tables (place_in (view p session) name) t.few (IsUntouched p session) (with_ops (current p.journal).rows (own_ops (open_at p.sessions session))) p.next_id es (IsFresh-own p session h) h.last f.hits f.each
 
 pub updates_are_made : (p : Plain) (session : ℕ) (name column : List ℕ) (value : Value) (es : List (ℕ × Stored)) → IsPlain p → IsTable (current p.journal).tables name → IsTrue (is_value value) → IsTrue (has_kind value (kind_in (columns_in (view p session) name) column)) → AreFound p session (place_in (view p session) name) es
-  → HasRoom p session (updates (place_in (view p session) name) p.next_id (changed_value (columns_in (view p session) name) column value) es)
-  → AreMadeBy p session (updates (place_in (view p session) name) p.next_id (changed_value (columns_in (view p session) name) column value) es)
+    → HasRoom p session (updates (place_in (view p session) name) p.next_id (changed_value (columns_in (view p session) name) column value) es)
+    → AreMadeBy p session (updates (place_in (view p session) name) p.next_id (changed_value (columns_in (view p session) name) column value) es)
 updates_are_made p session name column value es h t v k f r =
     let count = inserts_of-updates (place_in (view p session) name) p.next_id (changed_value (columns_in (view p session) name) column value) es in
     let room = r.ids in
     let load = h.load in
     updates_made (current p.journal).tables (place_in (view p session) name) t.few (IsUntouched p session) (changed_value (columns_in (view p session) name) column value) keeps
-        (with_ops (current p.journal).rows (own_ops (open_at p.sessions session))) p.next_id es (IsFresh-own p session h) (omega arith) (omega (arith, count, room)) f.hits f.each
+    (with_ops (current p.journal).rows (own_ops (open_at p.sessions session))) p.next_id es (IsFresh-own p session h) (omega arith) (omega (arith, count, room)) f.hits f.each
   where
     keeps : (vs : List Value) → IsTrue (suits_table (current p.journal).tables (place_in (view p session) name) vs) → IsTrue (suits_table (current p.journal).tables (place_in (view p session) name) (changed_value (columns_in (view p session) name) column value vs))
     keeps vs s =
         let fits : IsTrue (fits_columns (columns_in (view p session) name) vs) = sym (ap (λ o. fits_table o vs) t.at) ∙ and_left _ (are_values vs) s in
         let all : IsTrue (list_all is_value vs) = and_right (is_count 64 (length vs)) _ (and_right (fits_table (columns_at (current p.journal).tables (place_in (view p session) name)) vs) _ s) in
         suits_is p session name (changed_value (columns_in (view p session) name) column value vs) t
-            (fits_columns-set (columns_in (view p session) name) column vs value fits k) (list_all_set is_value vs _ value all v)
+        (fits_columns-set (columns_in (view p session) name) column vs value fits k) (list_all_set is_value vs _ value all v)

@@ -1,24 +1,19 @@
 -- What a store reaches stays as each reached state is, through a change of its sessions, a new table and a commit.
-use Rattle.std.proofs.Common.{◌≡◌, ◌≢◌, ℕ, zero, suc, ◌+◌, ◌<◌, ◌≤◌, max, Bool, true, false, ◌&&◌, ◌||◌, List, [], ◌∷◌, ◌++◌, length, Option, None, Some, refl, sym, ap, ◌∙◌, subst, arith, IsTrue, nat_le, nat_lt, length-append, ltb-true, lt-ltb, le-leb}
-use Rattle.std.specs.Option.{is_none}
-use Rattle.std.specs.List.{list_all, sum_by}
-use Rattle.std.specs.FinMap as finmap
-use Rattle.std.proofs.lemmas.List.Sums.{sum_by-append}
+use Rattle.std.proofs.Common.{◌≡◌, ℕ, ◌+◌, ◌<◌, ◌≤◌, true, false, ◌&&◌, List, [], ◌∷◌, ◌++◌, length, Some, sym, ap, ◌∙◌, subst, arith, IsTrue, nat_le, length-append, le-leb}
+use Rattle.std.specs.List.{list_all}
 use Rattle.ut_value.specs.declared.entry.Op.{Op}
 use Rattle.ut_value.specs.declared.entry.Entry.{Entry}
 use Rattle.ut_value.specs.declared.entry.Entry.TheVariants as entries
 use Rattle.ut_value.specs.declared.value.Column.{Column}
-use Rattle.ut_value.specs.Spelling.{has_spelling, is_op, entry_len, ops_len}
-use Rattle.ut_plain.specs.declared.table.Table.{Table}
-use Rattle.ut_plain.specs.declared.table.Stored.{Stored}
+use Rattle.ut_value.specs.Spelling.{has_spelling, is_op, entry_len}
 use Rattle.ut_plain.specs.declared.transaction.OpenTransaction.{OpenTransaction}
-use Rattle.ut_plain.specs.Rows.{Rows, with_ops, can_apply_all, concerns, next_after, op_inserts, inserts_of}
-use Rattle.ut_plain.specs.State.{State, can, suits, after}
-use Rattle.ut_plain.specs.Journal.{Journal, current, journal_len, appended, load_of, IsJournal}
+use Rattle.ut_plain.specs.Rows.{with_ops, can_apply_all, concerns, inserts_of}
+use Rattle.ut_plain.specs.State.{State, can, after}
+use Rattle.ut_plain.specs.Journal.{current, journal_len, appended, load_of}
 use Rattle.ut_plain.specs.Stages.{Stages}
 use Rattle.ut_plain.specs.Plain.{Plain, Sessions, open_at, inserts_open}
 use Rattle.ut_plain.specs.Reached.{AreOwn, IsOpen, AreApart, IsPlain}
-use Rattle.ut_plain.proofs.BoolLemmas.{and_left, and_right, and_both, Tested, tested, Passes, Fails, not_both}
+use Rattle.ut_plain.proofs.BoolLemmas.{and_both, Tested, tested, Passes, Fails, not_both}
 use Rattle.ut_plain.proofs.RowLaws.{can_apply_all-same, get-other}
 use Rattle.ut_plain.proofs.TableLemmas.{can_apply_all-more}
 use Rattle.ut_plain.proofs.JournalLaws.{current-appended, journal_len-appended, IsJournal-appended, load_of-appended}
@@ -53,7 +48,7 @@ IsPlain-rearranged p sessions next stages h r = record {
   seats = r.seats;
   running = λ session t e. let is = r.running session t e in record { since = is.0; until = is.1; own = is.2 };
   apart = r.apart;
-  staged = r.staged ∙ h.staged
+  staged = r.staged ∙ h.staged;
 }
 
 -- one entry more, after which the sessions that are still open may go on
@@ -81,7 +76,7 @@ AreOwn-behind s next os own apart is = record {
   apply = sym (can_apply_all-same s.tables s.rows (with_ops s.rows os) own (λ id c. sym (get-other s.rows os id (free id c (tested (concerns id os)))))) ∙ is.apply;
   spelled = is.spelled;
   short = is.short;
-  given = is.given
+  given = is.given;
 }
   where
     free : (id : ℕ) → concerns id own ≡ true → Tested (concerns id os) → concerns id os ≡ false
@@ -89,7 +84,7 @@ AreOwn-behind s next os own apart is = record {
     free id c (Fails d) = d
 
 pub IsPlain-committed : (p : Plain) (os : List Op) (sessions : Sessions) (next : ℕ) (stages : Stages) → IsPlain p → Commits p os sessions next stages
-  → IsPlain (record p { journal = appended p.journal (entries.Txn os); sessions = sessions; next_id = next; stages = stages })
+    → IsPlain (record p { journal = appended p.journal (entries.Txn os); sessions = sessions; next_id = next; stages = stages })
 IsPlain-committed p os sessions next stages h c =
     let e : Entry = entries.Txn os in
     let longer = journal_len-appended p.journal e in
@@ -107,20 +102,20 @@ IsPlain-committed p os sessions next stages h c =
       seats = c.seats;
       running = λ session t o. still session t o (h.running session t (c.still session t o)) longer now;
       apart = λ a b t u n x y. h.apart a b t u n (c.still a t x) (c.still b u y);
-      staged = c.staged ∙ h.staged ∙ ap (λ (s : State). length s.tables) (sym now)
+      staged = c.staged ∙ h.staged ∙ ap (λ (s : State). length s.tables) (sym now);
     }
   where
     still : (session : ℕ) (t : OpenTransaction) → open_at sessions session ≡ Some t → IsOpen p t → journal_len (appended p.journal (entries.Txn os)) ≡ journal_len p.journal + 1 → current (appended p.journal (entries.Txn os)) ≡ after (current p.journal) (entries.Txn os)
-      → IsOpen (record p { journal = appended p.journal (entries.Txn os); sessions = sessions; next_id = next; stages = stages }) t
+        → IsOpen (record p { journal = appended p.journal (entries.Txn os); sessions = sessions; next_id = next; stages = stages }) t
     still session t o is longer now = record {
       since = is.since;
       until = let until = is.until in omega (arith, longer);
-      own = AreOwn-at _ _ next t.ops (sym now) (AreOwn-behind (current p.journal) next os t.ops (c.others session t o) (AreOwn-later (current p.journal) p.next_id next t.ops c.later is.own))
+      own = AreOwn-at _ _ next t.ops (sym now) (AreOwn-behind (current p.journal) next os t.ops (c.others session t o) (AreOwn-later (current p.journal) p.next_id next t.ops c.later is.own));
     }
 
 -- a new table
 pub IsPlain-created : (p : Plain) (name : List ℕ) (columns : List Column) (stages : Stages) → IsPlain p → journal_len p.journal < 1073741823 → IsTrue (can (current p.journal) (entries.Create name columns)) → length stages ≡ length p.stages + 1
-  → IsPlain (record p { journal = appended p.journal (entries.Create name columns); stages = stages })
+    → IsPlain (record p { journal = appended p.journal (entries.Create name columns); stages = stages })
 IsPlain-created p name columns stages h room fits staged =
     let e : Entry = entries.Create name columns in
     let longer = journal_len-appended p.journal e in
@@ -138,13 +133,14 @@ IsPlain-created p name columns stages h room fits staged =
       seats = h.seats;
       running = λ session t o. still t (h.running session t o) longer now;
       apart = h.apart;
-      staged = more (ap (λ (s : State). length s.tables) now)
+      staged = more (ap (λ (s : State). length s.tables) now);
     }
   where
     more : length (current (appended p.journal (entries.Create name columns))).tables ≡ length ((current p.journal).tables ++ record { name = name; columns = columns } ∷ []) → length stages ≡ length (current (appended p.journal (entries.Create name columns))).tables
     more e = let before = h.staged in omega (arith, e, length-append (current p.journal).tables (record { name = name; columns = columns } ∷ []), staged, before)
+
     still : (t : OpenTransaction) → IsOpen p t → journal_len (appended p.journal (entries.Create name columns)) ≡ journal_len p.journal + 1 → current (appended p.journal (entries.Create name columns)) ≡ after (current p.journal) (entries.Create name columns)
-      → IsOpen (record p { journal = appended p.journal (entries.Create name columns); stages = stages }) t
+        → IsOpen (record p { journal = appended p.journal (entries.Create name columns); stages = stages }) t
     still t is longer now = record {
       since = is.since;
       until = let until = is.until in omega (arith, longer);
@@ -152,6 +148,6 @@ IsPlain-created p name columns stages h room fits staged =
         apply = can_apply_all-more (current p.journal).tables _ (current p.journal).rows t.ops is.own.apply;
         spelled = is.own.spelled;
         short = is.own.short;
-        given = is.own.given
-      })
+        given = is.own.given;
+      });
     }

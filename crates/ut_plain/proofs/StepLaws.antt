@@ -1,5 +1,5 @@
 -- Each statement takes a state that is reached to one that is.
-use Rattle.std.proofs.Common.{◌≡◌, ◌≢◌, ◌⊎◌, ℕ, zero, suc, ◌+◌, ◌*◌, ◌<◌, ◌≤◌, Bool, true, false, ◌&&◌, ◌||◌, List, [], ◌∷◌, ◌++◌, length, inl, inr, Option, None, Some, refl, sym, ap, ◌∙◌, subst, arith, IsTrue, nat_le, nat_lt, set, length-append, length-set, ltb-true, leb-true, le-leb, mul-le-mul_left}
+use Rattle.std.proofs.Common.{◌≡◌, ◌≢◌, ◌⊎◌, ℕ, ◌+◌, ◌*◌, ◌<◌, ◌≤◌, Bool, true, false, ◌&&◌, ◌||◌, List, [], ◌∷◌, ◌++◌, length, inl, inr, Option, None, Some, refl, sym, ap, ◌∙◌, subst, arith, IsTrue, nat_le, nat_lt, set, length-append, length-set, ltb-true, leb-true, le-leb, mul-le-mul_left}
 use Rattle.std.specs.Option.{is_none, is_some}
 use Rattle.std.specs.List.{list_all, sum_by}
 use Rattle.std.proofs.lemmas.List.Sums.{sum_by-append, sum_by-cons}
@@ -8,7 +8,7 @@ use Rattle.ut_value.specs.declared.value.Column.{Column}
 use Rattle.ut_value.specs.declared.entry.Op.{Op}
 use Rattle.ut_value.specs.declared.entry.Op.TheVariants as ops
 use Rattle.ut_value.specs.declared.entry.Entry.TheVariants as entries
-use Rattle.ut_value.specs.Text.{is_name, is_name_byte, is_reserved, starts_with_letter}
+use Rattle.ut_value.specs.Text.{is_name, is_name_byte, starts_with_letter}
 use Rattle.ut_value.specs.KeyBytes.{is_value}
 use Rattle.ut_value.specs.Spelling.{has_spelling, is_op, is_count, is_column, are_columns, names_differ, entry_len, column_len}
 use Rattle.ut_plain.specs.declared.statement.Pred.{Pred}
@@ -19,28 +19,27 @@ use Rattle.ut_plain.specs.declared.reply.Refusal.{Refusal}
 use Rattle.ut_plain.specs.declared.transaction.OpenTransaction.{OpenTransaction}
 use Rattle.ut_plain.specs.Tables.{place_of, fits_columns}
 use Rattle.ut_plain.specs.Rows.{with_ops, can_apply_all, concerns, op_inserts, inserts_of}
-use Rattle.ut_plain.specs.State.{can, suits}
-use Rattle.ut_plain.specs.Journal.{current, journal_len, appended, load_of}
-use Rattle.ut_plain.specs.Stages.{Stages, TableStages, no_stages, stages_at, with_stages, with_inserts, entered, placed, moved}
-use Rattle.ut_plain.specs.Plain.{Plain, open_at, open_inserts, inserts_open}
+use Rattle.ut_plain.specs.State.{suits}
+use Rattle.ut_plain.specs.Journal.{current, journal_len, appended}
+use Rattle.ut_plain.specs.Stages.{Stages, no_stages, stages_at, with_stages, with_inserts, entered, placed, moved}
+use Rattle.ut_plain.specs.Plain.{Plain, open_at, open_inserts}
 use Rattle.ut_plain.specs.View.{view, own_ops, place_in, columns_in, found}
 use Rattle.ut_plain.specs.Made.{made, inserts, rows_of}
-use Rattle.ut_plain.specs.Names.{known_in, pred_names}
+use Rattle.ut_plain.specs.Names.{pred_names}
 use Rattle.ut_plain.specs.Kinds.{has_kind, kind_in, preds_fit}
 use Rattle.ut_plain.specs.Limits.{has_ops_room, has_ids, has_entry_room, has_journal_room, has_commit_room}
 use Rattle.ut_plain.specs.Refusals.{refusal}
 use Rattle.ut_plain.specs.Spelled.{is_spelled, are_preds, are_some_values}
 use Rattle.ut_plain.specs.Step.{step, step_by, effect_of, with_made, changed, closed, committed, committed_by}
-use Rattle.ut_plain.specs.Reached.{AreOwn, IsOpen, AreApart, IsPlain}
-use Rattle.ut_plain.proofs.BoolLemmas.{and_left, and_right, and_both, Tested, tested, Passes, Fails, not_both, or_false_both}
+use Rattle.ut_plain.specs.Reached.{AreOwn, IsOpen, IsPlain}
+use Rattle.ut_plain.proofs.BoolLemmas.{and_left, and_right, and_both, Tested, tested, Passes, Fails, not_both}
 use Rattle.ut_plain.proofs.ListLemmas.{list_all_append}
 use Rattle.ut_plain.proofs.RowLaws.{can_apply_all-append, concerns-append}
 use Rattle.ut_plain.proofs.TableLemmas.{there, there_known}
 use Rattle.ut_plain.proofs.SessionLemmas.{IsSet, Here, There, open_at-set, inserts_open-set}
-use Rattle.ut_plain.proofs.MadeLemmas.{AreMade}
 use Rattle.ut_plain.proofs.SeenLemmas.{own_is, IsUntouched}
 use Rattle.ut_plain.proofs.PassedLemmas.{Passed, passed, HasRoom, room_is, IsTable, table_is, AreMadeBy, suits_is, all_suit, inserts_are_made, deletes_are_made, updates_are_made, found_is}
-use Rattle.ut_plain.proofs.ReachedLaws.{AreOwn-later, Rearranges, IsPlain-rearranged, Commits, IsPlain-committed, IsPlain-created}
+use Rattle.ut_plain.proofs.ReachedLaws.{AreOwn-later, IsPlain-rearranged, IsPlain-committed, IsPlain-created}
 
 -- ---- stages keep their tables
 
@@ -60,12 +59,13 @@ closed_is p session h = IsPlain-rearranged p (set p.sessions session None) p.nex
   seats = length-set p.sessions session None ∙ h.seats;
   running = λ other u o. by other u (open_at-set p.sessions session None other u o);
   apart = λ a b t u n x y. h.apart a b t u n (still a t (open_at-set p.sessions session None a t x)) (still b u (open_at-set p.sessions session None b u y));
-  staged = refl
+  staged = refl;
 })
   where
     still : (other : ℕ) (u : OpenTransaction) → IsSet p.sessions session None other u → open_at p.sessions other ≡ Some u
     still other u (Here e k) = cc
     still other u (There n k) = k
+
     by : (other : ℕ) (u : OpenTransaction) → IsSet p.sessions session None other u → (p.opening ≤ u.snapshot) × (u.snapshot ≤ journal_len p.journal) × AreOwn (current p.journal) p.next_id u.ops
     by other u is = let o = h.running other u (still other u is) in (o.since, o.until, o.own)
 
@@ -85,13 +85,14 @@ begun_is p session h = IsPlain-rearranged p (set p.sessions session (Some (fresh
   seats = length-set p.sessions session (Some (fresh p)) ∙ h.seats;
   running = λ other u o. by other u (open_at-set p.sessions session (Some (fresh p)) other u o);
   apart = λ a b t u n x y id c. apart a b t u n (open_at-set p.sessions session (Some (fresh p)) a t x) (open_at-set p.sessions session (Some (fresh p)) b u y) id c;
-  staged = refl
+  staged = refl;
 })
   where
     by : (other : ℕ) (u : OpenTransaction) → IsSet p.sessions session (Some (fresh p)) other u → (p.opening ≤ u.snapshot) × (u.snapshot ≤ journal_len p.journal) × AreOwn (current p.journal) p.next_id u.ops
     by other u (Here e k) = subst (λ (u : OpenTransaction). (p.opening ≤ u.snapshot) × (u.snapshot ≤ journal_len p.journal) × AreOwn (current p.journal) p.next_id u.ops) (some_same (fresh p) u k)
         (h.opened.1, omega arith, record { apply = refl; spelled = refl; short = omega arith; given = λ id c. cc })
     by other u (There n k) = let o = h.running other u k in (o.since, o.until, o.own)
+
     apart : (a b : ℕ) (t u : OpenTransaction) → a ≢ b → IsSet p.sessions session (Some (fresh p)) a t → IsSet p.sessions session (Some (fresh p)) b u → (id : ℕ) → concerns id t.ops ≡ true → concerns id u.ops ≡ false
     apart a b t u n (Here e k) y id c = let nothing : false ≡ true = ap (λ (t : OpenTransaction). concerns id t.ops) (some_same (fresh p) t k) ∙ c in cc
     apart a b t u n (There m k) (Here e l) id c = sym (ap (λ (u : OpenTransaction). concerns id u.ops) (some_same (fresh p) u l))
@@ -121,28 +122,32 @@ module _ (p : Plain) (session : ℕ) (bulk : Bool) (os : List Op) (h : IsPlain p
     seats = length-set p.sessions session (Some (longer t os)) ∙ h.seats;
     running = λ other u o. by other u (open_at-set p.sessions session (Some (longer t os)) other u o);
     apart = λ a b x y n o q id c. apart a b x y n (open_at-set p.sessions session (Some (longer t os)) a x o) (open_at-set p.sessions session (Some (longer t os)) b y q) id c;
-    staged = length-with_inserts bulk p.stages os
+    staged = length-with_inserts bulk p.stages os;
   })
     where
       own_is_t : own_ops (open_at p.sessions session) ≡ t.ops
       own_is_t = ap own_ops is
+
       now : IsOpen p t
       now = h.running session t is
+
       own : AreOwn (current p.journal) (p.next_id + inserts_of os) (t.ops ++ os)
       own = record {
         apply = can_apply_all-append (current p.journal).tables (current p.journal).rows t.ops os
             ∙ and_both _ _ now.own.apply (sym (ap (λ own. can_apply_all (current p.journal).tables (with_ops (current p.journal).rows own) os) own_is_t) ∙ m.apply);
         spelled = list_all_append is_op t.ops os now.own.spelled m.spelled;
         short = subst (λ own. entry_len (entries.Txn (own ++ os)) ≤ 1073741824) own_is_t room.bytes;
-        given = λ id c. given id (or_cases _ _ (sym (concerns-append id t.ops os) ∙ c))
+        given = λ id c. given id (or_cases _ _ (sym (concerns-append id t.ops os) ∙ c));
       }
         where
           given : (id : ℕ) → (concerns id t.ops ≡ true) ⊎ (concerns id os ≡ true) → id < p.next_id + inserts_of os
           given id (inl c) = let lt : id < p.next_id = now.own.given id c in omega arith
           given id (inr c) = m.below id c
+
       by : (other : ℕ) (u : OpenTransaction) → IsSet p.sessions session (Some (longer t os)) other u → (p.opening ≤ u.snapshot) × (u.snapshot ≤ journal_len p.journal) × AreOwn (current p.journal) (p.next_id + inserts_of os) u.ops
       by other u (Here e k) = subst (λ (u : OpenTransaction). (p.opening ≤ u.snapshot) × (u.snapshot ≤ journal_len p.journal) × AreOwn (current p.journal) (p.next_id + inserts_of os) u.ops) (some_same (longer t os) u k) (now.since, now.until, own)
       by other u (There n k) = let o = h.running other u k in (o.since, o.until, AreOwn-later (current p.journal) p.next_id (p.next_id + inserts_of os) u.ops (omega arith) o.own)
+
       -- another session's operations concern none of the rows
       free : (other : ℕ) (u : OpenTransaction) → other ≢ session → open_at p.sessions other ≡ Some u → (id : ℕ) → (concerns id t.ops ≡ true) ⊎ (concerns id os ≡ true) → concerns id u.ops ≡ false
       free other u n o id (inl c) = h.apart session other t u (λ e. n (sym e)) is o id c
@@ -151,11 +156,14 @@ module _ (p : Plain) (session : ℕ) (bulk : Bool) (os : List Op) (h : IsPlain p
           low : Tested (concerns id u.ops) → p.next_id ≤ id → concerns id u.ops ≡ false
           low (Passes d) le = let lt : id < p.next_id = (h.running other u o).own.given id d in absurd (omega arith)
           low (Fails d) le = d
+
           which : IsUntouched p session id ⊎ (p.next_id ≤ id) → concerns id u.ops ≡ false
           which (inl f) = f other u n o
           which (inr le) = low (tested (concerns id u.ops)) le
+
       mine : (x : OpenTransaction) → Some (longer t os) ≡ Some x → (id : ℕ) → concerns id x.ops ≡ true → (concerns id t.ops ≡ true) ⊎ (concerns id os ≡ true)
       mine x k id c = or_cases _ _ (sym (concerns-append id t.ops os) ∙ (ap (λ (x : OpenTransaction). concerns id x.ops) (some_same (longer t os) x k) ∙ c))
+
       apart : (a b : ℕ) (x y : OpenTransaction) → a ≢ b → IsSet p.sessions session (Some (longer t os)) a x → IsSet p.sessions session (Some (longer t os)) b y → (id : ℕ) → concerns id x.ops ≡ true → concerns id y.ops ≡ false
       apart a b x y n (Here e k) (Here f l) id c = absurd (n (e ∙ sym f))
       apart a b x y n (Here e k) (There f l) id c = free b y f l id (mine x k id c)
@@ -181,11 +189,12 @@ module _ (p : Plain) (session : ℕ) (bulk : Bool) (os : List Op) (h : IsPlain p
     seats = h.seats;
     still = λ other t o. o;
     others = λ other t o id c. free other t o id (m.which id c);
-    staged = length-with_inserts bulk p.stages os
+    staged = length-with_inserts bulk p.stages os;
   })
     where
       no_own : own_ops (open_at p.sessions session) ≡ []
       no_own = ap own_ops is
+
       free : (other : ℕ) (t : OpenTransaction) → open_at p.sessions other ≡ Some t → (id : ℕ) → IsUntouched p session id ⊎ (p.next_id ≤ id) → concerns id t.ops ≡ false
       free other t o id (inl f) = f other t (λ same. nobody same) o
         where
@@ -205,12 +214,12 @@ module _ (p : Plain) (session : ℕ) (bulk : Bool) (os : List Op) (h : IsPlain p
     seats = h.seats;
     running = λ other t o. let is = h.running other t o in (is.since, is.until, AreOwn-later (current p.journal) p.next_id (p.next_id + inserts_of os) t.ops (omega arith) is.own);
     apart = h.apart;
-    staged = length-with_inserts bulk p.stages os
+    staged = length-with_inserts bulk p.stages os;
   })
 
 -- a statement that changes rows
 changed_is : (p : Plain) (session : ℕ) (bulk : Bool) (os : List Op) → IsPlain p → AreMadeBy p session os → IsTrue (has_ops_room (view p session) os)
-  → IsPlain (record (with_made p session (open_at p.sessions session) os) { next_id = p.next_id + inserts_of os; stages = with_inserts bulk p.stages os })
+    → IsPlain (record (with_made p session (open_at p.sessions session) os) { next_id = p.next_id + inserts_of os; stages = with_inserts bulk p.stages os })
 changed_is p session bulk os h m k = by (open_at p.sessions session) refl os m (room_is p session os h (own_is p session h) k) k
   where
     by : (o : Option OpenTransaction) → open_at p.sessions session ≡ o → (os : List Op) → AreMadeBy p session os → HasRoom p session os → IsTrue (has_ops_room (view p session) os) → IsPlain (record (with_made p session o os) { next_id = p.next_id + inserts_of os; stages = with_inserts bulk p.stages os })
@@ -249,14 +258,16 @@ committed_is p session h k = by (open_at p.sessions session) refl k
           seats = length-set p.sessions session None ∙ h.seats;
           still = λ other u o. still other u (open_at-set p.sessions session None other u o);
           others = λ other u o id c. others other u (open_at-set p.sessions session None other u o) id (ap (concerns id) e ∙ c);
-          staged = refl
+          staged = refl;
         })
           where
             own : AreOwn (current p.journal) p.next_id t.ops
             own = (h.running session t is).own
+
             still : (other : ℕ) (u : OpenTransaction) → IsSet p.sessions session None other u → open_at p.sessions other ≡ Some u
             still other u (Here e k) = cc
             still other u (There n k) = k
+
             others : (other : ℕ) (u : OpenTransaction) → IsSet p.sessions session None other u → (id : ℕ) → concerns id t.ops ≡ true → concerns id u.ops ≡ false
             others other u (Here e k) id c = cc
             others other u (There n k) id c = h.apart session other t u (λ same. n (sym same)) is k id c
@@ -274,7 +285,7 @@ columns_short (c ∷ cs) h =
     let short : length c.name ≤ 32 = name-short c.name (and_left (is_column c) _ h) in omega (arith, one)
 
 created_is : (p : Plain) (session : ℕ) (name : List ℕ) (columns : List Column) → IsPlain p → IsTrue (is_spelled (Create name columns)) → Passed (view p session) (Create name columns)
-  → IsPlain (effect_of p session (Create name columns)).plain
+    → IsPlain (effect_of p session (Create name columns)).plain
 created_is p session name columns h s k =
     let named : IsTrue (is_name name) = and_left (is_name name) (is_count 64 (length columns)) (and_left _ (list_all is_column columns) s) in
     let counted : IsTrue (is_count 64 (length columns)) = and_right (is_name name) _ (and_left _ (list_all is_column columns) s) in
@@ -287,7 +298,7 @@ created_is p session name columns h s k =
     let spelled : IsTrue (has_spelling (entries.Create name columns)) = and_both (is_name name && are_columns columns) _ (and_both (is_name name) _ named are) (le-leb _ 1073741824 small) in
     let suit : IsTrue (suits (current p.journal) (entries.Create name columns)) = and_both (is_none (place_of (current p.journal).tables name)) _ (and_left _ (names_differ columns) k.names) (and_left _ (has_journal_room (view p session)) k.room) in
     IsPlain-created p name columns (p.stages ++ no_stages ∷ []) h (ltb-true (journal_len p.journal) 1073741823 (and_right (nat_lt (length (current p.journal).tables) 256) _ k.room))
-        (and_both (has_spelling (entries.Create name columns)) _ spelled suit) (length-append p.stages (no_stages ∷ []))
+    (and_both (has_spelling (entries.Create name columns)) _ spelled suit) (length-append p.stages (no_stages ∷ []))
 
 -- ---- rows move between stages
 
@@ -299,7 +310,7 @@ merged_is p table n h = IsPlain-rearranged p p.sessions p.next_id (with_stages (
   seats = h.seats;
   running = λ other t o. let is = h.running other t o in (is.since, is.until, is.own);
   apart = h.apart;
-  staged = length-set p.stages table (moved n (stages_at p.stages table))
+  staged = length-set p.stages table (moved n (stages_at p.stages table));
 })
 
 -- ---- each statement
@@ -310,7 +321,7 @@ inserted_is p session name values h s k =
     let are : IsTrue (list_all is_value values) = and_right (nat_le 1 (length values)) _ (and_right (is_name name) (are_some_values values) s) in
     let room : HasRoom p session (inserts (place_in (view p session) name) p.next_id (values ∷ [])) = room_is p session _ h (own_is p session h) k.room in
     changed_is p session false (inserts (place_in (view p session) name) p.next_id (values ∷ [])) h
-        (inserts_are_made p session name (values ∷ []) h t (and_both _ true (suits_is p session name values t k.kinds are) refl) room) k.room
+    (inserts_are_made p session name (values ∷ []) h t (and_both _ true (suits_is p session name values t k.kinds are) refl) room) k.room
 
 loaded_is : (p : Plain) (session : ℕ) (name : List ℕ) (values : List Value) → IsPlain p → IsTrue (is_spelled (Bulk name values)) → Passed (view p session) (Bulk name values) → IsPlain (changed p session (Bulk name values)).plain
 loaded_is p session name values h s k =
@@ -320,7 +331,7 @@ loaded_is p session name values h s k =
     let fit : IsTrue (list_all (fits_columns (columns_in (view p session) name)) news) = and_right (nat_lt 0 (length values)) _ k.kinds in
     let room : HasRoom p session (inserts (place_in (view p session) name) p.next_id news) = room_is p session _ h (own_is p session h) k.room in
     changed_is p session true (inserts (place_in (view p session) name) p.next_id news) h
-        (inserts_are_made p session name news h t (all_suit p session name (length values) (length (columns_in (view p session) name)) values t fit are) room) k.room
+    (inserts_are_made p session name news h t (all_suit p session name (length values) (length (columns_in (view p session) name)) values t fit are) room) k.room
 
 updated_is : (p : Plain) (session : ℕ) (name column : List ℕ) (value : Value) (preds : List Pred) → IsPlain p → IsTrue (is_spelled (Update name column value preds)) → Passed (view p session) (Update name column value preds) → IsPlain (changed p session (Update name column value preds)).plain
 updated_is p session name column value preds h s k =
@@ -329,13 +340,13 @@ updated_is p session name column value preds h s k =
     let kind : IsTrue (has_kind value (kind_in (columns_in (view p session) name) column)) = and_left _ (preds_fit (columns_in (view p session) name) preds) k.kinds in
     let room = room_is p session (made (view p session) (Update name column value preds)) h (own_is p session h) k.room in
     changed_is p session false (made (view p session) (Update name column value preds)) h
-        (updates_are_made p session name column value (found (view p session) name preds) h t is kind (found_is p session name preds h k.clear) room) k.room
+    (updates_are_made p session name column value (found (view p session) name preds) h t is kind (found_is p session name preds h k.clear) room) k.room
 
 deleted_is : (p : Plain) (session : ℕ) (name : List ℕ) (preds : List Pred) → IsPlain p → Passed (view p session) (Delete name preds) → IsPlain (changed p session (Delete name preds)).plain
 deleted_is p session name preds h k =
     let t : IsTable (current p.journal).tables name = table_is p name h (there_known (current p.journal).tables (pred_names preds) name k.names) in
     changed_is p session false (made (view p session) (Delete name preds)) h
-        (deletes_are_made p session name (found (view p session) name preds) h t (found_is p session name preds h k.clear)) k.room
+    (deletes_are_made p session name (found (view p session) name preds) h t (found_is p session name preds h k.clear)) k.room
 
 effect_is : (p : Plain) (session : ℕ) (st : Statement) → IsPlain p → IsTrue (is_spelled st) → Passed (view p session) st → IsPlain (effect_of p session st).plain
 effect_is p session (Create name columns) h s k = created_is p session name columns h s k

@@ -1,5 +1,5 @@
 -- Tables that are there, and the rows that fit them.
-use Rattle.std.proofs.Common.{◌≡◌, ℕ, zero, suc, ◌+◌, ◌<◌, ◌≤◌, Bool, true, false, not, ◌&&◌, cond, List, [], ◌∷◌, ◌++◌, length, Option, None, Some, refl, sym, ap, ◌∙◌, arith, IsTrue, set, nat_le, nat_lt, lt-ltb}
+use Rattle.std.proofs.Common.{◌≡◌, ℕ, zero, suc, ◌+◌, ◌<◌, Bool, true, false, not, ◌&&◌, cond, List, [], ◌∷◌, ◌++◌, length, Option, None, Some, refl, sym, ap, ◌∙◌, arith, IsTrue, set, nat_le, lt-ltb}
 use Rattle.std.specs.Option.{option_map, option_and_then, is_some, is_none, unwrap_or}
 use Rattle.std.specs.List.{list_all, slice_get, find, position_or_len}
 use Rattle.std.specs.FinMap as finmap
@@ -16,7 +16,7 @@ use Rattle.ut_plain.specs.Rows.{Rows, with_op, can_apply, can_apply_all}
 use Rattle.ut_plain.specs.State.{is_table}
 use Rattle.ut_plain.specs.Names.{known_in, has_table}
 use Rattle.ut_plain.specs.Kinds.{kind_in, has_kind}
-use Rattle.ut_plain.proofs.BoolLemmas.{and_left, and_right, and_both, some_is_not_none}
+use Rattle.ut_plain.proofs.BoolLemmas.{and_left, and_right, and_both}
 use Rattle.ut_plain.proofs.ListLemmas.{found_below, position_below}
 
 columns_at-more : (ts us : List Table) (place : ℕ) (cs : List Column) → columns_at ts place ≡ Some cs → columns_at (ts ++ us) place ≡ Some cs
@@ -72,6 +72,7 @@ there ts name h = by (place_of ts name) refl
   where
     at : (place : ℕ) → place_of ts name ≡ Some place → (t : Table) × (slice_get ts place ≡ Some t) → IsThere ts name
     at place e found = At place found.0.columns e (ap (option_map (λ (table : Table). table.columns)) found.1)
+
     by : (o : Option ℕ) → place_of ts name ≡ o → IsThere ts name
     by None e = let wrong : false ≡ true = sym (ap is_some e) ∙ h in cc
     by (Some place) e = at place e (element_below ts place (position_below (λ (table : Table). same_bytes table.name name) ts place e))
@@ -82,6 +83,7 @@ there_known ts names name h = by (place_of ts name) refl
     at : (place : ℕ) → place_of ts name ≡ Some place → (o : Option (List Column)) → columns_at ts place ≡ o → IsThere ts name
     at place e None k = let wrong : false ≡ true = sym (ap (known_in names) (ap (option_and_then (columns_at ts)) e ∙ k)) ∙ h in cc
     at place e (Some cs) k = At place cs e k
+
     by : (o : Option ℕ) → place_of ts name ≡ o → IsThere ts name
     by None e = let wrong : false ≡ true = sym (ap (λ o. known_in names (option_and_then (columns_at ts) o)) e) ∙ h in cc
     by (Some place) e = at place e (columns_at ts place) refl
@@ -103,6 +105,7 @@ set_fits test (c ∷ cs) (v ∷ vs) value f k = by (test c) refl (set_fits test 
   where
     at : ℕ → Type 0
     at n = IsTrue (fits_columns (c ∷ cs) (set (v ∷ vs) n value))
+
     by : (b : Bool) → test c ≡ b → (IsTrue (has_kind value (option_map (λ (c : Column). c.kind) (find test cs))) → IsTrue (fits_columns cs (set vs (position_or_len test cs) value))) → IsTrue (fits_columns (c ∷ cs) (set (v ∷ vs) (cond (not (test c)) (1 + position_or_len test cs) 0) value))
     by true e more =
         ap (λ b. fits_columns (c ∷ cs) (set (v ∷ vs) (cond (not b) (1 + position_or_len test cs) 0) value)) e

@@ -6,7 +6,8 @@ use Rattle.ut_value.specs.Spelling.{is_op, ops_len}
 use Rattle.ut_plain.specs.declared.transaction.OpenTransaction.{OpenTransaction}
 use Rattle.ut_plain.specs.Rows.{can_apply_all, concerns}
 use Rattle.ut_plain.specs.State.{State, IsState}
-use Rattle.ut_plain.specs.Journal.{journal_len, current, load_of, IsJournal}
+use Rattle.ut_plain.specs.Journal.{Journal, journal_len, current, load_of, IsJournal}
+use Rattle.ut_plain.specs.Stages.{Stages}
 use Rattle.ut_plain.specs.Plain.{Plain, Sessions, open_at, inserts_open}
 
 -- What holds of the own operations of an open transaction: they can be applied to the state of the journal, whatever others committed since. Then they can be committed.
@@ -44,3 +45,12 @@ pub record IsPlain (p : Plain) : Type 0 where
   pub apart : AreApart p.sessions
   -- each table has its stages
   pub staged : length p.stages ≡ length (current p.journal).tables
+
+-- what the files of a store have to give for it to be opened: its journal, and the stages of its image
+pub record MayOpen (captured : Stages) (j : Journal) : Type 0 where
+  pub base : IsState j.base
+  pub journal : IsJournal j
+  pub short : journal_len j ≤ 1073741824
+  pub load : load_of j ≤ 2147483648
+  -- each table of the image has its stages
+  pub staged : length captured ≡ length j.base.tables
