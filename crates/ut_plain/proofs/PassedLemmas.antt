@@ -18,7 +18,9 @@ use Rattle.ut_plain.specs.Tables.{place_of, columns_at, columns_of, fits_columns
 use Rattle.ut_plain.specs.Rows.{inserts_of, with_ops}
 use Rattle.ut_plain.specs.Journal.{current}
 use Rattle.ut_plain.specs.Plain.{Plain, open_at, seen, is_taken}
-use Rattle.ut_plain.specs.View.{View, view, own_ops, place_in, columns_in, found}
+use Rattle.ut_plain.specs.View.{View, view, own_ops}
+use Rattle.ut_plain.specs.Condition.{found}
+use Rattle.ut_plain.specs.Tables.{place_in, columns_in}
 use Rattle.ut_plain.specs.Condition.{meets}
 use Rattle.ut_plain.specs.Made.{cut, inserts, deletes_all, updates, changed_value}
 use Rattle.ut_plain.specs.Names.{names_known}
@@ -38,7 +40,7 @@ use Rattle.ut_plain.proofs.SeenLemmas.{seen_now, untouched, IsUntouched, IsFresh
 pub record Passed (v : View) (st : Statement) : Type 0 where
   pub supported : is_supported st ≡ true
   pub names : names_known v.tables st ≡ true
-  pub kinds : kinds_fit v st ≡ true
+  pub kinds : kinds_fit v.tables st ≡ true
   pub state : state_why (is_some v.own) st ≡ None
   pub room : has_room v st ≡ true
   pub clear : conflict v st ≡ None
@@ -59,7 +61,7 @@ pub passed : (v : View) (st : Statement) → refusal v st ≡ None → Passed v 
 passed v st h =
     let a = test_passed (is_supported st) refusals.Syntax _ h in
     let b = test_passed (names_known v.tables st) refusals.Name _ a.1 in
-    let c = test_passed (kinds_fit v st) refusals.Kind _ b.1 in
+    let c = test_passed (kinds_fit v.tables st) refusals.Kind _ b.1 in
     let d = option_passed refusals.State (state_why (is_some v.own) st) _ c.1 in
     let e = test_passed (has_room v st) refusals.Full _ d.1 in
     record { supported = a.0; names = b.0; kinds = c.0; state = d.0; room = e.0; clear = no_option refusals.Conflict (conflict v st) e.1 }
@@ -109,28 +111,28 @@ table_is p name h (At place cs e k) =
       columns = ap are_columns columns_is ∙ columns-are (current p.journal).tables place cs s.tables k;
     }
 
-pub suits_is : (p : Plain) (session : ℕ) (name : List ℕ) (vs : List Value) → IsTable (current p.journal).tables name → IsTrue (fits_columns (columns_in (view p session) name) vs) → IsTrue (list_all is_value vs) → IsTrue (suits_table (current p.journal).tables (place_in (view p session) name) vs)
-suits_is p session name vs t f v = and_both _ _ (ap (λ o. fits_table o vs) t.at ∙ f) (are_values-fit (columns_in (view p session) name) vs t.columns f v)
+pub suits_is : (p : Plain) (session : ℕ) (name : List ℕ) (vs : List Value) → IsTable (current p.journal).tables name → IsTrue (fits_columns (columns_in (current p.journal).tables name) vs) → IsTrue (list_all is_value vs) → IsTrue (suits_table (current p.journal).tables (place_in (current p.journal).tables name) vs)
+suits_is p session name vs t f v = and_both _ _ (ap (λ o. fits_table o vs) t.at ∙ f) (are_values-fit (columns_in (current p.journal).tables name) vs t.columns f v)
 
 -- the operations that a statement makes over what its session may change
 abbrev pub AreMadeBy : Plain → ℕ → List Op → Type 0
 AreMadeBy p session os = AreMade (current p.journal).tables (with_ops (current p.journal).rows (own_ops (open_at p.sessions session))) p.next_id (IsUntouched p session) os
 
-pub all_suit : (p : Plain) (session : ℕ) (name : List ℕ) (n w : ℕ) (vs : List Value) → IsTable (current p.journal).tables name → IsTrue (list_all (fits_columns (columns_in (view p session) name)) (cut n w vs)) → IsTrue (list_all is_value vs)
-    → IsTrue (list_all (suits_table (current p.journal).tables (place_in (view p session) name)) (cut n w vs))
+pub all_suit : (p : Plain) (session : ℕ) (name : List ℕ) (n w : ℕ) (vs : List Value) → IsTable (current p.journal).tables name → IsTrue (list_all (fits_columns (columns_in (current p.journal).tables name)) (cut n w vs)) → IsTrue (list_all is_value vs)
+    → IsTrue (list_all (suits_table (current p.journal).tables (place_in (current p.journal).tables name)) (cut n w vs))
 all_suit p session name zero w vs t f v = refl
 all_suit p session name (suc n) w [] t f v = refl
 all_suit p session name (suc n) w (x ∷ vs) t f v =
     and_both _ _ (suits_is p session name (take w (x ∷ vs)) t (and_left _ _ f) (list_all_take is_value w (x ∷ vs) v))
-    (all_suit p session name n w (drop w (x ∷ vs)) t (and_right (fits_columns (columns_in (view p session) name) (take w (x ∷ vs))) _ f) (list_all_drop is_value w (x ∷ vs) v))
+    (all_suit p session name n w (drop w (x ∷ vs)) t (and_right (fits_columns (columns_in (current p.journal).tables name) (take w (x ∷ vs))) _ f) (list_all_drop is_value w (x ∷ vs) v))
 
-pub inserts_are_made : (p : Plain) (session : ℕ) (name : List ℕ) (news : List (List Value)) → IsPlain p → IsTable (current p.journal).tables name → IsTrue (list_all (suits_table (current p.journal).tables (place_in (view p session) name)) news)
-    → HasRoom p session (inserts (place_in (view p session) name) p.next_id news) → AreMadeBy p session (inserts (place_in (view p session) name) p.next_id news)
+pub inserts_are_made : (p : Plain) (session : ℕ) (name : List ℕ) (news : List (List Value)) → IsPlain p → IsTable (current p.journal).tables name → IsTrue (list_all (suits_table (current p.journal).tables (place_in (current p.journal).tables name)) news)
+    → HasRoom p session (inserts (place_in (current p.journal).tables name) p.next_id news) → AreMadeBy p session (inserts (place_in (current p.journal).tables name) p.next_id news)
 inserts_are_made p session name news h t s r =
-    let count = inserts_of-inserts (place_in (view p session) name) p.next_id news in
+    let count = inserts_of-inserts (place_in (current p.journal).tables name) p.next_id news in
     let room = r.ids in
     let load = h.load in
-    inserts_made (current p.journal).tables (place_in (view p session) name) t.few (IsUntouched p session) (with_ops (current p.journal).rows (own_ops (open_at p.sessions session))) p.next_id news
+    inserts_made (current p.journal).tables (place_in (current p.journal).tables name) t.few (IsUntouched p session) (with_ops (current p.journal).rows (own_ops (open_at p.sessions session))) p.next_id news
     (IsFresh-own p session h) (omega arith) (omega (arith, count, room)) s
 
 -- what is found stands where the session's operations apply, and suits the table
@@ -138,15 +140,14 @@ pub record AreFound (p : Plain) (session table : ℕ) (es : List (ℕ × Stored)
   pub hits : AreHits (finmap.get (with_ops (current p.journal).rows (own_ops (open_at p.sessions session)))) table es
   pub each : AllEntries (λ id row. IsUntouched p session id × IsTrue (suits_table (current p.journal).tables row.table row.values)) es
 
-pub found_is : (p : Plain) (session : ℕ) (name : List ℕ) (preds : List Pred) → IsPlain p → first_taken (is_taken p session) (found (view p session) name preds) ≡ None → AreFound p session (place_in (view p session) name) (found (view p session) name preds)
+pub found_is : (p : Plain) (session : ℕ) (name : List ℕ) (preds : List Pred) → IsPlain p → first_taken (is_taken p session) (found (current p.journal).tables (finmap.entries (seen p session)) name preds) ≡ None → AreFound p session (place_in (current p.journal).tables name) (found (current p.journal).tables (finmap.entries (seen p session)) name preds)
 found_is p session name preds h clear =
-    let v = view p session in
-    let table = place_in v name in
-    let hits : AreHits (finmap.get (seen p session)) table (found v name preds) = AreHits-filter (λ e. meets (columns_in v name) preds e.1.values) (finmap.get (seen p session)) table _ (AreHits-table_rows (seen p session) table) in
-    let none : NoneTaken (is_taken p session) (found v name preds) = none_taken (is_taken p session) (found v name preds) clear in
+    let table = place_in (current p.journal).tables name in
+    let hits : AreHits (finmap.get (seen p session)) table (found (current p.journal).tables (finmap.entries (seen p session)) name preds) = AreHits-filter (λ e. meets (columns_in (current p.journal).tables name) preds e.1.values) (finmap.get (seen p session)) table _ (AreHits-table_rows (seen p session) table) in
+    let none : NoneTaken (is_taken p session) (found (current p.journal).tables (finmap.entries (seen p session)) name preds) = none_taken (is_taken p session) (found (current p.journal).tables (finmap.entries (seen p session)) name preds) clear in
     record {
-      hits = AreHits-map (finmap.get (seen p session)) _ (is_taken p session) table (found v name preds) now hits none;
-      each = each_hit (finmap.get (seen p session)) (is_taken p session) _ table (found v name preds) (λ id row at free. (untouched p session id row h at free, suits id row (now id row at free))) hits none;
+      hits = AreHits-map (finmap.get (seen p session)) _ (is_taken p session) table (found (current p.journal).tables (finmap.entries (seen p session)) name preds) now hits none;
+      each = each_hit (finmap.get (seen p session)) (is_taken p session) _ table (found (current p.journal).tables (finmap.entries (seen p session)) name preds) (λ id row at free. (untouched p session id row h at free, suits id row (now id row at free))) hits none;
     }
   where
     now : (id : ℕ) (row : Stored) → finmap.get (seen p session) id ≡ Some row → is_taken p session id ≡ false → finmap.get (with_ops (current p.journal).rows (own_ops (open_at p.sessions session))) id ≡ Some row
@@ -159,23 +160,23 @@ found_is p session name preds h clear =
     suits : (id : ℕ) (row : Stored) → finmap.get (with_ops (current p.journal).rows (own_ops (open_at p.sessions session))) id ≡ Some row → IsTrue (suits_table (current p.journal).tables row.table row.values)
     suits id row at = let is = (AreRows-own p session h).each id row at in and_both _ _ is.fits is.spelled
 
-pub deletes_are_made : (p : Plain) (session : ℕ) (name : List ℕ) (es : List (ℕ × Stored)) → IsPlain p → IsTable (current p.journal).tables name → AreFound p session (place_in (view p session) name) es → AreMadeBy p session (deletes_all (place_in (view p session) name) es)
+pub deletes_are_made : (p : Plain) (session : ℕ) (name : List ℕ) (es : List (ℕ × Stored)) → IsPlain p → IsTable (current p.journal).tables name → AreFound p session (place_in (current p.journal).tables name) es → AreMadeBy p session (deletes_all (place_in (current p.journal).tables name) es)
 deletes_are_made p session name es h t f =
-    deletes_made (current p.journal).tables (place_in (view p session) name) t.few (IsUntouched p session) (with_ops (current p.journal).rows (own_ops (open_at p.sessions session))) p.next_id es (IsFresh-own p session h) h.last f.hits f.each
+    deletes_made (current p.journal).tables (place_in (current p.journal).tables name) t.few (IsUntouched p session) (with_ops (current p.journal).rows (own_ops (open_at p.sessions session))) p.next_id es (IsFresh-own p session h) h.last f.hits f.each
 
-pub updates_are_made : (p : Plain) (session : ℕ) (name column : List ℕ) (value : Value) (es : List (ℕ × Stored)) → IsPlain p → IsTable (current p.journal).tables name → IsTrue (is_value value) → IsTrue (has_kind value (kind_in (columns_in (view p session) name) column)) → AreFound p session (place_in (view p session) name) es
-    → HasRoom p session (updates (place_in (view p session) name) p.next_id (changed_value (columns_in (view p session) name) column value) es)
-    → AreMadeBy p session (updates (place_in (view p session) name) p.next_id (changed_value (columns_in (view p session) name) column value) es)
+pub updates_are_made : (p : Plain) (session : ℕ) (name column : List ℕ) (value : Value) (es : List (ℕ × Stored)) → IsPlain p → IsTable (current p.journal).tables name → IsTrue (is_value value) → IsTrue (has_kind value (kind_in (columns_in (current p.journal).tables name) column)) → AreFound p session (place_in (current p.journal).tables name) es
+    → HasRoom p session (updates (place_in (current p.journal).tables name) p.next_id (changed_value (columns_in (current p.journal).tables name) column value) es)
+    → AreMadeBy p session (updates (place_in (current p.journal).tables name) p.next_id (changed_value (columns_in (current p.journal).tables name) column value) es)
 updates_are_made p session name column value es h t v k f r =
-    let count = inserts_of-updates (place_in (view p session) name) p.next_id (changed_value (columns_in (view p session) name) column value) es in
+    let count = inserts_of-updates (place_in (current p.journal).tables name) p.next_id (changed_value (columns_in (current p.journal).tables name) column value) es in
     let room = r.ids in
     let load = h.load in
-    updates_made (current p.journal).tables (place_in (view p session) name) t.few (IsUntouched p session) (changed_value (columns_in (view p session) name) column value) keeps
+    updates_made (current p.journal).tables (place_in (current p.journal).tables name) t.few (IsUntouched p session) (changed_value (columns_in (current p.journal).tables name) column value) keeps
     (with_ops (current p.journal).rows (own_ops (open_at p.sessions session))) p.next_id es (IsFresh-own p session h) (omega arith) (omega (arith, count, room)) f.hits f.each
   where
-    keeps : (vs : List Value) → IsTrue (suits_table (current p.journal).tables (place_in (view p session) name) vs) → IsTrue (suits_table (current p.journal).tables (place_in (view p session) name) (changed_value (columns_in (view p session) name) column value vs))
+    keeps : (vs : List Value) → IsTrue (suits_table (current p.journal).tables (place_in (current p.journal).tables name) vs) → IsTrue (suits_table (current p.journal).tables (place_in (current p.journal).tables name) (changed_value (columns_in (current p.journal).tables name) column value vs))
     keeps vs s =
-        let fits : IsTrue (fits_columns (columns_in (view p session) name) vs) = sym (ap (λ o. fits_table o vs) t.at) ∙ and_left _ (are_values vs) s in
-        let all : IsTrue (list_all is_value vs) = and_right (is_count 64 (length vs)) _ (and_right (fits_table (columns_at (current p.journal).tables (place_in (view p session) name)) vs) _ s) in
-        suits_is p session name (changed_value (columns_in (view p session) name) column value vs) t
-        (fits_columns-set (columns_in (view p session) name) column vs value fits k) (list_all_set is_value vs _ value all v)
+        let fits : IsTrue (fits_columns (columns_in (current p.journal).tables name) vs) = sym (ap (λ o. fits_table o vs) t.at) ∙ and_left _ (are_values vs) s in
+        let all : IsTrue (list_all is_value vs) = and_right (is_count 64 (length vs)) _ (and_right (fits_table (columns_at (current p.journal).tables (place_in (current p.journal).tables name)) vs) _ s) in
+        suits_is p session name (changed_value (columns_in (current p.journal).tables name) column value vs) t
+        (fits_columns-set (columns_in (current p.journal).tables name) column vs value fits k) (list_all_set is_value vs _ value all v)

@@ -10,7 +10,7 @@ use Rattle.ut_plain.specs.declared.transaction.OpenTransaction.{OpenTransaction}
 use Rattle.ut_plain.specs.Rows.{with_ops, can_apply_all, concerns, inserts_of}
 use Rattle.ut_plain.specs.State.{State, can, after}
 use Rattle.ut_plain.specs.Journal.{current, journal_len, appended, load_of}
-use Rattle.ut_plain.specs.Stages.{Stages}
+use Rattle.ut_plain.specs.Stages.{Stages, all_places}
 use Rattle.ut_plain.specs.Plain.{Plain, Sessions, open_at, inserts_open}
 use Rattle.ut_plain.specs.Reached.{AreOwn, IsOpen, AreApart, IsPlain}
 use Rattle.ut_plain.proofs.BoolLemmas.{and_both, Tested, tested, Passes, Fails, not_both}
@@ -34,6 +34,7 @@ pub record Rearranges (p : Plain) (sessions : Sessions) (next : ℕ) (stages : S
   pub running : (session : ℕ) (t : OpenTransaction) → open_at sessions session ≡ Some t → (p.opening ≤ t.snapshot) × (t.snapshot ≤ journal_len p.journal) × AreOwn (current p.journal) next t.ops
   pub apart : AreApart sessions
   pub staged : length stages ≡ length p.stages
+  pub places : all_places stages < next
 
 pub IsPlain-rearranged : (p : Plain) (sessions : Sessions) (next : ℕ) (stages : Stages) → IsPlain p → Rearranges p sessions next stages → IsPlain (record p { sessions = sessions; next_id = next; stages = stages })
 IsPlain-rearranged p sessions next stages h r = record {
@@ -49,6 +50,7 @@ IsPlain-rearranged p sessions next stages h r = record {
   running = λ session t e. let is = r.running session t e in record { since = is.0; until = is.1; own = is.2 };
   apart = r.apart;
   staged = r.staged ∙ h.staged;
+  places = r.places;
 }
 
 -- one entry more, after which the sessions that are still open may go on
@@ -66,6 +68,7 @@ pub record Commits (p : Plain) (os : List Op) (sessions : Sessions) (next : ℕ)
   pub still : (session : ℕ) (t : OpenTransaction) → open_at sessions session ≡ Some t → open_at p.sessions session ≡ Some t
   pub others : (session : ℕ) (t : OpenTransaction) → open_at sessions session ≡ Some t → (id : ℕ) → concerns id os ≡ true → concerns id t.ops ≡ false
   pub staged : length stages ≡ length p.stages
+  pub places : all_places stages < next
 
 can_txn : (s : State) (os : List Op) → 1 ≤ length os → entry_len (entries.Txn os) ≤ 1073741824 → IsTrue (list_all is_op os) → IsTrue (can_apply_all s.tables s.rows os) → IsTrue (can s (entries.Txn os))
 can_txn s os n b o a = and_both (has_spelling (entries.Txn os)) _ (and_both (nat_le 1 (length os) && list_all is_op os) (nat_le (entry_len (entries.Txn os)) 1073741824) (and_both (nat_le 1 (length os)) _ (le-leb 1 (length os) n) o) (le-leb _ 1073741824 b)) a
@@ -103,6 +106,7 @@ IsPlain-committed p os sessions next stages h c =
       running = λ session t o. still session t o (h.running session t (c.still session t o)) longer now;
       apart = λ a b t u n x y. h.apart a b t u n (c.still a t x) (c.still b u y);
       staged = c.staged ∙ h.staged ∙ ap (λ (s : State). length s.tables) (sym now);
+      places = c.places;
     }
   where
     still : (session : ℕ) (t : OpenTransaction) → open_at sessions session ≡ Some t → IsOpen p t → journal_len (appended p.journal (entries.Txn os)) ≡ journal_len p.journal + 1 → current (appended p.journal (entries.Txn os)) ≡ after (current p.journal) (entries.Txn os)
@@ -114,9 +118,9 @@ IsPlain-committed p os sessions next stages h c =
     }
 
 -- a new table
-pub IsPlain-created : (p : Plain) (name : List ℕ) (columns : List Column) (stages : Stages) → IsPlain p → journal_len p.journal < 1073741823 → IsTrue (can (current p.journal) (entries.Create name columns)) → length stages ≡ length p.stages + 1
+pub IsPlain-created : (p : Plain) (name : List ℕ) (columns : List Column) (stages : Stages) → IsPlain p → journal_len p.journal < 1073741823 → IsTrue (can (current p.journal) (entries.Create name columns)) → length stages ≡ length p.stages + 1 → all_places stages ≤ all_places p.stages
     → IsPlain (record p { journal = appended p.journal (entries.Create name columns); stages = stages })
-IsPlain-created p name columns stages h room fits staged =
+IsPlain-created p name columns stages h room fits staged places =
     let e : Entry = entries.Create name columns in
     let longer = journal_len-appended p.journal e in
     let now = current-appended p.journal e in
@@ -134,6 +138,7 @@ IsPlain-created p name columns stages h room fits staged =
       running = λ session t o. still t (h.running session t o) longer now;
       apart = h.apart;
       staged = more (ap (λ (s : State). length s.tables) now);
+      places = let before = h.places in omega (arith, places);
     }
   where
     more : length (current (appended p.journal (entries.Create name columns))).tables ≡ length ((current p.journal).tables ++ record { name = name; columns = columns } ∷ []) → length stages ≡ length (current (appended p.journal (entries.Create name columns))).tables

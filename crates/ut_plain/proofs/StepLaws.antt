@@ -21,9 +21,12 @@ use Rattle.ut_plain.specs.Tables.{place_of, fits_columns}
 use Rattle.ut_plain.specs.Rows.{with_ops, can_apply_all, concerns, op_inserts, inserts_of}
 use Rattle.ut_plain.specs.State.{suits}
 use Rattle.ut_plain.specs.Journal.{current, journal_len, appended}
-use Rattle.ut_plain.specs.Stages.{Stages, no_stages, stages_at, with_stages, with_inserts, entered, placed, moved}
-use Rattle.ut_plain.specs.Plain.{Plain, open_at, open_inserts}
-use Rattle.ut_plain.specs.View.{view, own_ops, place_in, columns_in, found}
+use Rattle.ut_plain.specs.Stages.{Stages, places_of, no_stages, stages_at, with_stages, with_inserts, entered, placed, moved}
+use Rattle.std.specs.FinMap as finmap
+use Rattle.ut_plain.specs.Plain.{Plain, open_at, open_inserts, seen}
+use Rattle.ut_plain.specs.View.{view, own_ops}
+use Rattle.ut_plain.specs.Condition.{found}
+use Rattle.ut_plain.specs.Tables.{place_in, columns_in}
 use Rattle.ut_plain.specs.Made.{made, inserts, rows_of}
 use Rattle.ut_plain.specs.Names.{pred_names}
 use Rattle.ut_plain.specs.Kinds.{has_kind, kind_in, preds_fit}
@@ -36,6 +39,7 @@ use Rattle.ut_plain.proofs.BoolLemmas.{and_left, and_right, and_both, Tested, te
 use Rattle.ut_plain.proofs.ListLemmas.{list_all_append}
 use Rattle.ut_plain.proofs.RowLaws.{can_apply_all-append, concerns-append}
 use Rattle.ut_plain.proofs.TableLemmas.{there, there_known}
+use Rattle.ut_plain.proofs.StageLemmas.{all_places-with_inserts, all_places-moved}
 use Rattle.ut_plain.proofs.SessionLemmas.{IsSet, Here, There, open_at-set, inserts_open-set}
 use Rattle.ut_plain.proofs.SeenLemmas.{own_is, IsUntouched}
 use Rattle.ut_plain.proofs.PassedLemmas.{Passed, passed, HasRoom, room_is, IsTable, table_is, AreMadeBy, suits_is, all_suit, inserts_are_made, deletes_are_made, updates_are_made, found_is}
@@ -60,6 +64,7 @@ closed_is p session h = IsPlain-rearranged p (set p.sessions session None) p.nex
   running = λ other u o. by other u (open_at-set p.sessions session None other u o);
   apart = λ a b t u n x y. h.apart a b t u n (still a t (open_at-set p.sessions session None a t x)) (still b u (open_at-set p.sessions session None b u y));
   staged = refl;
+  places = h.places;
 })
   where
     still : (other : ℕ) (u : OpenTransaction) → IsSet p.sessions session None other u → open_at p.sessions other ≡ Some u
@@ -86,6 +91,7 @@ begun_is p session h = IsPlain-rearranged p (set p.sessions session (Some (fresh
   running = λ other u o. by other u (open_at-set p.sessions session (Some (fresh p)) other u o);
   apart = λ a b t u n x y id c. apart a b t u n (open_at-set p.sessions session (Some (fresh p)) a t x) (open_at-set p.sessions session (Some (fresh p)) b u y) id c;
   staged = refl;
+  places = h.places;
 })
   where
     by : (other : ℕ) (u : OpenTransaction) → IsSet p.sessions session (Some (fresh p)) other u → (p.opening ≤ u.snapshot) × (u.snapshot ≤ journal_len p.journal) × AreOwn (current p.journal) p.next_id u.ops
@@ -123,6 +129,7 @@ module _ (p : Plain) (session : ℕ) (bulk : Bool) (os : List Op) (h : IsPlain p
     running = λ other u o. by other u (open_at-set p.sessions session (Some (longer t os)) other u o);
     apart = λ a b x y n o q id c. apart a b x y n (open_at-set p.sessions session (Some (longer t os)) a x o) (open_at-set p.sessions session (Some (longer t os)) b y q) id c;
     staged = length-with_inserts bulk p.stages os;
+    places = let before = h.places in omega (arith, all_places-with_inserts bulk p.stages os);
   })
     where
       own_is_t : own_ops (open_at p.sessions session) ≡ t.ops
@@ -190,6 +197,7 @@ module _ (p : Plain) (session : ℕ) (bulk : Bool) (os : List Op) (h : IsPlain p
     still = λ other t o. o;
     others = λ other t o id c. free other t o id (m.which id c);
     staged = length-with_inserts bulk p.stages os;
+    places = let before = h.places in omega (arith, all_places-with_inserts bulk p.stages os);
   })
     where
       no_own : own_ops (open_at p.sessions session) ≡ []
@@ -215,6 +223,7 @@ module _ (p : Plain) (session : ℕ) (bulk : Bool) (os : List Op) (h : IsPlain p
     running = λ other t o. let is = h.running other t o in (is.since, is.until, AreOwn-later (current p.journal) p.next_id (p.next_id + inserts_of os) t.ops (omega arith) is.own);
     apart = h.apart;
     staged = length-with_inserts bulk p.stages os;
+    places = let before = h.places in omega (arith, all_places-with_inserts bulk p.stages os);
   })
 
 -- a statement that changes rows
@@ -259,6 +268,7 @@ committed_is p session h k = by (open_at p.sessions session) refl k
           still = λ other u o. still other u (open_at-set p.sessions session None other u o);
           others = λ other u o id c. others other u (open_at-set p.sessions session None other u o) id (ap (concerns id) e ∙ c);
           staged = refl;
+          places = h.places;
         })
           where
             own : AreOwn (current p.journal) p.next_id t.ops
@@ -298,7 +308,7 @@ created_is p session name columns h s k =
     let spelled : IsTrue (has_spelling (entries.Create name columns)) = and_both (is_name name && are_columns columns) _ (and_both (is_name name) _ named are) (le-leb _ 1073741824 small) in
     let suit : IsTrue (suits (current p.journal) (entries.Create name columns)) = and_both (is_none (place_of (current p.journal).tables name)) _ (and_left _ (names_differ columns) k.names) (and_left _ (has_journal_room (view p session)) k.room) in
     IsPlain-created p name columns (p.stages ++ no_stages ∷ []) h (ltb-true (journal_len p.journal) 1073741823 (and_right (nat_lt (length (current p.journal).tables) 256) _ k.room))
-    (and_both (has_spelling (entries.Create name columns)) _ spelled suit) (length-append p.stages (no_stages ∷ []))
+    (and_both (has_spelling (entries.Create name columns)) _ spelled suit) (length-append p.stages (no_stages ∷ [])) (let same = sum_by-append places_of p.stages (no_stages ∷ []) in omega (arith, same))
 
 -- ---- rows move between stages
 
@@ -311,6 +321,7 @@ merged_is p table n h = IsPlain-rearranged p p.sessions p.next_id (with_stages (
   running = λ other t o. let is = h.running other t o in (is.since, is.until, is.own);
   apart = h.apart;
   staged = length-set p.stages table (moved n (stages_at p.stages table));
+  places = let before = h.places in omega (arith, all_places-moved n table p.stages);
 })
 
 -- ---- each statement
@@ -319,34 +330,34 @@ inserted_is : (p : Plain) (session : ℕ) (name : List ℕ) (values : List Value
 inserted_is p session name values h s k =
     let t : IsTable (current p.journal).tables name = table_is p name h (there (current p.journal).tables name k.names) in
     let are : IsTrue (list_all is_value values) = and_right (nat_le 1 (length values)) _ (and_right (is_name name) (are_some_values values) s) in
-    let room : HasRoom p session (inserts (place_in (view p session) name) p.next_id (values ∷ [])) = room_is p session _ h (own_is p session h) k.room in
-    changed_is p session false (inserts (place_in (view p session) name) p.next_id (values ∷ [])) h
+    let room : HasRoom p session (inserts (place_in (current p.journal).tables name) p.next_id (values ∷ [])) = room_is p session _ h (own_is p session h) k.room in
+    changed_is p session false (inserts (place_in (current p.journal).tables name) p.next_id (values ∷ [])) h
     (inserts_are_made p session name (values ∷ []) h t (and_both _ true (suits_is p session name values t k.kinds are) refl) room) k.room
 
 loaded_is : (p : Plain) (session : ℕ) (name : List ℕ) (values : List Value) → IsPlain p → IsTrue (is_spelled (Bulk name values)) → Passed (view p session) (Bulk name values) → IsPlain (changed p session (Bulk name values)).plain
 loaded_is p session name values h s k =
     let t : IsTable (current p.journal).tables name = table_is p name h (there (current p.journal).tables name k.names) in
     let are : IsTrue (list_all is_value values) = and_right (nat_le 1 (length values)) _ (and_right (is_name name) (are_some_values values) s) in
-    let news = rows_of (length (columns_in (view p session) name)) values in
-    let fit : IsTrue (list_all (fits_columns (columns_in (view p session) name)) news) = and_right (nat_lt 0 (length values)) _ k.kinds in
-    let room : HasRoom p session (inserts (place_in (view p session) name) p.next_id news) = room_is p session _ h (own_is p session h) k.room in
-    changed_is p session true (inserts (place_in (view p session) name) p.next_id news) h
-    (inserts_are_made p session name news h t (all_suit p session name (length values) (length (columns_in (view p session) name)) values t fit are) room) k.room
+    let news = rows_of (length (columns_in (current p.journal).tables name)) values in
+    let fit : IsTrue (list_all (fits_columns (columns_in (current p.journal).tables name)) news) = and_right (nat_lt 0 (length values)) _ k.kinds in
+    let room : HasRoom p session (inserts (place_in (current p.journal).tables name) p.next_id news) = room_is p session _ h (own_is p session h) k.room in
+    changed_is p session true (inserts (place_in (current p.journal).tables name) p.next_id news) h
+    (inserts_are_made p session name news h t (all_suit p session name (length values) (length (columns_in (current p.journal).tables name)) values t fit are) room) k.room
 
 updated_is : (p : Plain) (session : ℕ) (name column : List ℕ) (value : Value) (preds : List Pred) → IsPlain p → IsTrue (is_spelled (Update name column value preds)) → Passed (view p session) (Update name column value preds) → IsPlain (changed p session (Update name column value preds)).plain
 updated_is p session name column value preds h s k =
     let t : IsTable (current p.journal).tables name = table_is p name h (there_known (current p.journal).tables (column ∷ pred_names preds) name k.names) in
     let is : IsTrue (is_value value) = and_right (is_name name && is_name column) _ (and_left _ (are_preds preds) s) in
-    let kind : IsTrue (has_kind value (kind_in (columns_in (view p session) name) column)) = and_left _ (preds_fit (columns_in (view p session) name) preds) k.kinds in
-    let room = room_is p session (made (view p session) (Update name column value preds)) h (own_is p session h) k.room in
-    changed_is p session false (made (view p session) (Update name column value preds)) h
-    (updates_are_made p session name column value (found (view p session) name preds) h t is kind (found_is p session name preds h k.clear) room) k.room
+    let kind : IsTrue (has_kind value (kind_in (columns_in (current p.journal).tables name) column)) = and_left _ (preds_fit (columns_in (current p.journal).tables name) preds) k.kinds in
+    let room = room_is p session (made (current p.journal).tables (finmap.entries (seen p session)) p.next_id (Update name column value preds)) h (own_is p session h) k.room in
+    changed_is p session false (made (current p.journal).tables (finmap.entries (seen p session)) p.next_id (Update name column value preds)) h
+    (updates_are_made p session name column value (found (current p.journal).tables (finmap.entries (seen p session)) name preds) h t is kind (found_is p session name preds h k.clear) room) k.room
 
 deleted_is : (p : Plain) (session : ℕ) (name : List ℕ) (preds : List Pred) → IsPlain p → Passed (view p session) (Delete name preds) → IsPlain (changed p session (Delete name preds)).plain
 deleted_is p session name preds h k =
     let t : IsTable (current p.journal).tables name = table_is p name h (there_known (current p.journal).tables (pred_names preds) name k.names) in
-    changed_is p session false (made (view p session) (Delete name preds)) h
-    (deletes_are_made p session name (found (view p session) name preds) h t (found_is p session name preds h k.clear)) k.room
+    changed_is p session false (made (current p.journal).tables (finmap.entries (seen p session)) p.next_id (Delete name preds)) h
+    (deletes_are_made p session name (found (current p.journal).tables (finmap.entries (seen p session)) name preds) h t (found_is p session name preds h k.clear)) k.room
 
 effect_is : (p : Plain) (session : ℕ) (st : Statement) → IsPlain p → IsTrue (is_spelled st) → Passed (view p session) st → IsPlain (effect_of p session st).plain
 effect_is p session (Create name columns) h s k = created_is p session name columns h s k
@@ -358,7 +369,7 @@ effect_is p session (Delete name preds) h s k = deleted_is p session name preds 
 effect_is p session Begin h s k = begun_is p session h
 effect_is p session Commit h s k = committed_is p session h k.room
 effect_is p session Abort h s k = closed_is p session h
-effect_is p session (MergeL1 name n) h s k = merged_is p (place_in (view p session) name) n h
+effect_is p session (MergeL1 name n) h s k = merged_is p (place_in (current p.journal).tables name) n h
 effect_is p session (statements.MergeBegin name kind) h s k = h
 effect_is p session statements.MergeEnd h s k = h
 effect_is p session statements.SaveBegin h s k = h

@@ -35,4 +35,4 @@ has_commit_room v (op ∷ ops) = has_journal_room v
 abbrev pub has_room : View → Statement → Bool
 has_room v (Create name columns) = nat_lt (length v.tables) 256 && has_journal_room v
 has_room v Commit = has_commit_room v (own_ops v.own)
-has_room v st = has_ops_room v (made v st)
+has_room v st = has_ops_room v (made v.tables v.rows v.next_id st)

@@ -1,13 +1,14 @@
 -- What holds of every plain state that a store reaches.
 use Rattle.std.specs.Prelude.{ℕ, ◌+◌, ◌<◌, ◌≤◌, ◌≡◌, ◌≢◌, true, false, List, length, Some, IsTrue}
 use Rattle.std.specs.List.{list_all}
+use Rattle.std.specs.FinMap as finmap
 use Rattle.ut_value.specs.declared.entry.Op.{Op}
 use Rattle.ut_value.specs.Spelling.{is_op, ops_len}
 use Rattle.ut_plain.specs.declared.transaction.OpenTransaction.{OpenTransaction}
 use Rattle.ut_plain.specs.Rows.{can_apply_all, concerns}
 use Rattle.ut_plain.specs.State.{State, IsState}
 use Rattle.ut_plain.specs.Journal.{Journal, journal_len, current, load_of, IsJournal}
-use Rattle.ut_plain.specs.Stages.{Stages}
+use Rattle.ut_plain.specs.Stages.{Stages, all_places}
 use Rattle.ut_plain.specs.Plain.{Plain, Sessions, open_at, inserts_open}
 
 -- What holds of the own operations of an open transaction: they can be applied to the state of the journal, whatever others committed since. Then they can be committed.
@@ -43,8 +44,9 @@ pub record IsPlain (p : Plain) : Type 0 where
   pub seats : length p.sessions ≡ 17
   pub running : (session : ℕ) (t : OpenTransaction) → open_at p.sessions session ≡ Some t → IsOpen p t
   pub apart : AreApart p.sessions
-  -- each table has its stages
+  -- each table has its stages, and each row in one that isn't main has an id of its own
   pub staged : length p.stages ≡ length (current p.journal).tables
+  pub places : all_places p.stages < p.next_id
 
 -- what the files of a store have to give for it to be opened: its journal, and the stages of its image
 pub record MayOpen (captured : Stages) (j : Journal) : Type 0 where
@@ -52,5 +54,6 @@ pub record MayOpen (captured : Stages) (j : Journal) : Type 0 where
   pub journal : IsJournal j
   pub short : journal_len j ≤ 1073741824
   pub load : load_of j ≤ 2147483648
-  -- each table of the image has its stages
+  -- each table of the image has its stages, of rows that the journal begins with
   pub staged : length captured ≡ length j.base.tables
+  pub places : all_places captured ≤ finmap.len j.base.rows

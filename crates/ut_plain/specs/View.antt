@@ -1,18 +1,12 @@
 -- All that a statement of a session reads. What it is answered and which operations it makes follow from this alone.
 use Rattle.std.specs.Prelude.{ℕ, Bool, List, [], Option, None, Some}
-use Rattle.std.specs.Option.{unwrap_or}
 use Rattle.std.specs.FinMap as finmap
-use Rattle.ut_value.specs.declared.value.Column.{Column}
 use Rattle.ut_value.specs.declared.entry.Op.{Op}
 use Rattle.ut_plain.specs.declared.table.Table.{Table}
 use Rattle.ut_plain.specs.declared.table.Stored.{Stored}
-use Rattle.ut_plain.specs.declared.statement.Pred.{Pred}
 use Rattle.ut_plain.specs.declared.transaction.OpenTransaction.{OpenTransaction}
-use Rattle.ut_plain.specs.Tables.{place_of, columns_of}
-use Rattle.ut_plain.specs.Rows.{table_rows}
 use Rattle.ut_plain.specs.Journal.{journal_len, current}
 use Rattle.ut_plain.specs.Plain.{Plain, seen, open_at, is_taken}
-use Rattle.ut_plain.specs.Condition.{those}
 
 pub record View : Type 0 where
   pub tables : List Table
@@ -44,14 +38,3 @@ view p session = record {
 abbrev pub own_ops : Option OpenTransaction → List Op
 own_ops None = []
 own_ops (Some t) = t.ops
-
--- the place of a table that is there, and its columns
-abbrev pub place_in : View → List ℕ → ℕ
-place_in v name = unwrap_or (place_of v.tables name) 0
-
-abbrev pub columns_in : View → List ℕ → List Column
-columns_in v name = unwrap_or (columns_of v.tables name) []
-
--- the rows of a table that are seen and meet a condition, by ascending id
-abbrev pub found : View → List ℕ → List Pred → List (ℕ × Stored)
-found v name preds = those (columns_in v name) preds (table_rows (place_in v name) v.rows)
