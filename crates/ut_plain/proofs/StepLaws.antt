@@ -10,7 +10,7 @@ use Rattle.ut_value.specs.declared.entry.Op.TheVariants as ops
 use Rattle.ut_value.specs.declared.entry.Entry.TheVariants as entries
 use Rattle.ut_value.specs.Text.{is_name, is_name_byte, starts_with_letter}
 use Rattle.ut_value.specs.KeyBytes.{is_value}
-use Rattle.ut_value.specs.Spelling.{has_spelling, is_op, is_count, is_column, are_columns, names_differ, entry_len, column_len}
+use Rattle.ut_value.specs.Spelling.{has_spelling, is_op, is_count, is_column, are_columns, names_differ, has_column, entry_len, column_len}
 use Rattle.ut_plain.specs.declared.statement.Pred.{Pred}
 use Rattle.ut_plain.specs.declared.statement.Statement.{Statement}
 use Rattle.ut_plain.specs.declared.statement.Statement.TheVariants as statements
@@ -28,7 +28,7 @@ use Rattle.ut_plain.specs.View.{view, own_ops}
 use Rattle.ut_plain.specs.Condition.{found}
 use Rattle.ut_plain.specs.Tables.{place_in, columns_in}
 use Rattle.ut_plain.specs.Made.{made, inserts, rows_of}
-use Rattle.ut_plain.specs.Names.{pred_names}
+use Rattle.ut_plain.specs.Names.{preds_known}
 use Rattle.ut_plain.specs.Kinds.{has_kind, kind_in, preds_fit}
 use Rattle.ut_plain.specs.Limits.{has_ops_room, has_ids, has_entry_room, has_journal_room, has_commit_room}
 use Rattle.ut_plain.specs.Refusals.{refusal}
@@ -346,7 +346,7 @@ loaded_is p session name values h s k =
 
 updated_is : (p : Plain) (session : ℕ) (name column : List ℕ) (value : Value) (preds : List Pred) → IsPlain p → IsTrue (is_spelled (Update name column value preds)) → Passed (view p session) (Update name column value preds) → IsPlain (changed p session (Update name column value preds)).plain
 updated_is p session name column value preds h s k =
-    let t : IsTable (current p.journal).tables name = table_is p name h (there_known (current p.journal).tables (column ∷ pred_names preds) name k.names) in
+    let t : IsTable (current p.journal).tables name = table_is p name h (there_known (current p.journal).tables (λ cs. has_column cs column && preds_known preds cs) name k.names) in
     let is : IsTrue (is_value value) = and_right (is_name name && is_name column) _ (and_left _ (are_preds preds) s) in
     let kind : IsTrue (has_kind value (kind_in (columns_in (current p.journal).tables name) column)) = and_left _ (preds_fit (columns_in (current p.journal).tables name) preds) k.kinds in
     let room = room_is p session (made (current p.journal).tables (finmap.entries (seen p session)) p.next_id (Update name column value preds)) h (own_is p session h) k.room in
@@ -355,7 +355,7 @@ updated_is p session name column value preds h s k =
 
 deleted_is : (p : Plain) (session : ℕ) (name : List ℕ) (preds : List Pred) → IsPlain p → Passed (view p session) (Delete name preds) → IsPlain (changed p session (Delete name preds)).plain
 deleted_is p session name preds h k =
-    let t : IsTable (current p.journal).tables name = table_is p name h (there_known (current p.journal).tables (pred_names preds) name k.names) in
+    let t : IsTable (current p.journal).tables name = table_is p name h (there_known (current p.journal).tables (preds_known preds) name k.names) in
     changed_is p session false (made (current p.journal).tables (finmap.entries (seen p session)) p.next_id (Delete name preds)) h
     (deletes_are_made p session name (found (current p.journal).tables (finmap.entries (seen p session)) name preds) h t (found_is p session name preds h k.clear)) k.room
 
