@@ -28,6 +28,6 @@ txn_follows known new os t r c = record {
   each = λ s k. record {
     tables = t ∙ k.tables;
     rows = r ∙ ap (λ rows. listed_all rows os) k.rows ∙ sym (entries-with_ops s.rows os);
-    commits = c ∙ ap (λ n. n + 1) k.commits
-  }
+    commits = c ∙ ap (λ n. n + 1) k.commits;
+  };
 }

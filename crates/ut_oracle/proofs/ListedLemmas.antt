@@ -61,11 +61,12 @@ entries-remove : (m : Rows) (id : ℕ) → finmap.entries (finmap.remove m id) �
 entries-remove m id =
     same_entries nat_cmp nat_cmp_total nat_cmp-IsAntisymmetric (finmap.entries (finmap.remove m id)) (filter (λ e. not (nat_eq e.0 id)) (finmap.entries m)) (finmap.entries_sorted (finmap.remove m id)) (is_sorted-where_key nat_cmp (λ x. not (nat_eq x id)) (finmap.entries m) (finmap.entries_sorted m))
     (λ q. sym (finmap.get-entries (finmap.remove m id) q) ∙ finmap.get-remove nat_cmp_total m id q ∙ ap (λ b. cond b None (finmap.get m q)) (unsigned_tied q id) ∙ turned (nat_eq q id) (finmap.get m q)
-        ∙ ap (λ o. cond (not (nat_eq q id)) o None) (finmap.get-entries m q) ∙ sym (find-where_key nat_cmp (λ x. not (nat_eq x id)) q (alike q) (finmap.entries m)))
+    ∙ ap (λ o. cond (not (nat_eq q id)) o None) (finmap.get-entries m q) ∙ sym (find-where_key nat_cmp (λ x. not (nat_eq x id)) q (alike q) (finmap.entries m)))
   where
     turned : (b : Bool) (o : Option Stored) → cond b None o ≡ cond (not b) o None
     turned true o = refl
     turned false o = refl
+
     alike : (q x : ℕ) → nat_cmp q x ≡ Equal → not (nat_eq x id) ≡ not (nat_eq q id)
     alike q x e = let same : q ≡ x = ranked q x Equal (sym e) in ap (λ n. not (nat_eq n id)) (sym same)
 

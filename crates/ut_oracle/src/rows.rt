@@ -43,7 +43,14 @@ pub fn apply(alloc: Global, rows: &mut Vec<(u32, Stored)>, op: &Op) -> Result<()
     match op {
         Op::Insert { table, id, values } => {
             let values = values.duplicate(alloc)?;
-            put(rows, *id, Stored { table: *table, values })
+            put(
+                rows,
+                *id,
+                Stored {
+                    table: *table,
+                    values,
+                },
+            )
         }
         Op::Delete { id, .. } => {
             let gone = *id;

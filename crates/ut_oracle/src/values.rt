@@ -1,5 +1,5 @@
 //! Lists of values: sums, bests, and those that occur.
-ghost use Rattle.std.specs.Prelude.{◌≡◌, ◌≤◌, ◌<◌, ◌^◌, length, OnOk, IfOk, IfSome, IfNone, option_map};
+ghost use Rattle.std.specs.Prelude.{◌≡◌, ◌≤◌, length, OnOk, IfOk, IfSome, IfNone};
 ghost use Rattle.std.specs.List.{insert};
 ghost use Rattle.std.specs.Ordering.{is_lt, is_gt};
 ghost use Rattle.ut_plain.specs.Query.{number_of, total, best, with_key, distinct};
@@ -20,7 +20,6 @@ fn number_of(value: &Value) -> i64
 
 /// The sum of the numbers among values.
 pub fn total(values: &[Value]) -> i128
-    requires { length values.now < 2 ^ 32 }
     ensures { result ≡ total values.now }
 {
     let mut sum: i128 = 0;
@@ -31,11 +30,11 @@ pub fn total(values: &[Value]) -> i128
 }
 
 /// The least value, the first one on a tie.
-pub fn least(values: &[Value]) -> Option<&Value>
-    ensures { option_map (λ value. value.now) result ≡ best is_lt values.now }
+pub fn least(alloc: Global, values: &[Value]) -> Result<Option<Value>, AllocError>
+    ensures { IfOk result (λ value. value ≡ best is_lt values.now) }
 {
     let [first, rest @ ..] = values else {
-        return None;
+        return Ok(None);
     };
     let mut best = first;
     for value in rest {
@@ -43,15 +42,15 @@ pub fn least(values: &[Value]) -> Option<&Value>
             best = value;
         }
     }
-    Some(best)
+    Ok(Some(best.copy(alloc)?))
 }
 
 /// The greatest value, the first one on a tie.
-pub fn greatest(values: &[Value]) -> Option<&Value>
-    ensures { option_map (λ value. value.now) result ≡ best is_gt values.now }
+pub fn greatest(alloc: Global, values: &[Value]) -> Result<Option<Value>, AllocError>
+    ensures { IfOk result (λ value. value ≡ best is_gt values.now) }
 {
     let [first, rest @ ..] = values else {
-        return None;
+        return Ok(None);
     };
     let mut best = first;
     for value in rest {
@@ -59,7 +58,7 @@ pub fn greatest(values: &[Value]) -> Option<&Value>
             best = value;
         }
     }
-    Some(best)
+    Ok(Some(best.copy(alloc)?))
 }
 
 /// The values that occur, ascending, each once.

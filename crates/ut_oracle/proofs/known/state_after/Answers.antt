@@ -16,5 +16,5 @@ loop-entry-preserved c =
     let next : take (c.loop-entry.entry-index + 1) c.args.entries.now ≡ take c.loop-entry.entry-index c.args.entries.now ++ c.entry-item.result ∷ [] = take_more c.args.entries.now c.loop-entry.entry-index c.entry-item.result (omega arith) ∙ ap (λ e. take c.loop-entry.entry-index c.args.entries.now ++ e ∷ []) (sym c.entry-item.is) in
     record {
       known = subst (λ s. IsKnown c.follow.new.known s) (sym (ap (after_all empty_state) next ∙ after_all-append empty_state (take c.loop-entry.entry-index c.args.entries.now) (c.entry-item.result ∷ []))) (c.in_ok-follow.ensures.state.each _ c.loop-entry.invariant.known);
-      commits = let one = c.in_ok-follow.ensures.commits in omega arith
+      commits = let one = c.in_ok-follow.ensures.commits in omega arith;
     }

@@ -7,5 +7,5 @@ use Rattle.ut_oracle.proofs.known.state_after.Given as goal
 abbrev pub invariant-loop-entry : goal.invariant-loop-entry
 invariant-loop-entry l = record {
   known : IsKnown l.known (after_all empty_state (take l.entry-index l.entries));
-  commits : l.known.commits ≤ l.entry-index
+  commits : l.known.commits ≤ l.entry-index;
 }

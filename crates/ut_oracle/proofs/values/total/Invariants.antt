@@ -6,5 +6,5 @@ abbrev pub invariant-loop-value : goal.invariant-loop-value
 invariant-loop-value l = record {
   sum : l.sum +ℤ total (drop l.value-index l.values) ≡ total l.values;
   low : neg_ℤ (pos (9223372036854775808 * l.value-index)) ≤ℤ l.sum;
-  high : l.sum ≤ℤ pos (9223372036854775808 * l.value-index)
+  high : l.sum ≤ℤ pos (9223372036854775808 * l.value-index);
 }
