@@ -24,7 +24,7 @@ joined_lists (x ∷ xs) ys zs = ap (λ ws. x ∷ ws) (joined_lists xs ys zs)
 
 -- one insert more
 pub row_inserted : (width table id : ℕ) (vs row rest values : List Value) (done now all : List Op) → 0 < width → 0 < length vs → row ≡ take (min width (length vs)) vs → rest ≡ drop (min width (length vs)) vs → values ≡ row
-  → now ≡ done ++ ops.Insert table id values ∷ [] → done ++ inserts table id (rows_of width vs) ≡ all → now ++ inserts table (id + 1) (rows_of width rest) ≡ all
+    → now ≡ done ++ ops.Insert table id values ∷ [] → done ++ inserts table id (rows_of width vs) ≡ all → now ++ inserts table (id + 1) (rows_of width rest) ≡ all
 row_inserted width table id vs row rest values done now all w h r d v n k =
     ap (λ xs. xs ++ inserts table (id + 1) (rows_of width rest)) n ∙ joined_lists done (ops.Insert table id values ∷ []) (inserts table (id + 1) (rows_of width rest))
     ∙ ap (λ x. done ++ ops.Insert table id x ∷ inserts table (id + 1) (rows_of width rest)) v ∙ ap (λ rows. done ++ inserts table id rows) (sym (rows_of-split width vs row rest w h r d)) ∙ k

@@ -11,5 +11,5 @@ loop-rest-preserved c =
     let ids = c.loop-rest.invariant.ids in
     record {
       made = row_inserted c.args.width c.args.table c.loop-rest.id c.loop-rest.rest.now _ _ c.in_ok-values.values c.loop-rest.ops _ _ c.requires.width (omega arith) front back c.in_ok-values.ensures c.in_ok-push.ensures.ok c.loop-rest.invariant.made;
-      ids = omega (arith, one, ids)
+      ids = omega (arith, one, ids);
     }
