@@ -1,6 +1,7 @@
 -- All that a statement of a session reads. What it is answered and which operations it makes follow from this alone.
-use Rattle.std.specs.Prelude.{ℕ, Bool, List, Option}
+use Rattle.std.specs.Prelude.{ℕ, Bool, List, [], Option, None, Some}
 use Rattle.std.specs.FinMap as finmap
+use Rattle.ut_value.specs.declared.entry.Op.{Op}
 use Rattle.ut_plain.specs.declared.table.Table.{Table}
 use Rattle.ut_plain.specs.declared.table.Stored.{Stored}
 use Rattle.ut_plain.specs.declared.transaction.OpenTransaction.{OpenTransaction}
@@ -20,6 +21,7 @@ pub record View : Type 0 where
   pub next_id : ℕ
   pub rows_limit : ℕ
 
+-- what a session reads of a plain state
 abbrev pub view : Plain → ℕ → View
 view p session = record {
   tables = (current p.journal).tables;
@@ -31,3 +33,8 @@ view p session = record {
   next_id = p.next_id;
   rows_limit = p.rows_limit;
 }
+
+-- the own operations of a transaction
+abbrev pub own_ops : Option OpenTransaction → List Op
+own_ops None = []
+own_ops (Some t) = t.ops

@@ -1,0 +1,5 @@
+pub mod ListedLemmas
+pub mod KnownLemmas
+pub mod ValueLemmas
+pub mod FilterLemmas
+pub mod MadeLemmas
