@@ -1,0 +1,4 @@
+pub mod ByteLemmas
+pub mod DiskLemmas
+pub mod HistoryLemmas
+pub mod TearLemmas

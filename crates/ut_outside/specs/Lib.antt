@@ -1,6 +1,12 @@
 pub mod Acks
 pub mod Disk
 pub mod Faults
+pub mod Fresh
+pub mod History
+pub mod HistoryLaws
+pub mod MemDisks
+pub mod MemFiles
 pub mod MemStreams
 pub mod Run
 pub mod Streams
+pub mod Tears

@@ -1,6 +1,6 @@
 -- What the source and the sink in memory hold.
-use Rattle.std.specs.Prelude.{◌≡◌, ℕ, List, drop, length, Option, Some}
-use Rattle.std.proofs.Common.{◌∙◌, sym, ap, arith}
+use Rattle.std.specs.Prelude.{◌≡◌, ℕ, List, drop, length, Some}
+use Rattle.std.proofs.Common.{ap, arith}
 use Rattle.ut_outside.specs.declared.mem_stream.MemSource.{MemSource}
 use Rattle.ut_outside.specs.declared.mem_stream.MemSourceSteady.{MemSourceSteady}
 use Rattle.ut_outside.specs.declared.mem_stream.MemSink.{MemSink}
