@@ -44,6 +44,17 @@ on_ok_any : {T : Type 0} (r : Result T Failed) → OnOk r (Unit {0})
 on_ok_any (Ok x) = tt
 on_ok_any (Err e) = tt
 
+pub on_err_more : {T : Type 0} (r : Result T Failed) (A B : Type 0) → (A → B) → OnErr r A → OnErr r B
+on_err_more (Ok x) A B f a = tt
+on_err_more (Err e) A B f a = f a
+
+on_err_any : {T : Type 0} (r : Result T Failed) (A : Type 0) → A → OnErr r A
+on_err_any (Ok x) A a = tt
+on_err_any (Err e) A a = a
+
+no_err : (U E : Type 0) (x : U) → IsErr {T = U} {E = E} (Ok x) → ⊥
+no_err U E x is = absurd cc
+
 -- ---- images
 
 pub same_image : (a b : Image) → ((file : Which) → content file a ≡ content file b) → a ≡ b
@@ -128,6 +139,11 @@ module _ (hs new : Histories) (now later : ℕ) (before : (file : Which) → Are
         let is : state_at later (new file) ≡ state_at now (hs file) = ap (state_at later) (same file) ∙ at_now later (hs file) (before_later now later (hs file) (omega arith) (before file)) ∙ sym (at_now now (hs file) (before file)) in
         subst (λ (f : FileState). IsOutcome f (content file c)) is (left file)
 
+    crash_back : (c : Image) → LeftAt hs now c → LeftAt new later c
+    crash_back c left file =
+        let is : state_at later (new file) ≡ state_at now (hs file) = ap (state_at later) (same file) ∙ at_now later (hs file) (before_later now later (hs file) (omega arith) (before file)) ∙ sym (at_now now (hs file) (before file)) in
+        subst (λ (f : FileState). IsOutcome f (content file c)) (sym is) (left file)
+
     pub asks_call : {T : Type 0} (faults more : ℕ) (result : Result T Failed) → faults ≤ more → (IsErr result → Rose faults more) → Asks (view_of hs now faults) (view_of new later more) result
     asks_call faults more result no_fewer cause = record { counts = counts_call faults more result past_same no_fewer cause; seen = seen_same; crash = crash_same }
 
@@ -141,7 +157,7 @@ module _ (hs new : Histories) (now later : ℕ) (before : (file : Which) → Are
     }
 
     pub syncs_nothing : {T : Type 0} (file : Which) (faults more : ℕ) (result : Result T Failed) → IsFailed result → faults ≤ more → Rose faults more → Syncs file (view_of hs now faults) (view_of new later more) result
-    syncs_nothing file faults more result failed no_fewer cause = record { counts = counts_call faults more result past_same no_fewer (λ _. cause); seen = seen_same; crash = crash_same; durable = on_ok_failed result _ failed }
+    syncs_nothing file faults more result failed no_fewer cause = record { counts = counts_call faults more result past_same no_fewer (λ _. cause); seen = seen_same; crash = crash_same; durable = on_ok_failed result _ failed; undone = on_err_any result _ crash_back }
 
   -- ---- a step more
 
@@ -231,12 +247,13 @@ module _ (hs new : Histories) (now later : ℕ) (before : (file : Which) → Are
         (subst (λ (s : List ℕ). IsOutcome (state_at now (hs file)) s) (ap (λ (f : FileState). f.seen) (at_now now (hs file) (before file)) ∙ sym (content-reading hs file) ∙ sym (durable_now c left)) (seen_is_outcome now (hs file)))
         (λ other differs. subst (λ (f : FileState). IsOutcome f (content other c)) (state_other file sync_step on refl next other differs) (left other))
 
-    pub syncs_step : {T : Type 0} (faults more : ℕ) (result : Result T Failed) → faults ≤ more → (IsErr result → Rose faults more) → Syncs file (view_of hs now faults) (view_of new later more) result
-    syncs_step faults more result no_fewer cause = record {
+    pub syncs_step : {T : Type 0} (faults more : ℕ) (result : Result T Failed) → OnErr result ⊥ → faults ≤ more → (IsErr result → Rose faults more) → Syncs file (view_of hs now faults) (view_of new later more) result
+    syncs_step faults more result never no_fewer cause = record {
       counts = counts_call faults more result (past_step file sync_step on refl next) no_fewer cause;
       seen = seen_synced;
       crash = crash_synced;
       durable = on_ok_more result (Unit {0}) _ (λ _ c left told. durable_now c left) (on_ok_any result);
+      undone = on_err_more result ⊥ _ (λ none. absurd none) never;
     }
 
 pub content_same : (hs new : Histories) → Same hs new → (file : Which) → content file (reading new) ≡ content file (reading hs)
@@ -244,10 +261,6 @@ content_same hs new same file = content-reading new file ∙ ap (λ (h : History
 
 pub rose_later : (faults mid more : ℕ) → faults ≤ mid → Rose mid more → Rose faults more
 rose_later faults mid more le rose = omega (arith, le, rose)
-
-pub on_err_more : {T : Type 0} (r : Result T Failed) (A B : Type 0) → (A → B) → OnErr r A → OnErr r B
-on_err_more (Ok x) A B f a = tt
-on_err_more (Err e) A B f a = f a
 
 -- ---- what was noted of a change, or not for want of memory
 
@@ -307,12 +320,12 @@ module _ {T U E : Type 0} (hs mid new : Histories) (now later faults counted mor
       none_done (Cut len) s = cut_same (length (content file (reading hs))) len s
       none_done Sync s = refl
 
-  pub synced_call : (file : Which) (outcome : Result U E) (result : Result T Failed) → Finished whole counted more outcome result
+  pub synced_call : (file : Which) (outcome : Result U E) (result : Result T Failed) → Finished whole counted more outcome result → OnErr result (IsErr outcome)
       → OnOk outcome (StepOn file (record { call = now; action = Sync; whole = whole }) mid new) → OnErr outcome (Same mid new)
       → Syncs file (view_of hs now faults) (view_of new later more) result
-  synced_call file (Ok x) result end on same =
-      syncs_step hs new now later begun.before begun.small begun.calls file whole (then_step file _ hs mid new begun.same on) begun.next faults more result (no_fewer result (Ok x) end) (cause result (Ok x) end)
-  synced_call file (Err e) result end on same =
+  synced_call file (Ok x) result end why on same =
+      syncs_step hs new now later begun.before begun.small begun.calls file whole (then_step file _ hs mid new begun.same on) begun.next faults more result (on_err_more result (IsErr {T = U} {E = E} (Ok x)) ⊥ (λ is. no_err U E x is) why) (no_fewer result (Ok x) end) (cause result (Ok x) end)
+  synced_call file (Err e) result end why on same =
       let failed = failed_of T U E whole result (Err e) (not_ok U E e) end.ok in
       syncs_nothing hs new now later begun.before begun.small begun.calls (then_same hs mid new begun.same same) file faults more result failed (no_fewer result (Err e) end) (cause result (Err e) end (is_err result failed))
 

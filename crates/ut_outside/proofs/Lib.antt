@@ -1,4 +1,5 @@
 pub mod ByteLemmas
 pub mod DiskLemmas
 pub mod HistoryLemmas
+pub mod RunLemmas
 pub mod TearLemmas

@@ -1,5 +1,5 @@
 -- What a disk holds, what a crash may leave of it, and what its calls do to both.
-use Rattle.std.specs.Prelude.{◌≡◌, ◌≢◌, ◌⊎◌, ◌^◌, ◌<◌, ◌≤◌, ℕ, ◌+◌, ◌-◌, min, max, Bool, IsTrue, List, ◌++◌, length, take, drop, replicate, Result, IsErr, OnOk}
+use Rattle.std.specs.Prelude.{◌≡◌, ◌≢◌, ◌⊎◌, ◌^◌, ◌<◌, ◌≤◌, ℕ, ◌+◌, ◌-◌, min, max, Bool, IsTrue, List, ◌++◌, length, take, drop, replicate, Result, IsErr, OnOk, OnErr}
 use Rattle.ut_outside.specs.declared.disk.Which.{Which}
 use Rattle.ut_outside.specs.declared.disk.Which.TheVariants.{Redo, Pages}
 use Rattle.ut_outside.specs.declared.faults.Failed.{Failed}
@@ -107,9 +107,10 @@ pub record Changes {T : Type 0} (file : Which) (Partly Done : List ℕ → List 
   pub partly : IsTold old → OnFile file Partly old.seen new.seen
   pub crash : Follows (OnFile file Partly) old new
 
--- After a sync that answers Ok, a crash leaves of that file what a read returns.
+-- After a sync that answers Ok, a crash leaves of that file what a read returns. One that fails makes nothing durable.
 pub record Syncs {T : Type 0} (file : Which) (old new : View) (result : Result T Failed) : Type 0 where
   pub counts : Counts old new result
   pub seen : new.seen ≡ old.seen
   pub crash : NoMore old new
   pub durable : OnOk result ((c : Image) → new.crash_states c → IsTold old → content file c ≡ content file old.seen)
+  pub undone : OnErr result ((c : Image) → old.crash_states c → new.crash_states c)

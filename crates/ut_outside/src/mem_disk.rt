@@ -1,6 +1,6 @@
 //! A disk in memory. It keeps what its files held at first and each call that changed them, so that it can tell
 //! what a crash at any moment might have left.
-ghost use Rattle.std.specs.Prelude.{◌≡◌, ◌+◌, ◌-◌, ◌^◌, ◌<◌, ◌≤◌, ℕ, min, true, false, [], ◌∷◌, ◌++◌, length, take, drop, IsOk, IfOk, OnOk, OnErr, Vec};
+ghost use Rattle.std.specs.Prelude.{◌≡◌, ◌+◌, ◌-◌, ◌^◌, ◌<◌, ◌≤◌, ℕ, min, true, false, [], ◌∷◌, ◌++◌, length, take, drop, IsOk, IsErr, IfOk, OnOk, OnErr, Vec};
 ghost use Rattle.ut_outside.specs.Disk.{Image, View, IsTold, content};
 ghost use Rattle.ut_outside.specs.Faults.{Rose};
 ghost use Rattle.ut_outside.specs.History.{AreBefore};
@@ -159,6 +159,7 @@ fn finish(faults: &mut u64, whole: bool, outcome: Result<(), AllocError>) -> Res
     ensures ok { OnOk result ((whole ≡ true) × IsOk outcome) }
     ensures faults { faults.old ≤ faults.new }
     ensures err { OnErr result (Rose faults.old faults.new) }
+    ensures why { OnErr result (whole ≡ true → IsErr outcome) }
 {
     if !whole || outcome.is_err() {
         *faults = faults.saturating_add(1);
@@ -228,7 +229,7 @@ impl Disk for MemDisk {
     fn sync(&mut self, file: Which) -> Result<(), Failed> {
         let call = self.calls;
         let whole = self.begin()?;
-        finish(&mut self.faults, whole, Ok(()))?;
+        finish(&mut self.faults, whole, Ok(()))?; // before anything is durable
         let action = Action::Sync;
         let noted = self.take(
             file,
