@@ -13,6 +13,10 @@ source_left s = drop s.at s.bytes.items
 abbrev pub source_faults : MemSource → ℕ
 source_faults s = s.faults
 
+-- the number of the call that is to fail, 0 the first
+abbrev pub source_planned : MemSource → Option ℕ
+source_planned s = s.fail
+
 -- the bytes that are left
 abbrev pub steady_left : MemSourceSteady → List ℕ
 steady_left s = s.bytes.now
@@ -28,6 +32,10 @@ sink_moments s = s.moments.items
 -- how often it has failed
 abbrev pub sink_faults : MemSink → ℕ
 sink_faults s = s.faults
+
+-- the number of the call that is to fail, 0 the first
+abbrev pub sink_planned : MemSink → Option ℕ
+sink_planned s = s.fail
 
 -- each byte has its moment
 pub one_each : (s : MemSink) (bytes : List ℕ) → Some (sink_bytes s) ≡ Some bytes → length (sink_moments s) ≡ length bytes

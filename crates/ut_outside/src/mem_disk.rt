@@ -1,6 +1,6 @@
 //! A disk in memory. It keeps what its files held at first and each call that changed them, so that it can tell
 //! what a crash at any moment might have left.
-ghost use Rattle.std.specs.Prelude.{◌≡◌, ◌+◌, ◌-◌, ◌^◌, ◌<◌, ◌≤◌, ℕ, min, true, false, [], ◌∷◌, ◌++◌, length, take, drop, IsOk, IsErr, IfOk, OnOk, OnErr, Vec};
+ghost use Rattle.std.specs.Prelude.{◌≡◌, ◌+◌, ◌-◌, ◌^◌, ◌<◌, ◌≤◌, ℕ, min, true, false, [], ◌∷◌, ◌++◌, length, take, drop, IsOk, IsErr, IfOk, OnOk, OnErr, ◌↔◌, Vec};
 ghost use Rattle.ut_outside.specs.Disk.{Image, View, IsTold, content};
 ghost use Rattle.ut_outside.specs.Faults.{Rose};
 ghost use Rattle.ut_outside.specs.History.{AreBefore};
@@ -26,6 +26,7 @@ pub struct MemDisk {
 
 impl MemDisk {
     ghost use Rattle.ut_outside.specs.MemDisks.{mem_view, histories, planned_faults, crash_moment, torn_file, Same, StepOn};
+    ghost use Rattle.ut_outside.specs.CrashModel.{IsCrashImage};
     ghost use Rattle.ut_outside.specs.Fresh.{IsFresh};
     ghost use Rattle.std.specs.declared.alloc.Global.{Global as TheAllocator};
     ghost use Rattle.ut_outside.specs.declared.mem_file.Action.TheVariants.{Write};
@@ -80,6 +81,11 @@ impl MemDisk {
         let pages = self.pages.torn(self.alloc, tear, until)?;
         MemDisk::of(self.alloc, &redo, &pages)
     }
+
+    /// What a crash may leave is what the disk model says.
+    pub fn keeps_model(&self)
+        ensures { (c : Image) → (mem_view self.now).crash_states c ↔ IsCrashImage self.now c }
+    {}
 
     // Until when calls count where a crash comes inside the call after that moment.
     fn until(&self, moment: u64) -> u64
