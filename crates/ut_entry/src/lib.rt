@@ -1,0 +1,18 @@
+//! Journal entries as bytes, both ways.
+#![tactic(auto)]
+
+mod entry;
+mod laws;
+mod length;
+mod parts;
+mod read;
+#[cfg(test)]
+mod tests;
+mod txn;
+mod write;
+
+pub use entry::entry_from;
+pub use laws::spelling_laws;
+pub use length::{entry_len, op_len};
+pub use txn::{add_op, begin_txn};
+pub use write::{entry_bytes, put_entry, put_op};
