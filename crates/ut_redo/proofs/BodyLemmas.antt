@@ -49,8 +49,8 @@ added os op bytes cut put set new n whole n_is cut_is put_is raised new_is old_i
     let few : length os + 1 < 2 ^ 32 = omega (arith, few_ops os, ops_length os, ap (λ (l : List ℕ). length l) old_is, whole.short) in
     let front : List ℕ = to_le_bytes w32 (length (payload_in bytes)) in
     let parts : put ≡ front ++ (2 ∷ to_le_bytes w32 (length os) ++ (flat_map op_spelling os ++ op_spelling op)) =
-        put_is ∙ ap (λ (l : List ℕ). l ++ op_spelling op) (cut_is ∙ front_of bytes n whole n_is ∙ ap (λ (l : List ℕ). front ++ l) old_is)
-        ∙ append_assoc front (2 ∷ to_le_bytes w32 (length os) ++ flat_map op_spelling os) (op_spelling op) in
+    put_is ∙ ap (λ (l : List ℕ). l ++ op_spelling op) (cut_is ∙ front_of bytes n whole n_is ∙ ap (λ (l : List ℕ). front ++ l) old_is)
+    ∙ append_assoc front (2 ∷ to_le_bytes w32 (length os) ++ flat_map op_spelling os) (op_spelling op) in
     let set_is = raised (length os) front (flat_map op_spelling os ++ op_spelling op) few refl parts in
     ap payload_in new_is ∙ payload_in_end set 0 ∙ ap (drop 4) set_is
     ∙ drop_at (to_le_bytes w32 (length put - 4)) (2 ∷ to_le_bytes w32 (length os + 1) ++ (flat_map op_spelling os ++ op_spelling op)) 4 refl

@@ -1,5 +1,5 @@
 -- What an append makes of the entries that a log holds.
-use Rattle.std.proofs.Common.{◌≡◌, inl, inr, ⊎_elim, ℕ, ◌+◌, ◌≤◌, List, [], ◌∷◌, ◌++◌, length, get_or, take, drop, sym, ◌∙◌, ap, subst, arith}
+use Rattle.std.proofs.Common.{◌≡◌, inl, inr, ⊎_elim, ℕ, ◌+◌, ◌≤◌, ◌^◌, List, [], ◌∷◌, ◌++◌, length, get_or, take, drop, sym, ◌∙◌, ap, subst, arith}
 use Rattle.std.specs.List.{AllByRecursion}
 use Rattle.std.specs.Int.{w32, to_le_bytes}
 use Rattle.std.proofs.lemmas.List.{take_at, length-append, drop-take, drop-append-le, take-append-drop, drop_more, length-take, length-drop}
@@ -9,7 +9,9 @@ use Rattle.ut_outside.specs.Disk.{View, content}
 use Rattle.ut_outside.specs.Run.{ComesFrom, LeavesOnly}
 use Rattle.ut_outside.proofs.RunLemmas.{weaker}
 use Rattle.ut_redo.specs.Frames.{frame, payload_of, IsFrame, size, Holds}
-use Rattle.ut_redo.specs.Appends.{IsClosedAt, IsOpenAt, Extends, Extended, body, BeforeOrAfter, After}
+use Rattle.ut_redo.specs.Appends.{Place, behind, IsClosedAt, IsOpenAt, Extends, Extended, body, BeforeOrAfter, After}
+use Rattle.ut_value.specs.Spelling.{Spells}
+use Rattle.ut_redo.proofs.AppendLemmas.{one_entry, one_frame, length-body}
 use Rattle.ut_redo.proofs.FrameLemmas.{frame_of, frames_of, Parts, parts_of, size_is, log_from, frames_push, each_frame_push, entries_push}
 
 size_push : (frames : List (List Entry)) (items : List Entry) → size (frames ++ items ∷ []) ≡ size frames + length (frame_of items)
@@ -63,3 +65,24 @@ pub by_entries : (items : List Entry) (at : ℕ) (file : Which) (old new : View)
 by_entries items at file old new whole run = weaker old new (ComesFrom old file (Extends at (payload_of items))) (ComesFrom old file (BeforeOrAfter items at (at + length (body (payload_of items)))))
     (λ c from. (from.0, from.1, from.2, before_or_after items at (content file from.0) (content file c) whole from.3))
     run
+
+next_is : (log : Place) (payload : List ℕ) → log.end + length (body payload) ≡ (behind log payload).end
+next_is log payload = omega (arith, length-body payload)
+
+-- the same of one entry, in the words of the log's place
+pub one_told : (log : Place) (entry : Entry) (payload : List ℕ) (old new : View) → Spells payload entry → length payload ≤ 2 ^ 30 → LeavesOnly old new (ComesFrom old log.file (Extends log.end payload))
+    → LeavesOnly old new (ComesFrom old log.file (BeforeOrAfter (entry ∷ []) log.end (behind log payload).end))
+one_told log entry payload old new spells short run =
+    let items : List Entry = entry ∷ [] in
+    let is : payload ≡ payload_of items = one_entry entry payload spells in
+    let told = by_entries items log.end log.file old new (one_frame entry payload spells short) (subst (λ (p : List ℕ). LeavesOnly old new (ComesFrom old log.file (Extends log.end p))) is run) in
+    let next : log.end + length (body (payload_of items)) ≡ (behind log payload).end = ap (λ (p : List ℕ). log.end + length (body p)) (sym is) ∙ next_is log payload in
+    subst (λ (n : ℕ). LeavesOnly old new (ComesFrom old log.file (BeforeOrAfter items log.end n))) next told
+
+pub one_after : (log : Place) (entry : Entry) (payload d c : List ℕ) → Spells payload entry → length payload ≤ 2 ^ 30 → Extended log.end payload d c → After (entry ∷ []) log.end (behind log payload).end d c
+one_after log entry payload d c spells short extended =
+    let items : List Entry = entry ∷ [] in
+    let is : payload ≡ payload_of items = one_entry entry payload spells in
+    let told = after items log.end d c (one_frame entry payload spells short) (subst (λ (p : List ℕ). Extended log.end p d c) is extended) in
+    let next : log.end + length (body (payload_of items)) ≡ (behind log payload).end = ap (λ (p : List ℕ). log.end + length (body p)) (sym is) ∙ next_is log payload in
+    subst (λ (n : ℕ). After items log.end n d c) next told

@@ -1,3 +1,5 @@
+pub mod AppendLemmas
 pub mod BodyLemmas
 pub mod FrameLemmas
 pub mod HoldsLemmas
+pub mod MakeLemmas

@@ -3,11 +3,12 @@
 
 mod frame;
 mod reading;
-
-use ut_value::{Entry, Seq};
+mod redo;
 
 pub use frame::Frame;
-pub use reading::{one_reading, parse};
+pub use reading::one_reading;
+pub use redo::{Redo, RedoError};
+use ut_value::{Entry, Seq};
 
 /// Entries of the journal, in order.
 pub type EntryList = Seq<Entry>;

@@ -46,7 +46,7 @@ fn add_entries(alloc: Global, out: &mut Vec<Entry>, payload: &[u8]) -> Result<bo
 }
 
 /// The entries of the frames that the bytes begin with, and how many bytes these take.
-pub fn parse(alloc: Global, bytes: &[u8]) -> Result<Option<(Vec<Entry>, usize)>, AllocError>
+pub(crate) fn parse(alloc: Global, bytes: &[u8]) -> Result<Option<(Vec<Entry>, usize)>, AllocError>
     ensures found { IfOk result (λ o. IfSome o (λ r. (frames : List (List Entry)) × IsLog frames bytes.now × (entries frames ≡ r.0.items) × (r.1 ≡ size frames))) }
     ensures within { IfOk result (λ o. IfSome o (λ r. r.1 < length bytes.now)) }
     ensures none { IfOk result (λ o. IfNone o ((frames : List (List Entry)) → IsLog frames bytes.now → ⊥)) }
