@@ -1,13 +1,13 @@
 -- Frames can be read in one way only.
-use Rattle.std.proofs.Common.{◌≡◌, ◌≢◌, ℕ, ◌+◌, ◌<◌, ◌≤◌, ◌^◌, List, [], ◌∷◌, ◌++◌, length, get_or, take, drop, refl, sym, ◌∙◌, ap, subst, arith, append_assoc}
+use Rattle.std.proofs.Common.{◌≡◌, ◌≢◌, ℕ, ◌+◌, ◌<◌, ◌≤◌, ◌^◌, List, [], ◌∷◌, ◌++◌, length, take, drop, refl, sym, ◌∙◌, ap, subst, arith, append_assoc}
 use Rattle.std.specs.List.{flat_map, AllByRecursion}
 use Rattle.std.specs.Int.{w32, to_le_bytes, from_le_bytes}
-use Rattle.std.proofs.lemmas.List.{take_at, drop_at, length-append, append-nil, flat_map_more, drop-take, drop-append-le, take-append-drop, drop_more, length-take, length-drop}
+use Rattle.std.proofs.lemmas.List.{take_at, length-append, append-nil, flat_map_more}
 use Rattle.std.proofs.lemmas.Nat.{from_le_bytes-to_le_bytes_4}
 use Rattle.ut_value.specs.declared.entry.Entry.{Entry}
 use Rattle.ut_value.specs.Spelling.{spelling, Spells}
 use Rattle.ut_value.proofs.OneSpelling.{same_front, one_spelling, spelling_some}
-use Rattle.ut_redo.specs.Frames.{open_gate, frame, payload_of, IsEntry, IsFrame, IsLog, entries, size, Holds, OneReading}
+use Rattle.ut_redo.specs.Frames.{open_gate, frame, payload_of, IsEntry, IsFrame, IsLog, entries, size, OneReading}
 
 -- ---- payloads
 
@@ -165,3 +165,7 @@ one_end (f ∷ frames) (g ∷ more) bytes log log' =
 pub one_reading : OneReading
 one_reading from first second end end' file a b =
     (sym a.are ∙ same_entries a.frames b.frames (drop from file) a.log b.log ∙ b.are, omega (arith, a.ends, b.ends, one_end a.frames b.frames (drop from file) a.log b.log))
+
+pub size_push : (frames : List (List Entry)) (items : List Entry) → size (frames ++ items ∷ []) ≡ size frames + length (frame_of items)
+size_push [] items = omega arith
+size_push (f ∷ frames) items = omega (arith, size_push frames items)

@@ -12,11 +12,7 @@ use Rattle.ut_redo.specs.Frames.{frame, payload_of, IsFrame, size, Holds}
 use Rattle.ut_redo.specs.Appends.{Place, behind, IsClosedAt, IsOpenAt, Extends, Extended, body, BeforeOrAfter, After}
 use Rattle.ut_value.specs.Spelling.{Spells}
 use Rattle.ut_redo.proofs.AppendLemmas.{one_entry, one_frame, length-body}
-use Rattle.ut_redo.proofs.FrameLemmas.{frame_of, frames_of, Parts, parts_of, size_is, log_from, frames_push, each_frame_push, entries_push}
-
-size_push : (frames : List (List Entry)) (items : List Entry) → size (frames ++ items ∷ []) ≡ size frames + length (frame_of items)
-size_push [] items = omega arith
-size_push (f ∷ frames) items = omega (arith, size_push frames items)
+use Rattle.ut_redo.proofs.FrameLemmas.{frames_of, parts_of, size_is, log_from, frames_push, each_frame_push, entries_push, size_push}
 
 module _ (from : ℕ) (held : List Entry) (at : ℕ) (d c : List ℕ) (holds : Holds from held at d) (same : take at c ≡ take at d) (long : at ≤ length c) where
   front : drop from c ≡ frames_of holds.frames ++ drop at c

@@ -3,3 +3,4 @@ pub mod BodyLemmas
 pub mod FrameLemmas
 pub mod HoldsLemmas
 pub mod MakeLemmas
+pub mod WindowLemmas

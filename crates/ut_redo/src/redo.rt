@@ -9,43 +9,16 @@ ghost use Rattle.ut_value.specs.declared.entry.Entry.{Entry};
 ghost use Rattle.ut_value.specs.Spelling.{Spells};
 ghost use Rattle.ut_redo.specs.Frames.{Holds};
 ghost use Rattle.ut_redo.specs.Appends.{Place, behind, HasClosedGate, BeforeOrAfter, After};
-ghost use Rattle.ut_redo.specs.declared.redo.RedoError.TheVariants.{Memory, Disk as DiskFault};
 
 use crate::EntryList;
+use crate::error::RedoError;
 use crate::frame::Frame;
-use crate::reading::{OPEN_GATE, parse};
-use std::alloc::{AllocError, Global};
+use crate::reading::add_entries;
+use crate::window::{HEADER_LEN, OPEN_GATE, Window};
+use std::alloc::Global;
 use std::marker::Model;
-use thiserror::Error;
 use ut_outside::{Disk, Failed, Which};
 use ut_value::Seq;
-
-/// Why a log could not be read.
-#[derive(Debug, Drop, Error)]
-pub enum RedoError {
-    #[error("the log is damaged")]
-    Damaged,
-    #[error("the disk failed")]
-    Disk,
-    #[error("out of memory")]
-    Memory,
-}
-
-impl From<Failed> for RedoError {
-    ghost from_gives = { λ _ e. e ≡ DiskFault };
-
-    fn from(_: Failed) -> Self {
-        RedoError::Disk
-    }
-}
-
-impl From<AllocError> for RedoError {
-    ghost from_gives = { λ _ e. e ≡ Memory };
-
-    fn from(_: AllocError) -> Self {
-        RedoError::Memory
-    }
-}
 
 /// Where the next frame goes.
 #[derive(Drop)]
@@ -129,22 +102,33 @@ impl Redo {
         ensures reads { ReadsOnly (D.view disk.old) (D.view disk.new) }
         ensures cause { IsErrOf result RedoError.Disk → Rose (D.view disk.old).faults (D.view disk.new).faults }
     {
-        let size = disk.size(Which::Redo)?;
-        if size < from {
+        read_log(alloc, disk, Which::Redo, from)
+    }
+}
+
+// The entries of a file's frames from that offset on, and the log's end.
+fn read_log<D: Disk>(
+    alloc: Global,
+    disk: &mut D,
+    file: Which,
+    from: u64,
+) -> Result<(Redo, EntryList), RedoError>
+    ensures found { IfOk result (λ r. (r.0.file ≡ file) × (IsTold (D.view disk.old) → Holds from r.1 r.0.end (content file (D.view disk.old).seen))) }
+    ensures damaged { IsErrOf result RedoError.Damaged → IsTold (D.view disk.old)
+        → (items : List Entry) (end : ℕ) → Holds from items end (content file (D.view disk.old).seen) → ⊥ }
+    ensures reads { ReadsOnly (D.view disk.old) (D.view disk.new) }
+    ensures cause { IsErrOf result RedoError.Disk → Rose (D.view disk.old).faults (D.view disk.new).faults }
+{
+    let size = disk.size(file)?;
+    let mut window = Window::new(alloc, file, size, from);
+    let mut out = Vec::new(alloc);
+    while let Some(len) = window.payload_len(alloc, disk)? {
+        let payload = &window.as_slice()[HEADER_LEN..HEADER_LEN + len];
+        if !add_entries(alloc, &mut out, payload)? {
             return Err(RedoError::Damaged);
         }
-        let mut bytes = vec![in alloc; 0u8; (size - from) as usize]?;
-        let n = disk.read_at(Which::Redo, from, &mut bytes)?;
-        let Some((entries, len)) = parse(alloc, &bytes[..n])? else {
-            return Err(RedoError::Damaged);
-        };
-        let end = from + len as u64;
-        Ok((
-            Redo {
-                file: Which::Redo,
-                end,
-            },
-            Seq::from_vec(entries),
-        ))
+        window.pass(HEADER_LEN + len);
     }
+    let end = window.at;
+    Ok((Redo { file, end }, Seq::from_vec(out)))
 }

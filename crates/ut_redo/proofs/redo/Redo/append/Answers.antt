@@ -1,8 +1,8 @@
-use Rattle.std.proofs.Common.{◌≡◌, ℕ, ◌+◌, [], ◌∷◌, List, length, sym, ◌∙◌, ap, subst}
+use Rattle.std.proofs.Common.{ℕ, ◌+◌, [], ◌∷◌, List, length, sym, ◌∙◌, ap, subst}
 use Rattle.std.specs.Prelude.{IsTrue}
 use Rattle.ut_outside.specs.Disk.{IsTold, View, content}
 use Rattle.ut_outside.specs.Run.{ComesFrom, LeavesOnly}
-use Rattle.ut_redo.specs.Appends.{Place, behind, body, HasClosedGate, IsClosedAt, BeforeOrAfter, After}
+use Rattle.ut_redo.specs.Appends.{Place, behind, HasClosedGate, IsClosedAt, BeforeOrAfter, After}
 use Rattle.ut_redo.proofs.AppendLemmas.{after1, after2, after3, after4, told2, done, next_closed, as_body}
 use Rattle.ut_redo.proofs.HoldsLemmas.{one_told, one_after}
 use Rattle.ut_redo.proofs.redo.Redo.append.Goals as goal
