@@ -1,0 +1,17 @@
+use Rattle.std.proofs.Common.{◌≡◌, ◌-◌}
+use Rattle.ut_outside.specs.Disk.{IsTold, content}
+use Rattle.ut_outside.specs.Run.{ReadsOnly}
+use Rattle.ut_redo.specs.Windows.{IsShowing}
+use Rattle.ut_redo.proofs.WindowLemmas.{ReadSoFar}
+use Rattle.ut_redo.proofs.redo.read_log.Given as goal
+
+abbrev pub invariant-loop-out : goal.invariant-loop-out
+invariant-loop-out g l = record {
+  reads : ReadsOnly (g.D.Disk.view l.fn.disk) (g.D.Disk.view l.disk);
+  file : l.window.file ≡ l.file;
+  shows : IsShowing l.window (g.D.Disk.view l.disk);
+  so_far : IsTold (g.D.Disk.view l.fn.disk) → ReadSoFar (content l.file (g.D.Disk.view l.fn.disk).seen) l.from l.out.items l.window.at;
+}
+
+abbrev pub decreases-loop-out : goal.decreases-loop-out
+decreases-loop-out g l = l.window.size - l.window.at

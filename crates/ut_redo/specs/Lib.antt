@@ -1,0 +1,4 @@
+pub mod Appends
+pub mod Framed
+pub mod Frames
+pub mod Windows
