@@ -4,12 +4,14 @@
 
 mod duplicate;
 mod entry;
+mod key;
 mod seq;
 mod text;
 mod value;
 
 pub use duplicate::Duplicate;
-pub use entry::{Entry, MergeKind, Op};
+pub use entry::{Entry, MergeKind, Op, spelling_lengths};
+pub use key::{int_key, int_of, key_bytes, key_laws, key_of, value_of};
 pub use seq::Seq;
 pub use text::{Name, Text, is_digit, is_name, is_text, same_bytes};
 pub use value::{Column, Kind, Row, Value};

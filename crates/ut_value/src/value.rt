@@ -1,7 +1,7 @@
 //! Values of a column, columns and rows.
 ghost use Rattle.std.specs.Prelude.{◌≡◌, IfOk};
 
-use crate::{Name, Seq, Text};
+use crate::{Duplicate, Name, Seq, Text};
 use std::alloc::{AllocError, Global};
 
 #[derive(Clone, Copy, Debug, PartialEq, Eq)]
@@ -36,5 +36,17 @@ impl Value {
             Value::Int(number) => Ok(Value::Int(*number)),
             Value::Text(text) => Ok(Value::Text(text.copy(alloc)?)),
         }
+    }
+}
+
+impl Row {
+    pub fn copy(&self, alloc: Global) -> Result<Row, AllocError>
+        ensures { IfOk result (λ row. row ≡ self.now) }
+    {
+        let values = self.values.duplicate(alloc)?;
+        Ok(Row {
+            id: self.id,
+            values,
+        })
     }
 }

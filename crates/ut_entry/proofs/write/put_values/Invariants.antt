@@ -1,0 +1,11 @@
+use Rattle.std.proofs.Common.{◌≡◌, ◌+◌, ◌≤◌, ◌++◌, drop, vec_len, vec_capacity}
+use Rattle.std.specs.List.{flat_map, sum_by}
+use Rattle.ut_value.specs.Spelling.{value_spelling, value_len}
+use Rattle.ut_entry.proofs.write.put_values.Given as goal
+
+abbrev pub invariant-loop-value : goal.invariant-loop-value
+invariant-loop-value l = record {
+  written : l.out.items ++ flat_map value_spelling (drop l.value-index l.values) ≡ l.fn.out.items ++ flat_map value_spelling l.values;
+  length : vec_len l.out + sum_by value_len (drop l.value-index l.values) ≡ vec_len l.fn.out + sum_by value_len l.values;
+  room : vec_capacity l.fn.out ≤ vec_capacity l.out
+}
