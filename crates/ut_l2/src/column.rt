@@ -2,6 +2,7 @@
 ghost use Rattle.std.specs.Prelude.{◌≡◌, ◌+◌, ◌-◌, ◌^◌, ◌<◌, ◌≤◌, ◌++◌, [], ◌∷◌, List, ℕ, length, take, slice_index_or, map, All, OnOk, OnErr};
 ghost use Rattle.ut_value.specs.KeyBytes.{key_of};
 ghost use Rattle.ut_unsorted.specs.FirstSeen.{key_eq, first_seen};
+ghost use Rattle.ut_l2.specs.Cells.{cells_of};
 ghost use Rattle.ut_l2.specs.Places.{places_where};
 ghost use Rattle.ut_l2.specs.KeyRows.{cell};
 
@@ -138,6 +139,14 @@ impl Column {
         ensures key { slice_index_or (first_seen self.now) result [] ≡ slice_index_or self.now i [] }
     {
         self.codes[i as usize]
+    }
+
+    /// The code of each cell: the place of its key among the keys.
+    pub fn codes(&self) -> &[u32]
+        ensures within { All (λ c. c < length (first_seen self.now)) result.now }
+        ensures keys { cells_of (first_seen self.now) result.now ≡ self.now }
+    {
+        self.codes.as_slice()
     }
 
     /// The key of a cell.

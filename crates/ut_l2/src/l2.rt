@@ -4,6 +4,7 @@ ghost use Rattle.ut_l2.specs.KeyRows.{KeyRow, keyed};
 ghost use Rattle.ut_key.specs.Keys.{meets};
 ghost use Rattle.ut_unsorted.specs.FirstSeen.{key_eq, first_seen};
 ghost use Rattle.ut_l2.specs.KeyRows.{cell, cells_at, no_row};
+ghost use Rattle.ut_l2.specs.Cells.{cells_of};
 ghost use Rattle.ut_l2.specs.Places.{places_where};
 
 use crate::column::Column;
@@ -134,6 +135,15 @@ impl L2 {
         ensures key { slice_index_or (first_seen (cells_at column self.now.rows)) result [] ≡ slice_index_or (cells_at column self.now.rows) i [] }
     {
         self.column(column).code(i)
+    }
+
+    /// The code of each row in a column.
+    pub fn codes(&self, column: u8) -> &[u32]
+        requires { column < self.now.width }
+        ensures within { All (λ c. c < length (first_seen (cells_at column self.now.rows))) result.now }
+        ensures keys { cells_of (first_seen (cells_at column self.now.rows)) result.now ≡ cells_at column self.now.rows }
+    {
+        self.column(column).codes()
     }
 
     /// The key of a row in a column. This is one step.
