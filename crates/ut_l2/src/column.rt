@@ -69,8 +69,7 @@ impl Column {
         ensures { self.new ≡ take (length self.old - 1) self.old }
     {
         if let Some(code) = self.codes.pop() {
-            let place = self.codes.as_slice().len() as u32;
-            self.postings.forget(code, place);
+            self.postings.forget(code);
             if self.postings.places(code).is_empty() {
                 self.dict.cut(code);
             }

@@ -5,15 +5,6 @@ use Rattle.std.proofs.lemmas.List.{length-map, length-append, map-append}
 use Rattle.ut_unsorted.specs.FirstSeen.{key_eq, note}
 use Rattle.ut_unsorted.specs.HeldKeys.{AreShort, texts_keys, items_of}
 
-pub take-whole : (xs ys : List ℕ) → take (length xs) (xs ++ ys) ≡ xs
-take-whole [] ys = refl
-take-whole (x ∷ xs) ys = ap (λ l. x ∷ l) (take-whole xs ys)
-
-pub take-front : (front : List ℕ) (x : ℕ) (xs : List ℕ) → xs ≡ front ++ x ∷ [] → take (length xs - 1) xs ≡ front
-take-front front x xs e =
-    let n : length xs - 1 ≡ length front = (let m = ap length e ∙ length-append front (x ∷ []) in omega arith) in
-    ap (λ k. take k xs) n ∙ ap (take (length front)) e ∙ take-whole front (x ∷ [])
-
 module _ {V : Type 0} (f : V → List ℕ) (t : List ℕ → Bool) where
   pub any-map : (xs : List V) → list_any t (map f xs) ≡ list_any (λ x. t (f x)) xs
   any-map [] = refl

@@ -42,8 +42,8 @@ module _ (xs : List (SmallVec ℕ)) (p : List Posting) (i : ℕ) (old new : Smal
   pub same_others : (k : ℕ) → k ≢ i → places_at (map posting_of (set xs i new)) k ≡ places_at p k
   same_others k h = ap (λ q. q.places) (set-other xs i k new h) ∙ ap (λ q. places_at q k) e
 
-  pub shorter : (front : List ℕ) (x : ℕ) → places_at p i ≡ front ++ x ∷ [] → places_at p i ≢ [] → (places_at p i ≡ old.items → new.items ≡ front) → places_at (map posting_of (set xs i new)) i ≡ front
-  shorter front x is_front some items =
+  pub shorter : (front : List ℕ) → places_at p i ≢ [] → (places_at p i ≡ old.items → new.items ≡ front) → places_at (map posting_of (set xs i new)) i ≡ front
+  shorter front some items =
       let lt : i < length xs = places-within xs i (λ no_places. some (ap (λ q. places_at q i) (sym e) ∙ no_places)) in
       ap (λ q. q.places) (set-same xs i new lt) ∙ items (sym (ap (λ q. q.places) (at-old lt)))
 

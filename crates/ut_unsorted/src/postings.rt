@@ -1,5 +1,5 @@
 //! The places of each code.
-ghost use Rattle.std.specs.Prelude.{◌≡◌, ℕ, ◌+◌, ◌<◌, ◌≤◌, ◌≢◌, ◌++◌, [], ◌∷◌, length, IfOk, OnOk, OnErr};
+ghost use Rattle.std.specs.Prelude.{◌≡◌, ℕ, ◌+◌, ◌-◌, ◌<◌, ◌≤◌, ◌≢◌, ◌++◌, [], ◌∷◌, length, take, IfOk, OnOk, OnErr};
 ghost use Rattle.ut_unsorted.specs.Posted.{places_at, room_at};
 
 use smallvec::SmallVec;
@@ -55,9 +55,9 @@ impl Postings {
     }
 
     /// Takes away the last place of a code.
-    pub fn forget(&mut self, code: u32, place: u32)
+    pub fn forget(&mut self, code: u32)
         requires { places_at self.old code ≢ [] }
-        ensures cut { (front : _) → places_at self.old code ≡ front ++ place ∷ [] → places_at self.new code ≡ front }
+        ensures cut { places_at self.new code ≡ take (length (places_at self.old code) - 1) (places_at self.old code) }
         ensures others { (c : ℕ) → c ≢ code → places_at self.new c ≡ places_at self.old c }
     {
         let _last = self.lists[code as usize].pop();
