@@ -23,6 +23,10 @@ passes preds row = list_all (λ p. meets p.op p.key (key_at p.column row)) preds
 abbrev pub found_at : (ℕ → Place) → List KeyRow → ℕ → Found
 found_at place rows i = record { id = (get_or rows i no_row).id; place = place i }
 
+-- the places of a stage
+abbrev pub all_places : List KeyRow → List ℕ
+all_places rows = range_with_len 0 (length rows)
+
 module _ (fates : List Fate) (snapshot : ℕ) (own : Option ℕ) (preds : List ColumnPred) where
   -- the row at place i meets each comparison, and its stamp is seen
   abbrev pub is_hit : List KeyRow → List Stamp → ℕ → Bool
@@ -30,4 +34,4 @@ module _ (fates : List Fate) (snapshot : ℕ) (own : Option ℕ) (preds : List C
 
   -- the rows of a stage that meet each comparison and are seen, in the order of their places
   abbrev pub found_in : (ℕ → Place) → List KeyRow → List Stamp → List Found
-  found_in place rows stamps = map (found_at place rows) (filter (is_hit rows stamps) (range_with_len 0 (length rows)))
+  found_in place rows stamps = map (found_at place rows) (filter (is_hit rows stamps) (all_places rows))

@@ -28,3 +28,7 @@ pub record AreStamped (stages : Stages) : Type 0 where
 abbrev pub found_rows : List Fate → ℕ → Option ℕ → List ColumnPred → StageRows → StampLists → List Found
 found_rows fates snapshot own preds rows stamps =
     found_in fates snapshot own preds L2 rows.l2 stamps.l2.items ++ found_in fates snapshot own preds L1 rows.l1 stamps.l1.items
+
+-- the same of stages, as they stand
+abbrev pub asked_for : List Fate → ℕ → Option ℕ → List ColumnPred → Stages → List Found
+asked_for fates snapshot own preds stages = found_rows fates snapshot own preds (rows_in stages) stages.stamps.now

@@ -1,11 +1,10 @@
 //! A scan of rows in columns: candidates by one comparison's places or codes, tested by place for the others.
 ghost use Rattle.std.specs.Prelude.{◌≡◌, ◌<◌, ◌^◌, ◌++◌, ◌&&◌, [], false, length, map, filter, slice_index_or, MatchOption, All, IfOk, OnOk};
-ghost use Rattle.std.specs.List.{range_with_len};
 ghost use Rattle.ut_key.specs.Keys.{meets};
 ghost use Rattle.ut_unsorted.specs.FirstSeen.{first_seen};
 ghost use Rattle.ut_l2.specs.KeyRows.{cells_at};
-ghost use Rattle.ut_scan.specs.Finds.{found_at, found_in, meets_at};
-ghost use Rattle.ut_scan.specs.Probes.{finds};
+ghost use Rattle.ut_scan.specs.Finds.{all_places};
+ghost use Rattle.ut_scan.specs.Probes.{finds, found_by, found_for, found_with};
 
 use crate::place::{ColumnPred, Found, Place};
 use crate::probe::{Probe, Viewer};
@@ -26,7 +25,7 @@ pub fn scan_delta(
 ) -> Result<(), AllocError>
     requires stamped { length stamps.now ≡ length l2.now.rows }
     requires columns { All (λ p. p.column < l2.now.width) preds.now }
-    ensures { OnOk result (out.new.items ≡ out.old.items ++ found_in viewer.now.fates.now viewer.now.snapshot viewer.now.own preds.now Place.L2 l2.now.rows stamps.now) }
+    ensures { OnOk result (out.new.items ≡ out.old.items ++ found_for viewer.now preds.now Place.L2 l2.now.rows stamps.now) }
 {
     let Some(k) = leading(preds) else {
         let probe = Probe {
@@ -76,7 +75,7 @@ fn marks(alloc: Global, dict: &UnsortedDict, pred: &ColumnPred) -> Result<Vec<bo
 
 /// Appends the rows that a probe finds.
 fn scan_all(probe: &Probe<'_>, out: &mut Vec<Found>) -> Result<(), AllocError>
-    ensures { OnOk result (out.new.items ≡ out.old.items ++ map (found_at Place.L2 probe.now.l2.now.rows) (filter (finds probe.now) (range_with_len 0 (length probe.now.l2.now.rows)))) }
+    ensures { OnOk result (out.new.items ≡ out.old.items ++ found_by probe.now (all_places probe.now.l2.now.rows)) }
 {
     for i in 0..probe.l2.len() {
         if probe.finds(i) {
@@ -89,7 +88,7 @@ fn scan_all(probe: &Probe<'_>, out: &mut Vec<Found>) -> Result<(), AllocError>
 /// Appends the rows at the places that a probe finds.
 fn scan_places(probe: &Probe<'_>, places: &[u32], out: &mut Vec<Found>) -> Result<(), AllocError>
     requires { All (λ i. i < length probe.now.l2.now.rows) places.now }
-    ensures { OnOk result (out.new.items ≡ out.old.items ++ map (found_at Place.L2 probe.now.l2.now.rows) (filter (finds probe.now) places.now)) }
+    ensures { OnOk result (out.new.items ≡ out.old.items ++ found_by probe.now places.now) }
 {
     for place in places {
         let i = *place;
@@ -104,7 +103,7 @@ fn scan_places(probe: &Probe<'_>, places: &[u32], out: &mut Vec<Found>) -> Resul
 fn scan_equal(probe: &Probe<'_>, pred: &ColumnPred, out: &mut Vec<Found>) -> Result<(), AllocError>
     requires column { pred.now.column < probe.now.l2.now.width }
     requires equality { pred.now.op ≡ Cmp.Eq }
-    ensures { OnOk result (out.new.items ≡ out.old.items ++ map (found_at Place.L2 probe.now.l2.now.rows) (filter (λ i. meets_at pred.now probe.now.l2.now.rows i && finds probe.now i) (range_with_len 0 (length probe.now.l2.now.rows)))) }
+    ensures { OnOk result (out.new.items ≡ out.old.items ++ found_with pred.now probe.now) }
 {
     let places = probe.l2.places(pred.column, pred.key.as_slice());
     scan_places(probe, places, out)
@@ -128,7 +127,7 @@ fn scan_marked(
 ) -> Result<(), AllocError>
     requires column { pred.now.column < probe.now.l2.now.width }
     requires marks { marks.now ≡ map (meets pred.now.op pred.now.key) (first_seen (cells_at pred.now.column probe.now.l2.now.rows)) }
-    ensures { OnOk result (out.new.items ≡ out.old.items ++ map (found_at Place.L2 probe.now.l2.now.rows) (filter (λ i. meets_at pred.now probe.now.l2.now.rows i && finds probe.now i) (range_with_len 0 (length probe.now.l2.now.rows)))) }
+    ensures { OnOk result (out.new.items ≡ out.old.items ++ found_with pred.now probe.now) }
 {
     let codes = probe.l2.codes(pred.column);
     for i in 0..probe.l2.len() {

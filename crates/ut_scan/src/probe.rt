@@ -1,8 +1,8 @@
 //! The test of a row in columns.
-ghost use Rattle.std.specs.Prelude.{◌≡◌, ◌<◌, ◌&&◌, ℕ, length, get_or, slice_index_or, All};
+ghost use Rattle.std.specs.Prelude.{◌≡◌, ◌<◌, length, get_or, All};
 ghost use Rattle.ut_stamps.specs.Stamps.{sees as sees_stamp};
 ghost use Rattle.ut_l2.specs.KeyRows.{no_row};
-ghost use Rattle.ut_scan.specs.Finds.{passes, found_at, is_hit, meets_at};
+ghost use Rattle.ut_scan.specs.Finds.{passes, found_at};
 
 use crate::place::{ColumnPred, Found, Place};
 use ut_l2::L2;
@@ -38,8 +38,7 @@ pub struct Probe<'a> {
 }
 
 impl<'a> Probe<'a> {
-    ghost use Rattle.ut_scan.specs.declared.place.ColumnPred.{ColumnPred};
-    ghost use Rattle.ut_scan.specs.Probes.{finds};
+    ghost use Rattle.ut_scan.specs.Probes.{finds, IsRest};
 
     /// What is left to meet where comparison k has picked the candidates.
     pub fn around(
@@ -53,7 +52,7 @@ impl<'a> Probe<'a> {
         requires stamped { length stamps.now ≡ length l2.now.rows }
         requires columns { All (λ p. p.column < l2.now.width) preds.now }
         ensures rows { result.l2.now ≡ l2.now }
-        ensures rest { (pred : ColumnPred) (i : ℕ) → is_hit viewer.now.fates.now viewer.now.snapshot viewer.now.own preds.now l2.now.rows stamps.now i ≡ (meets_at (slice_index_or preds.now k pred) l2.now.rows i && finds result i) }
+        ensures rest { IsRest viewer.now preds.now k l2.now.rows stamps.now result }
     {
         let (before, _) = preds.split_at(k);
         let (_, after) = preds.split_at(k + 1);

@@ -4,7 +4,8 @@ ghost use Rattle.ut_key.specs.Keys.{meets};
 ghost use Rattle.ut_value.specs.KeyBytes.{key_of};
 ghost use Rattle.ut_l2.specs.KeyRows.{keyed};
 ghost use Rattle.ut_stamps.specs.Stamps.{sees as sees_stamp};
-ghost use Rattle.ut_scan.specs.Finds.{passes, found_in};
+ghost use Rattle.ut_scan.specs.Finds.{passes};
+ghost use Rattle.ut_scan.specs.Probes.{found_for};
 
 use crate::place::{ColumnPred, Found, Place};
 use crate::probe::Viewer;
@@ -53,7 +54,7 @@ pub fn scan_rows(
     requires count { length rows.now ≤ 2 ^ 31 }
     requires stamped { length stamps.now ≡ length rows.now }
     requires wide { All (λ r. All (λ p. p.column < length r.values) preds.now) rows.now }
-    ensures { OnOk result (out.new.items ≡ out.old.items ++ found_in viewer.now.fates.now viewer.now.snapshot viewer.now.own preds.now Place.L1 (map keyed rows.now) stamps.now) }
+    ensures { OnOk result (out.new.items ≡ out.old.items ++ found_for viewer.now preds.now Place.L1 (map keyed rows.now) stamps.now) }
 {
     for i in 0..rows.len() {
         let row = &rows[i];

@@ -1,7 +1,7 @@
 //! The scan of a table.
 ghost use Rattle.std.specs.Prelude.{◌≡◌, ◌<◌, All, IfOk};
 ghost use Rattle.std.specs.List.Sorted.{IsPermutation, IsNonDecreasingBy};
-ghost use Rattle.ut_scan.specs.StageRows.{found_rows, rows_in, AreStamped};
+ghost use Rattle.ut_scan.specs.StageRows.{asked_for, AreStamped};
 
 use crate::delta::scan_delta;
 use crate::place::{ColumnPred, Found};
@@ -25,7 +25,7 @@ pub fn scan<L: Ledger>(
 ) -> Result<Vec<Found>, AllocError>
     requires stamped { AreStamped stages.now }
     requires columns { All (λ p. p.column < stages.now.l2.now.width) preds.now }
-    ensures rows { IfOk result (λ found. IsPermutation (found_rows fates.now snapshot own preds.now (rows_in stages.now) stages.now.stamps.now) found.items) }
+    ensures rows { IfOk result (λ found. IsPermutation (asked_for fates.now snapshot own preds.now stages.now) found.items) }
     ensures ascending { IfOk result (λ found. IsNonDecreasingBy (λ f. f.id) found.items) }
     ensures steps { steps.new ≡ steps.old }
 {
