@@ -1,0 +1,4 @@
+pub mod Cells
+pub mod Delta
+pub mod KeyRows
+pub mod Places

@@ -1,0 +1,9 @@
+use Rattle.std.proofs.Common.{◌≡◌, ◌+◌, ◌++◌, take}
+use Rattle.ut_scan.proofs.stamp_table.StampTable.move_l1.Given as goal
+
+abbrev pub invariant-loop-i : goal.invariant-loop-i
+invariant-loop-i l = record {
+  l1 : l.self-inside.l1 ≡ l.fn.self.l1;
+  l2 : l.self-inside.l2.items ≡ l.fn.self.l2.items ++ take l.i l.fn.self.l1.items;
+  room : l.self-inside.l2.room + l.i ≡ l.fn.self.l2.room;
+}

@@ -1,0 +1,4 @@
+pub mod Finds
+pub mod Probes
+pub mod StageRows
+pub mod StampLists

@@ -1,0 +1,40 @@
+-- The test of a candidate by its place, and what it finds.
+use Rattle.std.specs.Prelude.{◌≡◌, ℕ, Bool, ◌&&◌, List, map, filter, get_or}
+use Rattle.ut_stamps.specs.declared.visibility.Stamp.{Stamp}
+use Rattle.ut_stamps.specs.Stamps.{sees}
+use Rattle.ut_l2.specs.KeyRows.{KeyRow, no_row}
+use Rattle.ut_scan.specs.declared.place.ColumnPred.{ColumnPred}
+use Rattle.ut_scan.specs.declared.place.Found.{Found}
+use Rattle.ut_scan.specs.declared.place.Place.{Place}
+use Rattle.ut_scan.specs.declared.place.Place.TheVariants.{L2}
+use Rattle.ut_scan.specs.declared.probe.Probe.{Probe}
+use Rattle.ut_scan.specs.declared.probe.Viewer.{Viewer}
+use Rattle.ut_scan.specs.Finds.{all_places, found_at, found_in, is_hit, meets_at, passes}
+use Rattle.ut_scan.specs.StampLists.{no_stamp}
+
+-- the viewer sees the row at place i, and it meets each comparison
+abbrev pub hits : Viewer → List ColumnPred → List KeyRow → List Stamp → ℕ → Bool
+hits v preds rows stamps i = is_hit v.fates.now v.snapshot v.own preds rows stamps i
+
+-- the rows of a stage that the viewer sees and that meet each comparison
+abbrev pub found_for : Viewer → List ColumnPred → (ℕ → Place) → List KeyRow → List Stamp → List Found
+found_for v preds place rows stamps = found_in v.fates.now v.snapshot v.own preds place rows stamps
+
+-- the row at place i is seen, and meets the comparisons that are left
+abbrev pub finds : Probe → ℕ → Bool
+finds p i =
+    (sees p.viewer.now.fates.now p.viewer.now.snapshot p.viewer.now.own (get_or p.stamps.now i no_stamp)
+    && passes p.before.now (get_or p.l2.now.rows i no_row))
+    && passes p.after.now (get_or p.l2.now.rows i no_row)
+
+-- the rows at those places that a probe finds
+abbrev pub found_by : Probe → List ℕ → List Found
+found_by p places = map (found_at L2 p.l2.now.rows) (filter (finds p) places)
+
+-- the rows that meet a comparison and that a probe finds
+abbrev pub found_with : ColumnPred → Probe → List Found
+found_with pred p = map (found_at L2 p.l2.now.rows) (filter (λ i. meets_at pred p.l2.now.rows i && finds p i) (all_places p.l2.now.rows))
+
+-- a row is a hit where it meets comparison k and the probe finds it
+abbrev pub IsRest : Viewer → List ColumnPred → ℕ → List KeyRow → List Stamp → Probe → Type 0
+IsRest v preds k rows stamps p = (d : ColumnPred) (i : ℕ) → hits v preds rows stamps i ≡ (meets_at (get_or preds k d) rows i && finds p i)

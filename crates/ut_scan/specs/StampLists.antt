@@ -1,0 +1,49 @@
+-- The stamps of a table's rows: for each stage a list, with a stamp at the place of each row.
+use Rattle.std.specs.Prelude.{◌≡◌, ℕ, ◌+◌, ◌<◌, ◌≤◌, [], ◌∷◌, ◌++◌, length, take, drop, get_or, slice_set, None}
+use Rattle.ut_stamps.specs.declared.visibility.Stamp.{Stamp}
+use Rattle.ut_l1.specs.Queued.{Queued}
+use Rattle.ut_scan.specs.declared.place.Place.{Place}
+use Rattle.ut_scan.specs.declared.place.Place.TheVariants.{L1, L2}
+
+-- the lists of the stages, each with its room
+pub record StampLists : Type 0 where
+  pub l1 : Queued Stamp
+  pub l2 : Queued Stamp
+
+-- what stands past the last stamp
+abbrev pub no_stamp : Stamp
+no_stamp = record { begin = 0; end = None }
+
+-- the stamp at a place
+abbrev pub stamp_at : StampLists → Place → Stamp
+stamp_at lists (L1 i) = get_or lists.l1.items i no_stamp
+stamp_at lists (L2 i) = get_or lists.l2.items i no_stamp
+
+-- the place is there
+abbrev pub IsPlace : StampLists → Place → Type 0
+IsPlace lists (L1 i) = i < length lists.l1.items
+IsPlace lists (L2 i) = i < length lists.l2.items
+
+-- with another stamp at a place, and all else as it was
+abbrev pub with_stamp : StampLists → Place → Stamp → StampLists
+with_stamp lists (L1 i) stamp = record lists { l1 = record lists.l1 { items = slice_set lists.l1.items i stamp } }
+with_stamp lists (L2 i) stamp = record lists { l2 = record lists.l2 { items = slice_set lists.l2.items i stamp } }
+
+-- the stamps stay, and no room is lost
+pub record KeepsStamps (old new : StampLists) : Type 0 where
+  pub l1 : new.l1.items ≡ old.l1.items
+  pub l2 : new.l2.items ≡ old.l2.items
+  pub l1_room : old.l1.room ≤ new.l1.room
+  pub l2_room : old.l2.room ≤ new.l2.room
+
+-- one stamp more, in room that was there
+pub record Pushes (old new : Queued Stamp) (stamp : Stamp) : Type 0 where
+  pub items : new.items ≡ old.items ++ stamp ∷ []
+  pub room : new.room + 1 ≡ old.room
+
+-- the first n stamps of L1 go to the end of L2 as they are
+pub record Moves (old new : StampLists) (n : ℕ) : Type 0 where
+  pub l1 : new.l1.items ≡ drop n old.l1.items
+  pub l2 : new.l2.items ≡ old.l2.items ++ take n old.l1.items
+  pub l1_room : old.l1.room ≤ new.l1.room
+  pub l2_room : new.l2.room + n ≡ old.l2.room

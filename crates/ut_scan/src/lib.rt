@@ -1,0 +1,15 @@
+//! The places of a table's seen rows that meet comparisons, over its stages and their stamps.
+#![tactic(auto)]
+
+mod delta;
+mod place;
+mod probe;
+mod rows;
+mod stages;
+mod stamp_table;
+mod table;
+
+pub use place::{ColumnPred, Found, Place};
+pub use stages::Stages;
+pub use stamp_table::StampTable;
+pub use table::scan;

@@ -1,0 +1,105 @@
+//! The test of a row in columns.
+ghost use Rattle.std.specs.Prelude.{◌≡◌, ◌<◌, length, get_or, All};
+ghost use Rattle.ut_stamps.specs.Stamps.{sees as sees_stamp};
+ghost use Rattle.ut_l2.specs.KeyRows.{no_row};
+ghost use Rattle.ut_scan.specs.Finds.{passes, found_at};
+
+use crate::place::{ColumnPred, Found, Place};
+use ut_l2::L2;
+use ut_stamps::{Fates, Stamp, sees};
+
+/// A snapshot, and perhaps a transaction whose changes are one's own.
+#[derive(Clone, Copy)]
+pub struct Viewer<'a> {
+    pub fates: &'a Fates,
+    pub snapshot: u32,
+    pub own: Option<u64>,
+}
+
+impl Viewer<'_> {
+    pub fn sees(&self, stamp: &Stamp) -> bool
+        ensures { result ≡ sees_stamp self.now.fates.now self.now.snapshot self.now.own stamp.now }
+    {
+        sees(self.fates, stamp, self.snapshot, self.own)
+    }
+}
+
+/// What a row must still meet: to be seen, and the comparisons before and after the one that picked it.
+#[derive(Drop)]
+pub struct Probe<'a> {
+    pub viewer: &'a Viewer<'a>,
+    pub l2: &'a L2,
+    pub stamps: &'a [Stamp],
+    pub before: &'a [ColumnPred],
+    pub after: &'a [ColumnPred],
+    ghost stamped: { length stamps.now ≡ length l2.now.rows },
+    ghost before_columns: { All (λ p. p.column < l2.now.width) before.now },
+    ghost after_columns: { All (λ p. p.column < l2.now.width) after.now },
+}
+
+impl<'a> Probe<'a> {
+    ghost use Rattle.ut_scan.specs.Probes.{finds, IsRest};
+
+    /// What is left to meet where comparison k has picked the candidates.
+    pub fn around(
+        viewer: &'a Viewer<'a>,
+        l2: &'a L2,
+        stamps: &'a [Stamp],
+        preds: &'a [ColumnPred],
+        k: usize,
+    ) -> Self
+        requires index { k < length preds.now }
+        requires stamped { length stamps.now ≡ length l2.now.rows }
+        requires columns { All (λ p. p.column < l2.now.width) preds.now }
+        ensures rows { result.l2.now ≡ l2.now }
+        ensures rest { IsRest viewer.now preds.now k l2.now.rows stamps.now result }
+    {
+        let (before, _) = preds.split_at(k);
+        let (_, after) = preds.split_at(k + 1);
+        Probe {
+            viewer,
+            l2,
+            stamps,
+            before,
+            after,
+        }
+    }
+
+    /// Whether the row at a place meets it.
+    pub fn finds(&self, i: u32) -> bool
+        requires { i < length self.now.l2.now.rows }
+        ensures { result ≡ finds self.now i }
+    {
+        self.viewer.sees(&self.stamps[i as usize])
+            && passes_at(self.l2, self.before, i)
+            && passes_at(self.l2, self.after, i)
+    }
+
+    /// The row at a place.
+    pub fn found(&self, i: u32) -> Found
+        requires { i < length self.now.l2.now.rows }
+        ensures { result ≡ found_at Place.L2 self.now.l2.now.rows i }
+    {
+        Found {
+            id: self.l2.row_id(i),
+            place: Place::L2(i),
+        }
+    }
+}
+
+/// Whether the row at a place meets each comparison.
+fn passes_at(l2: &L2, preds: &[ColumnPred], i: u32) -> bool
+    requires place { i < length l2.now.rows }
+    requires columns { All (λ p. p.column < l2.now.width) preds.now }
+    ensures { result ≡ passes preds.now (get_or l2.now.rows i no_row) }
+{
+    for pred in preds {
+        if !pred
+            .op
+            .is_met(l2.bytes(pred.column, i), pred.key.as_slice())
+        {
+            return false;
+        }
+    }
+    true
+}

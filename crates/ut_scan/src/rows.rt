@@ -1,0 +1,69 @@
+//! A scan of a list of rows.
+ghost use Rattle.std.specs.Prelude.{◌≡◌, ◌<◌, ◌≤◌, ◌++◌, ◌^◌, ◌&&◌, length, map, All, OnOk};
+ghost use Rattle.ut_key.specs.Keys.{meets};
+ghost use Rattle.ut_value.specs.KeyBytes.{key_of};
+ghost use Rattle.ut_l2.specs.KeyRows.{keyed};
+ghost use Rattle.ut_stamps.specs.Stamps.{sees as sees_stamp};
+ghost use Rattle.ut_scan.specs.Finds.{passes};
+ghost use Rattle.ut_scan.specs.Probes.{found_for};
+
+use crate::place::{ColumnPred, Found, Place};
+use crate::probe::Viewer;
+use std::alloc::AllocError;
+use ut_stamps::Stamp;
+use ut_value::{Row, Value, key_bytes};
+
+fn value_meets(value: &Value, pred: &ColumnPred) -> bool
+    ensures { result ≡ meets pred.now.op pred.now.key (key_of value.now) }
+{
+    let mut room = [0; 8];
+    pred.op
+        .is_met(key_bytes(value, &mut room), pred.key.as_slice())
+}
+
+/// Whether a row meets each comparison.
+fn row_passes(row: &Row, preds: &[ColumnPred]) -> bool
+    requires { All (λ p. p.column < length row.now.values) preds.now }
+    ensures { result ≡ passes preds.now (keyed row.now) }
+{
+    let values = row.values.as_slice();
+    for pred in preds {
+        if !value_meets(&values[usize::from(pred.column)], pred) {
+            return false;
+        }
+    }
+    true
+}
+
+/// Whether a row meets each comparison and is seen.
+fn is_hit(viewer: &Viewer<'_>, preds: &[ColumnPred], row: &Row, stamp: &Stamp) -> bool
+    requires { All (λ p. p.column < length row.now.values) preds.now }
+    ensures { result ≡ (passes preds.now (keyed row.now) && sees_stamp viewer.now.fates.now viewer.now.snapshot viewer.now.own stamp.now) }
+{
+    row_passes(row, preds) && viewer.sees(stamp)
+}
+
+/// Appends the seen rows of L1 that meet each comparison.
+pub fn scan_rows(
+    viewer: &Viewer<'_>,
+    preds: &[ColumnPred],
+    rows: &[Row],
+    stamps: &[Stamp],
+    out: &mut Vec<Found>,
+) -> Result<(), AllocError>
+    requires count { length rows.now ≤ 2 ^ 31 }
+    requires stamped { length stamps.now ≡ length rows.now }
+    requires wide { All (λ r. All (λ p. p.column < length r.values) preds.now) rows.now }
+    ensures { OnOk result (out.new.items ≡ out.old.items ++ found_for viewer.now preds.now Place.L1 (map keyed rows.now) stamps.now) }
+{
+    for i in 0..rows.len() {
+        let row = &rows[i];
+        if is_hit(viewer, preds, row, &stamps[i]) {
+            out.push(Found {
+                id: row.id,
+                place: Place::L1(i as u32),
+            })?;
+        }
+    }
+    Ok(())
+}

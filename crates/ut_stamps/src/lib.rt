@@ -1,0 +1,8 @@
+//! Who sees a row: what became of each transaction, and which of them inserted and ended the row.
+#![tactic(auto)]
+
+mod fates;
+mod visibility;
+
+pub use fates::{Fate, Fates};
+pub use visibility::{Stamp, is_taken, sees};

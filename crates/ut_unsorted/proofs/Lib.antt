@@ -1,0 +1,4 @@
+pub mod FirstSeenLemmas
+pub mod HeldLemmas
+pub mod KeyLemmas
+pub mod PostingLemmas

@@ -1,0 +1,29 @@
+use Rattle.std.proofs.Common.{◌∙◌, ◌<◌, ◌≤◌, [], length, take, get_or, sym, ap, arith}
+use Rattle.std.proofs.lemmas.List.{take_more, take_all}
+use Rattle.ut_unsorted.specs.FirstSeen.{note, first_seen}
+use Rattle.ut_unsorted.specs.HeldKeys.{texts_keys}
+use Rattle.ut_unsorted.proofs.FirstSeenLemmas.{first_seen-append}
+use Rattle.ut_unsorted.proofs.HeldLemmas.{distinct-first_seen}
+use Rattle.ut_unsorted.proofs.KeyLemmas.{keys-insert}
+use Rattle.ut_unsorted.proofs.held.texts_of.Goals as goal
+
+pub loop-word-preserved : goal.loop-word-preserved
+loop-word-preserved c =
+    let words = c.as_slice-words.result.now in
+    let i = c.loop-word.word-index in
+    let word = get_or words i [] in
+    let lt : c.loop-word.word-index < length c.as_slice-words.result.now = omega arith in
+    ap texts_keys c.in_ok-insert_full.ensures.keys
+    ∙ keys-insert c.loop-word.texts.keys c.in_ok-from_slice.field-0
+    ∙ ap (note (texts_keys c.loop-word.texts.keys)) c.in_ok-from_slice.ensures.items
+    ∙ ap (λ ks. note ks word) c.loop-word.invariant
+    ∙ sym (ap first_seen (take_more words i [] lt) ∙ first_seen-append (take i words) word)
+
+pub returns : goal.returns
+returns c =
+    let words = c.as_slice-words.result.now in
+    let n : length c.as_slice-words.result.now ≤ c.loop-word.word-index = c.loop-word-test.false in
+    c.loop-word.invariant
+    ∙ ap first_seen (take_all c.loop-word.word-index words n)
+    ∙ ap first_seen c.as_slice-words.ensures.keys
+    ∙ distinct-first_seen c.args.words.now.keys c.as_slice-words.ensures.unique
