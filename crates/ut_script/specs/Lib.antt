@@ -1,0 +1,5 @@
+pub mod Words
+pub mod Literals
+pub mod Conditions
+pub mod Statements
+pub mod Grammar
