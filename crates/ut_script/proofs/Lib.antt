@@ -5,3 +5,5 @@ pub mod SpelledLemmas
 pub mod ConditionLemmas
 pub mod StatementLemmas
 pub mod NamedLemmas
+pub mod LineLemmas
+pub mod PieceLemmas

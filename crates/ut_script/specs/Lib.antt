@@ -3,3 +3,5 @@ pub mod Literals
 pub mod Conditions
 pub mod Statements
 pub mod Grammar
+pub mod Lines
+pub mod LineSteps

@@ -3,6 +3,7 @@
 
 mod conditions;
 mod line;
+mod lines;
 mod literals;
 mod queries;
 mod rows;
@@ -13,3 +14,4 @@ mod store;
 mod words;
 
 pub use line::{LineMemory, parse_line};
+pub use lines::{LineError, Lines};
