@@ -7,3 +7,4 @@ pub mod StatementLemmas
 pub mod NamedLemmas
 pub mod LineLemmas
 pub mod PieceLemmas
+pub mod RoomLemmas

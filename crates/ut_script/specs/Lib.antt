@@ -5,3 +5,4 @@ pub mod Statements
 pub mod Grammar
 pub mod Lines
 pub mod LineSteps
+pub mod Texts

@@ -5,13 +5,18 @@ mod conditions;
 mod line;
 mod lines;
 mod literals;
+mod numbers;
 mod queries;
+mod reply;
+mod room;
 mod rows;
 mod select;
 mod spelled;
 mod statements;
 mod store;
+mod values;
 mod words;
 
 pub use line::{LineMemory, parse_line};
 pub use lines::{LineError, Lines};
+pub use reply::{put_reply, put_small};
