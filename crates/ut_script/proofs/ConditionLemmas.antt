@@ -1,6 +1,6 @@
 -- One more comparison of a list of comparisons.
-use Rattle.std.proofs.Common.{ℕ, ◌≡◌, ◌<◌, ◌&&◌, Bool, true, false, cond, List, [], ◌∷◌, ◌++◌, length, Option, None, Some, refl, ap, ◌∙◌, sym, append_assoc, append-nil, arith}
-use Rattle.std.specs.Prelude.{is_some, option_and_then, codes}
+use Rattle.std.proofs.Common.{ℕ, ◌≡◌, ◌<◌, Bool, true, false, cond, List, [], ◌∷◌, ◌++◌, length, Option, None, Some, refl, ap, ◌∙◌, sym, append_assoc, arith}
+use Rattle.std.specs.Prelude.{is_some, codes}
 use Rattle.std.specs.Option.{option_map}
 use Rattle.ut_value.specs.Text.{same_bytes}
 use Rattle.ut_plain.specs.declared.statement.Pred.{Pred}

@@ -8,3 +8,4 @@ pub mod NamedLemmas
 pub mod LineLemmas
 pub mod PieceLemmas
 pub mod RoomLemmas
+pub mod Examples

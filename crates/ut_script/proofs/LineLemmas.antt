@@ -1,14 +1,13 @@
 -- How the input falls into its first line and the rest.
-use Rattle.std.proofs.Common.{ℕ, zero, suc, ◌≡◌, ◌+◌, ◌<◌, ◌≤◌, Bool, true, false, cond, not, ◌&&◌, ◌||◌, List, [], ◌∷◌, ◌++◌, length, take, drop, get_or, refl, ap, ◌∙◌, sym, subst, arith, append_assoc, append-nil, Option, None, Some, Result, Ok, Err}
+use Rattle.std.proofs.Common.{ℕ, suc, ◌≡◌, ◌+◌, ◌<◌, ◌≤◌, Bool, true, false, cond, ◌&&◌, ◌||◌, List, [], ◌∷◌, ◌++◌, length, refl, ap, ◌∙◌, sym, subst, arith, append_assoc, append-nil, Option, None, Some, Ok, Err}
 use Rattle.std.proofs.lemmas.Grind.{common_steps}
 use Rattle.std.proofs.lemmas.List.{length-append}
 use Rattle.std.specs.Prelude.{nat_eq, nat_le, nat_lt}
 use Rattle.std.specs.Bool.{MatchBool}
-use Rattle.ut_script.specs.declared.lines.LineError.{LineError}
 use Rattle.ut_script.specs.declared.lines.LineError.TheVariants.{Read, TooLong}
 use Rattle.ut_script.specs.Words.{has_bytes}
-use Rattle.ut_script.specs.Lines.{Reading, lines_of, onto_line, has_no_feed, is_long, has_line, is_past, NextLine, TakesLine, HandsOut, Ends, counted}
-use Rattle.ut_script.specs.LineSteps.{EndsLine, JoinsLine, BreaksLine, Fills, FillsFrom, ReadsLine, PartOfLine}
+use Rattle.ut_script.specs.Lines.{Reading, lines_of, onto_line, has_no_feed, is_long, has_line, is_past, NextLine, HandsOut, Ends, counted}
+use Rattle.ut_script.specs.LineSteps.{EndsLine, JoinsLine, BreaksLine, Fills, ReadsLine}
 
 pub lines_of-fed : (line rest : List ℕ) → has_no_feed line ≡ true → lines_of (line ++ 10 ∷ rest) ≡ line ∷ lines_of rest
 lines_of-fed [] rest h = refl
@@ -130,7 +129,7 @@ grows E r0 (Some before) old mid filled now left part fills same joins =
       after = f.after;
       is_left = f.is_left;
       parts = part.parts ∙ ap (λ (xs : List ℕ). old.line ++ xs) f.same ∙ sym (append_assoc old.line filled.held f.after)
-        ∙ ap (λ (xs : List ℕ). xs ++ f.after) (sym line) ∙ ap (λ (xs : List ℕ). now.line ++ (xs ++ f.after)) (sym joins.held);
+          ∙ ap (λ (xs : List ℕ). xs ++ f.after) (sym line) ∙ ap (λ (xs : List ℕ). now.line ++ (xs ++ f.after)) (sym joins.held);
       no_feed = ap has_no_feed line ∙ has_no_feed-append old.line filled.held part.no_feed joins.no_feed;
     }
 
@@ -144,10 +143,10 @@ fed E r0 (Some before) old mid filled ended now left part fills same ends is_lin
     let line : now.line ≡ old.line ++ ends.piece = is_line ∙ ends.line ∙ ap (λ (xs : List ℕ). xs ++ ends.piece) same in
     let rest = 10 ∷ (ended.held ++ f.after) in
     let parts : r0.held ++ before ≡ (old.line ++ ends.piece) ++ rest =
-        part.parts ∙ ap (λ (xs : List ℕ). old.line ++ xs) (f.same ∙ ap (λ (xs : List ℕ). xs ++ f.after) ends.parts ∙ append_assoc ends.piece (10 ∷ ended.held) f.after) ∙ sym (append_assoc old.line ends.piece rest) in
+    part.parts ∙ ap (λ (xs : List ℕ). old.line ++ xs) (f.same ∙ ap (λ (xs : List ℕ). xs ++ f.after) ends.parts ∙ append_assoc ends.piece (10 ∷ ended.held) f.after) ∙ sym (append_assoc old.line ends.piece rest) in
     let lines : lines_of (r0.held ++ before) ≡ now.line ∷ lines_of (now.held ++ f.after) =
-        ap lines_of parts ∙ lines_of-fed (old.line ++ ends.piece) (ended.held ++ f.after) (has_no_feed-append old.line ends.piece part.no_feed ends.no_feed)
-        ∙ ap (λ (l : List ℕ). l ∷ lines_of (ended.held ++ f.after)) (sym line) ∙ ap (λ (h : List ℕ). now.line ∷ lines_of (h ++ f.after)) (sym is_held) in
+    ap lines_of parts ∙ lines_of-fed (old.line ++ ends.piece) (ended.held ++ f.after) (has_no_feed-append old.line ends.piece part.no_feed ends.no_feed)
+    ∙ ap (λ (l : List ℕ). l ∷ lines_of (ended.held ++ f.after)) (sym line) ∙ ap (λ (h : List ℕ). now.line ∷ lines_of (h ++ f.after)) (sym is_held) in
     let fits : length now.line ≤ 65536 = subst (λ (l : List ℕ). length l ≤ 65536) (sym is_line) short in
     record {
       after = f.after;
@@ -164,7 +163,7 @@ breaks E r0 (Some before) old mid filled now left part fills same long =
     let line = old.line ++ long.piece in
     let rest = long.rest ++ f.after in
     let parts : r0.held ++ before ≡ line ++ rest =
-        part.parts ∙ ap (λ (xs : List ℕ). old.line ++ xs) (f.same ∙ ap (λ (xs : List ℕ). xs ++ f.after) long.parts ∙ append_assoc long.piece long.rest f.after) ∙ sym (append_assoc old.line long.piece rest) in
+    part.parts ∙ ap (λ (xs : List ℕ). old.line ++ xs) (f.same ∙ ap (λ (xs : List ℕ). xs ++ f.after) long.parts ∙ append_assoc long.piece long.rest f.after) ∙ sym (append_assoc old.line long.piece rest) in
     let first = first_len-append line rest (has_no_feed-append old.line long.piece part.no_feed long.no_feed) in
     let over : 65536 < first_len (lines_of (line ++ rest)) = omega (arith, first, length-append old.line long.piece, subst (λ (l : List ℕ). 65536 < length l + length long.piece) same long.long) in
     record {
@@ -179,7 +178,7 @@ ended_by r0 before [] held after now whole h none end is_line is_held few short 
 ended_by r0 before (b ∷ line) held after now whole h none end is_line is_held few short =
     let rest : lines_of (now.held ++ after) ≡ [] = ap (λ (xs : List ℕ). lines_of (xs ++ after)) is_held ∙ ap lines_of none in
     let lines : lines_of (r0.held ++ before) ≡ now.line ∷ lines_of (now.held ++ after) =
-        whole ∙ lines_of-last b line h ∙ ap (λ (ls : List (List ℕ)). (b ∷ line) ∷ ls) (sym rest) ∙ ap (λ (l : List ℕ). l ∷ lines_of (now.held ++ after)) (sym is_line) in
+    whole ∙ lines_of-last b line h ∙ ap (λ (ls : List (List ℕ)). (b ∷ line) ∷ ls) (sym rest) ∙ ap (λ (l : List ℕ). l ∷ lines_of (now.held ++ after)) (sym is_line) in
     let fits : length now.line ≤ 65536 = subst (λ (l : List ℕ). length l ≤ 65536) (sym is_line) short in
     record { within = ap (λ (ls : List (List ℕ)). is_past r0 ls) lines ∙ not_past r0 now.line (lines_of (now.held ++ after)) few fits; line = lines }
 

@@ -1,5 +1,5 @@
 -- One more byte of a text literal, at the test and at the reading.
-use Rattle.std.proofs.Common.{ℕ, ◌≡◌, ◌≢◌, ◌+◌, ◌≤◌, ◌<◌, Bool, true, false, cond, ◌&&◌, List, [], ◌∷◌, ◌++◌, length, drop, get_or, Option, None, Some, refl, ap, ◌∙◌, sym, append_assoc, append-nil, arith, add-one, drop-cons}
+use Rattle.std.proofs.Common.{ℕ, ◌≡◌, ◌+◌, ◌<◌, Bool, true, false, cond, ◌&&◌, List, [], ◌∷◌, ◌++◌, length, drop, get_or, Option, None, Some, refl, ap, ◌∙◌, sym, append_assoc, append-nil, arith, add-one, drop-cons}
 use Rattle.std.proofs.lemmas.Grind.{common_steps}
 use Rattle.std.specs.Prelude.{nat_eq, nat_le, is_some, unwrap_or, option_and_then}
 use Rattle.std.specs.Option.{option_map}

@@ -1,6 +1,6 @@
 -- The statements that name a table are none of those that take no memory.
-use Rattle.std.proofs.Common.{ℕ, ◌≡◌, Bool, true, false, cond, ◌&&◌, List, [], ◌∷◌, length, Option, None, Some, Result, Ok, Err, refl, ap, sym, ◌∙◌, arith}
-use Rattle.std.specs.Prelude.{is_some, option_and_then, nat_lt, nat_le, nat_eq, codes}
+use Rattle.std.proofs.Common.{ℕ, ◌≡◌, Bool, true, false, cond, ◌&&◌, List, [], ◌∷◌, length, Option, None, Some, Result, Ok, Err, refl}
+use Rattle.std.specs.Prelude.{is_some, option_and_then, nat_lt, nat_le, codes}
 use Rattle.std.specs.Option.{option_map}
 use Rattle.ut_value.specs.Text.{is_name, same_bytes}
 use Rattle.ut_value.specs.declared.value.Value.{Value}

@@ -1,5 +1,5 @@
 -- What stands before and behind the first line feed of what is held.
-use Rattle.std.proofs.Common.{ℕ, zero, suc, ◌≡◌, ◌+◌, ◌-◌, ◌<◌, ◌≤◌, ◌==◌, Bool, true, false, cond, List, [], ◌∷◌, ◌++◌, length, take, drop, get_or, refl, ap, ◌∙◌, sym, subst, arith, append-nil, Option, None, Some}
+use Rattle.std.proofs.Common.{ℕ, suc, ◌≡◌, ◌+◌, ◌-◌, ◌<◌, ◌≤◌, Bool, true, false, cond, List, [], ◌∷◌, ◌++◌, length, take, drop, get_or, refl, ap, ◌∙◌, sym, subst, arith, append-nil, Option, None, Some}
 use Rattle.std.proofs.lemmas.Grind.{common_steps}
 use Rattle.std.proofs.lemmas.List.{take-append-drop, drop-take, get_or-take, length-take-le}
 use Rattle.std.specs.Prelude.{nat_eq}
@@ -23,7 +23,7 @@ line_end-is bytes None h = no_feed-each bytes (λ k lt e. h k (omega arith) lt e
 line_end-is bytes (Some n) h =
     let low : n < length bytes = h.0.high in
     let front : has_no_feed (take n bytes) ≡ true = no_feed-each (take n bytes)
-        (λ k lt e. (let below : k < n = omega (arith, lt, length-take-le n bytes (omega arith)) in h.0.before k (omega arith) below (subst (λ (b : ℕ). nat_eq b 10 ≡ true) (get_or-take n bytes k 0 below) e))) in
+    (λ k lt e. (let below : k < n = omega (arith, lt, length-take-le n bytes (omega arith)) in h.0.before k (omega arith) below (subst (λ (b : ℕ). nat_eq b 10 ≡ true) (get_or-take n bytes k 0 below) e))) in
     let feed : get_or bytes n 0 ≡ 10 = grind (arith, common_steps, h.1) in
     (low, front, next_byte bytes n low ∙ ap (λ (b : ℕ). b ∷ drop (n + 1) bytes) feed)
 

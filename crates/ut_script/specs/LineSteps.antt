@@ -1,5 +1,5 @@
 -- What the steps of a reader of lines do.
-use Rattle.std.specs.Prelude.{ℕ, ◌+◌, ◌≡◌, ◌<◌, ◌≤◌, Bool, true, List, [], ◌∷◌, ◌++◌, length, take, drop, Option, None, Some, Result, Ok, Err, MatchResult, MatchOption, OnOk}
+use Rattle.std.specs.Prelude.{ℕ, ◌+◌, ◌≡◌, ◌<◌, Bool, true, List, [], ◌∷◌, ◌++◌, length, take, drop, Option, None, Some, Result, Ok, Err, MatchResult}
 use Rattle.std.specs.Bool.{MatchBool}
 use Rattle.ut_script.specs.Lines.{Reading, has_no_feed}
 

@@ -1,5 +1,5 @@
 -- The lines of an input, and what one call takes of them.
-use Rattle.std.specs.Prelude.{ℕ, ◌+◌, ◌≡◌, ◌<◌, ◌≤◌, Bool, true, false, nat_eq, nat_le, nat_lt, ◌&&◌, ◌||◌, if◌then◌else◌, List, [], ◌∷◌, ◌++◌, length, Option, None, Some, Result, Ok, Err, MatchResult, IsErrOf}
+use Rattle.std.specs.Prelude.{ℕ, ◌+◌, ◌≡◌, ◌≤◌, Bool, true, false, nat_eq, nat_le, nat_lt, ◌&&◌, ◌||◌, if◌then◌else◌, List, [], ◌∷◌, ◌++◌, length, Option, None, Some, Result, Ok, Err, MatchResult, IsErrOf}
 use Rattle.std.specs.Bool.{MatchBool}
 use Rattle.ut_outside.specs.Faults.{Rose}
 use Rattle.ut_script.specs.declared.lines.LineError.{LineError}

@@ -7,7 +7,6 @@ use Rattle.ut_value.specs.declared.value.Column.{Column}
 use Rattle.ut_value.specs.declared.entry.MergeKind.{MergeKind}
 use Rattle.ut_value.specs.declared.entry.MergeKind.TheVariants as merges
 use Rattle.ut_plain.specs.declared.statement.Pred.{Pred}
-use Rattle.ut_plain.specs.declared.statement.Query.{Query}
 use Rattle.ut_plain.specs.declared.statement.Query.TheVariants as queries
 use Rattle.ut_plain.specs.declared.statement.Statement.{Statement}
 use Rattle.ut_plain.specs.declared.statement.Statement.TheVariants as statements

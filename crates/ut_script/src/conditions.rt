@@ -42,7 +42,7 @@ struct Comparison<'a> {
     rest: &'a [u8],
 }
 
-fn next_comparison(line: &[u8]) -> Option<Comparison<'_>> 
+fn next_comparison(line: &[u8]) -> Option<Comparison<'_>>
     ensures found { IfSome result (λ r. words_of line.now ≡ r.column.now ∷ r.op.now ∷ r.value.now ∷ words_of r.rest.now) }
     ensures shorter { IfSome result (λ r. length r.rest.now < length line.now) }
     ensures none { IfNone result (length (words_of line.now) < 3) }
@@ -50,7 +50,12 @@ fn next_comparison(line: &[u8]) -> Option<Comparison<'_>>
     let (column, rest) = next_word(line)?;
     let (op, rest) = next_word(rest)?;
     let (value, rest) = next_word(rest)?;
-    Some(Comparison { column, op, value, rest })
+    Some(Comparison {
+        column,
+        op,
+        value,
+        rest,
+    })
 }
 
 fn are_comparisons(line: &[u8]) -> bool

@@ -69,11 +69,7 @@ fn session_of(word: &[u8], crowd: bool) -> Option<u8>
     }
 }
 
-fn statement_of(
-    alloc: Global,
-    session: u8,
-    line: &[u8],
-) -> Result<Option<Statement>, AllocError>
+fn statement_of(alloc: Global, session: u8, line: &[u8]) -> Result<Option<Statement>, AllocError>
     ensures { ReadsStatement result (statement_of session (words_of line.now)) }
 {
     if session == 0 {

@@ -71,7 +71,11 @@ pub fn within(least: u64, most: u64, number: Option<u64>) -> Option<u64>
     match number {
         None => None,
         Some(n) => {
-            if least <= n && n <= most { Some(n) } else { None }
+            if least <= n && n <= most {
+                Some(n)
+            } else {
+                None
+            }
         }
     }
 }

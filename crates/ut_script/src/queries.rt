@@ -1,5 +1,6 @@
 //! The statements that ask for rows.
 #![tactic(auto, using(crate::proofs::StatementLemmas::statements))]
+
 ghost use Rattle.std.specs.Prelude.{◌≡◌, ◌<◌, Some, None, true, length, IfSome, IfNone, false, is_some, ◌∷◌};
 ghost use Rattle.ut_script.specs.Words.{words_of};
 ghost use Rattle.ut_value.specs.Text.{is_name};
@@ -15,11 +16,7 @@ use ut_plain::{Query, Statement};
 use ut_value::{Name, is_name, same_bytes};
 
 /// `count T [W]` and the other statements that ask.
-pub fn query_of(
-    alloc: Global,
-    verb: &[u8],
-    line: &[u8],
-) -> Result<Option<Statement>, AllocError>
+pub fn query_of(alloc: Global, verb: &[u8], line: &[u8]) -> Result<Option<Statement>, AllocError>
     ensures { Reads result (query_of verb.now (words_of line.now)) }
 {
     if same_bytes(verb, b"select") {
@@ -68,7 +65,11 @@ fn sum_of(alloc: Global, line: &[u8]) -> Result<Option<Statement>, AllocError>
     let table = Name::read(alloc, folded.table)?;
     let column = Name::read(alloc, folded.column)?;
     let preds = read_conditions(alloc, folded.rest)?;
-    Ok(Some(Statement::Ask(Query::Sum { table, column, preds })))
+    Ok(Some(Statement::Ask(Query::Sum {
+        table,
+        column,
+        preds,
+    })))
 }
 
 /// `T c [W]`
@@ -82,7 +83,11 @@ fn min_of(alloc: Global, line: &[u8]) -> Result<Option<Statement>, AllocError>
     let table = Name::read(alloc, folded.table)?;
     let column = Name::read(alloc, folded.column)?;
     let preds = read_conditions(alloc, folded.rest)?;
-    Ok(Some(Statement::Ask(Query::Min { table, column, preds })))
+    Ok(Some(Statement::Ask(Query::Min {
+        table,
+        column,
+        preds,
+    })))
 }
 
 /// `T c [W]`
@@ -96,7 +101,11 @@ fn max_of(alloc: Global, line: &[u8]) -> Result<Option<Statement>, AllocError>
     let table = Name::read(alloc, folded.table)?;
     let column = Name::read(alloc, folded.column)?;
     let preds = read_conditions(alloc, folded.rest)?;
-    Ok(Some(Statement::Ask(Query::Max { table, column, preds })))
+    Ok(Some(Statement::Ask(Query::Max {
+        table,
+        column,
+        preds,
+    })))
 }
 
 /// A table, a column of it, and conditions, tested.
@@ -117,7 +126,11 @@ fn next_folded(line: &[u8]) -> Option<Folded<'_>>
     let (table, rest) = next_word(line)?;
     let (column, rest) = next_word(rest)?;
     if is_name(table) && is_name(column) && are_conditions(rest) {
-        Some(Folded { table, column, rest })
+        Some(Folded {
+            table,
+            column,
+            rest,
+        })
     } else {
         None
     }
@@ -149,7 +162,12 @@ fn group_of(alloc: Global, line: &[u8]) -> Result<Option<Statement>, AllocError>
     let key = Name::read(alloc, key)?;
     let sum = Name::read(alloc, sum)?;
     let preds = read_conditions(alloc, rest)?;
-    Ok(Some(Statement::Ask(Query::Group { table, key, sum, preds })))
+    Ok(Some(Statement::Ask(Query::Group {
+        table,
+        key,
+        sum,
+        preds,
+    })))
 }
 
 /// `T c U d`
@@ -178,5 +196,10 @@ fn join_of(alloc: Global, line: &[u8]) -> Result<Option<Statement>, AllocError>
     let left_column = Name::read(alloc, left_column)?;
     let right = Name::read(alloc, right)?;
     let right_column = Name::read(alloc, right_column)?;
-    Ok(Some(Statement::Ask(Query::Join { left, left_column, right, right_column })))
+    Ok(Some(Statement::Ask(Query::Join {
+        left,
+        left_column,
+        right,
+        right_column,
+    })))
 }

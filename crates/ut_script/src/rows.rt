@@ -1,5 +1,6 @@
 //! The statements that change tables and rows.
 #![tactic(auto, using(crate::proofs::StatementLemmas::statements))]
+
 ghost use Rattle.std.specs.Prelude.{◌≡◌, Some};
 ghost use Rattle.ut_script.specs.Words.{words_of};
 ghost use Rattle.ut_script.specs.Statements.{Reads, create_of, rows_of, chosen_of, update_of};
@@ -103,7 +104,12 @@ pub fn update_of(alloc: Global, line: &[u8]) -> Result<Option<Statement>, AllocE
     let column = Name::read(alloc, column)?;
     let value = Value::read(alloc, value)?;
     let preds = read_conditions(alloc, rest)?;
-    Ok(Some(Statement::Update { table, column, value, preds }))
+    Ok(Some(Statement::Update {
+        table,
+        column,
+        value,
+        preds,
+    }))
 }
 
 /// `T [W]`

@@ -1,5 +1,6 @@
 //! The statement that asks for the values of rows.
 #![tactic(auto, using(crate::proofs::StatementLemmas::statements))]
+
 ghost use Rattle.std.specs.Prelude.{◌≡◌, ◌≤◌, ◌+◌, ◌∷◌, Some, None, true, length, IfOk, IfNone, IfSome, option_and_then};
 ghost use Rattle.std.specs.Option.{option_map};
 ghost use Rattle.ut_value.specs.Text.{is_name};
@@ -35,11 +36,7 @@ pub fn select_of(alloc: Global, line: &[u8]) -> Result<Option<Statement>, AllocE
 }
 
 /// All columns.
-fn columns_of_all(
-    alloc: Global,
-    table: &[u8],
-    line: &[u8],
-) -> Result<Option<Statement>, AllocError>
+fn columns_of_all(alloc: Global, table: &[u8], line: &[u8]) -> Result<Option<Statement>, AllocError>
     requires { is_name table.now ≡ true }
     ensures { Reads result (columns_of_all table.now (words_of line.now)) }
 {
@@ -48,15 +45,15 @@ fn columns_of_all(
     }
     let table = Name::read(alloc, table)?;
     let preds = read_conditions(alloc, line)?;
-    Ok(Some(Statement::Ask(Query::Select { table, columns: None, preds })))
+    Ok(Some(Statement::Ask(Query::Select {
+        table,
+        columns: None,
+        preds,
+    })))
 }
 
 /// The columns that are named.
-fn columns_named(
-    alloc: Global,
-    table: &[u8],
-    line: &[u8],
-) -> Result<Option<Statement>, AllocError>
+fn columns_named(alloc: Global, table: &[u8], line: &[u8]) -> Result<Option<Statement>, AllocError>
     requires { is_name table.now ≡ true }
     ensures { Reads result (columns_named table.now (words_of line.now)) }
 {
@@ -72,7 +69,11 @@ fn columns_named(
     let table = Name::read(alloc, table)?;
     let columns = read_names(alloc, line, count)?;
     let preds = read_conditions(alloc, rest)?;
-    Ok(Some(Statement::Ask(Query::Select { table, columns: Some(columns), preds })))
+    Ok(Some(Statement::Ask(Query::Select {
+        table,
+        columns: Some(columns),
+        preds,
+    })))
 }
 
 fn is_where(word: &[u8]) -> bool

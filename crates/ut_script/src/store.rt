@@ -1,5 +1,6 @@
 //! The statements of session 0, the operator's.
 #![tactic(auto, using(crate::proofs::StatementLemmas::statements))]
+
 ghost use Rattle.std.specs.Prelude.{◌≡◌, Some, None};
 ghost use Rattle.std.specs.Option.{option_map};
 ghost use Rattle.ut_script.specs.Words.{words_of};

@@ -1,4 +1,4 @@
-use Rattle.std.proofs.Common.{◌∙◌, ◌≡◌, Some, Option, ap, sym, subst, List, ℕ}
+use Rattle.std.proofs.Common.{◌∙◌, ◌≡◌, Some, Option, sym, subst, List, ℕ}
 use Rattle.ut_script.specs.Words.{words_of}
 use Rattle.ut_script.specs.Grammar.{MayLackMemory, line_of, line_with, session_of, statement_of}
 use Rattle.ut_script.proofs.NamedLemmas.{lacks_memory}

@@ -1,9 +1,9 @@
-use Rattle.std.proofs.Common.{ℕ, Bool, ◌&&◌, List, ◌≡◌, ◌<◌, ◌+◌, ◌++◌, ◌∷◌, [], true, false, nat_eq, ap, ◌∙◌, sym, drop, get_or, length, arith, Option}
+use Rattle.std.proofs.Common.{ℕ, Bool, ◌&&◌, List, ◌≡◌, ◌+◌, [], false, nat_eq, ap, ◌∙◌, sym, drop, get_or, arith}
 use Rattle.std.proofs.lemmas.Grind.{common_steps}
-use Rattle.std.specs.Prelude.{is_some, unwrap_or, nat_le}
+use Rattle.std.specs.Prelude.{nat_le}
 use Rattle.std.specs.Option.{option_map}
 use Rattle.ut_script.specs.Literals.{unquoted}
-use Rattle.ut_script.proofs.LiteralLemmas.{fits, fits-plain, fits-doubled, fits-opened, fits-behind, fits-never, fits-done, fits-not, next_byte}
+use Rattle.ut_script.proofs.LiteralLemmas.{fits, fits-plain, fits-doubled, fits-behind, fits-never, fits-done, fits-not, next_byte}
 use Rattle.ut_script.proofs.literals.is_text_literal.Goals as goal
 
 pub loop-b-preserved-then-b-ne-QUOTE : goal.loop-b-preserved-then-b-ne-QUOTE

@@ -1,9 +1,9 @@
-use Rattle.std.proofs.Common.{ℕ, List, ◌≡◌, ◌<◌, ◌+◌, ◌++◌, ◌∷◌, [], true, false, nat_eq, ap, ◌∙◌, sym, drop, get_or, length, arith, Option}
+use Rattle.std.proofs.Common.{ℕ, List, ◌≡◌, ◌+◌, ◌++◌, false, nat_eq, ap, ◌∙◌, sym, drop, get_or, arith, Option}
 use Rattle.std.proofs.lemmas.Grind.{common_steps}
 use Rattle.std.specs.Prelude.{is_some}
 use Rattle.std.specs.Option.{option_map}
 use Rattle.ut_script.specs.Literals.{unquoted}
-use Rattle.ut_script.proofs.LiteralLemmas.{unquoted-plain, unquoted-doubled, unquoted-opened, unquoted-end, next_byte}
+use Rattle.ut_script.proofs.LiteralLemmas.{unquoted-plain, unquoted-doubled, unquoted-opened, next_byte}
 use Rattle.ut_script.proofs.literals.unquoted.Goals as goal
 
 pub loop-b-preserved-then-b-ne-QUOTE : goal.loop-b-preserved-then-b-ne-QUOTE
@@ -16,8 +16,8 @@ loop-b-preserved-then-b-ne-QUOTE c =
     let whole = ap (λ (xs : List ℕ). option_map (λ x. front ++ x) (unquoted c.loop-b.pending xs)) (sym (next_byte bytes i (omega arith))) ∙ c.loop-b.invariant.rest in
     record {
       rest = ap (λ (t : List ℕ). option_map (λ x. t ++ x) (unquoted c.loop-b.pending (drop (i + 1) bytes))) c.push_reserved.ensures.items
-        ∙ unquoted-plain front b (drop (i + 1) bytes) c.loop-b.pending other (ap (λ (o : Option (List ℕ)). is_some o) whole ∙ c.requires)
-        ∙ whole;
+          ∙ unquoted-plain front b (drop (i + 1) bytes) c.loop-b.pending other (ap (λ (o : Option (List ℕ)). is_some o) whole ∙ c.requires)
+          ∙ whole;
       len = omega arith;
       room = c.push_reserved.ensures.capacity ∙ c.loop-b.invariant.room;
     }
@@ -32,8 +32,8 @@ loop-b-preserved-then-pending c =
     let whole = ap (λ (xs : List ℕ). option_map (λ x. front ++ x) (unquoted c.loop-b.pending xs)) (sym (next_byte bytes i (omega arith))) ∙ c.loop-b.invariant.rest in
     record {
       rest = ap (λ (t : List ℕ). option_map (λ x. t ++ x) (unquoted false (drop (i + 1) bytes))) c.push_reserved-then-pending.ensures.items
-        ∙ unquoted-doubled front b (drop (i + 1) bytes) c.loop-b.pending c.if-pending.true quote
-        ∙ whole;
+          ∙ unquoted-doubled front b (drop (i + 1) bytes) c.loop-b.pending c.if-pending.true quote
+          ∙ whole;
       len = omega arith;
       room = c.push_reserved-then-pending.ensures.capacity ∙ c.loop-b.invariant.room;
     }

@@ -1,6 +1,5 @@
-use Rattle.std.proofs.Common.{◌≡◌, ◌+◌, ◌<◌, ◌^◌, subst, ℕ, List, arith}
+use Rattle.std.proofs.Common.{◌≡◌, ◌+◌, ◌<◌, ◌^◌, subst, ℕ, arith}
 use Rattle.std.specs.Prelude.{sum_by}
-use Rattle.ut_plain.specs.declared.reply.Group.{Group}
 use Rattle.ut_script.specs.Texts.{value_room}
 use Rattle.ut_script.proofs.RoomLemmas.{sum_whole}
 use Rattle.ut_script.proofs.room.groups_room.Goals as goal

@@ -1,5 +1,4 @@
 use Rattle.std.proofs.Common.{◌≡◌, ◌+◌, ◌<◌, ◌^◌, drop}
-use Rattle.std.specs.Prelude.{sum_by}
 use Rattle.ut_script.specs.Texts.{tuple_room}
 use Rattle.ut_script.proofs.room.tuple_room.Given as goal
 

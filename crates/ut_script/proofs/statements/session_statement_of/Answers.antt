@@ -1,4 +1,4 @@
-use Rattle.std.proofs.Common.{◌∙◌, ◌≡◌, None, Option, ap, sym, subst, List, ℕ, ◌∷◌}
+use Rattle.std.proofs.Common.{◌∙◌, ◌≡◌, None, Option, sym, subst, List, ℕ}
 use Rattle.ut_plain.specs.declared.statement.Statement.{Statement}
 use Rattle.ut_script.specs.Words.{words_of}
 use Rattle.ut_script.specs.Statements.{ReadsStatement, session_statement_of, table_statement_of, transaction_verb, alone_or}

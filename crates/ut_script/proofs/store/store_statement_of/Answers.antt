@@ -1,4 +1,4 @@
-use Rattle.std.proofs.Common.{◌∙◌, ◌≡◌, None, Option, Bool, true, false, cond, ap, sym, subst, List, ℕ, ◌∷◌}
+use Rattle.std.proofs.Common.{◌∙◌, ◌≡◌, None, Option, Bool, true, false, cond, sym, subst, List, ℕ}
 use Rattle.std.specs.Prelude.{codes}
 use Rattle.ut_value.specs.Text.{same_bytes}
 use Rattle.ut_plain.specs.declared.statement.Statement.{Statement}

@@ -1,5 +1,5 @@
 use Rattle.std.proofs.Common.{◌≡◌, ◌≤◌, ◌+◌, ◌*◌, ◌++◌, ◌∷◌, drop, length, vec_len, vec_capacity}
-use Rattle.std.specs.Prelude.{flat_map, sum_by, decimal}
+use Rattle.std.specs.Prelude.{flat_map, decimal}
 use Rattle.ut_script.proofs.values.add_parts.Given as goal
 
 abbrev pub invariant-loop-rows : goal.invariant-loop-rows

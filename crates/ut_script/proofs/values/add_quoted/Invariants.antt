@@ -1,5 +1,4 @@
-use Rattle.std.proofs.Common.{◌≡◌, ◌≤◌, ◌+◌, ◌*◌, ◌++◌, ◌∷◌, drop, length, vec_len, vec_capacity}
-use Rattle.std.specs.Prelude.{flat_map, sum_by, decimal}
+use Rattle.std.proofs.Common.{◌≡◌, ◌≤◌, ◌+◌, ◌*◌, ◌++◌, drop, length, vec_len, vec_capacity}
 use Rattle.ut_script.specs.Texts.{quoted}
 use Rattle.ut_script.proofs.values.add_quoted.Given as goal
 

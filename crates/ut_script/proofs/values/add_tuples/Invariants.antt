@@ -1,5 +1,5 @@
-use Rattle.std.proofs.Common.{◌≡◌, ◌≤◌, ◌+◌, ◌*◌, ◌++◌, ◌∷◌, drop, length, vec_len, vec_capacity}
-use Rattle.std.specs.Prelude.{flat_map, sum_by, decimal}
+use Rattle.std.proofs.Common.{◌≡◌, ◌≤◌, ◌+◌, ◌++◌, ◌∷◌, drop, vec_len, vec_capacity}
+use Rattle.std.specs.Prelude.{flat_map, sum_by}
 use Rattle.ut_script.specs.Texts.{tuple_text, tuple_room}
 use Rattle.ut_script.proofs.values.add_tuples.Given as goal
 

@@ -1,5 +1,4 @@
-use Rattle.std.proofs.Common.{Bool, Ok, subst, ap, ◌∙◌}
-use Rattle.std.specs.Prelude.{Result}
+use Rattle.std.proofs.Common.{Bool, Ok, subst, ap}
 use Rattle.ut_script.specs.declared.lines.LineError.{LineError}
 use Rattle.ut_script.specs.LineSteps.{Fills}
 use Rattle.ut_script.proofs.LineLemmas.{past_limit}

@@ -1,8 +1,8 @@
-use Rattle.std.proofs.Common.{Bool, Ok, Err, subst, ap, ◌∙◌, sym, arith}
+use Rattle.std.proofs.Common.{Bool, Ok, subst, ap, ◌∙◌, arith}
 use Rattle.std.specs.Bool.{MatchBool}
 use Rattle.ut_script.specs.declared.lines.LineError.{LineError}
 use Rattle.ut_script.specs.Lines.{Reading}
-use Rattle.ut_script.specs.LineSteps.{Fills, EndsLine, JoinsLine, SameCounts}
+use Rattle.ut_script.specs.LineSteps.{Fills, EndsLine, JoinsLine}
 use Rattle.ut_script.proofs.LineLemmas.{grows, fed, breaks, ends, counted-line, counted-held}
 use Rattle.ut_script.proofs.lines.Lines.read_line.Goals as goal
 

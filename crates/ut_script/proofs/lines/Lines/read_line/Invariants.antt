@@ -1,4 +1,4 @@
-use Rattle.std.proofs.Common.{◌≤◌, ◌-◌, ◌≡◌, length}
+use Rattle.std.proofs.Common.{◌≤◌, ◌-◌, length}
 use Rattle.ut_script.specs.LineSteps.{ReadsLine, SameCounts}
 use Rattle.ut_script.proofs.lines.Lines.read_line.Given as goal
 

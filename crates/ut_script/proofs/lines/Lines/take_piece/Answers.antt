@@ -1,4 +1,4 @@
-use Rattle.std.proofs.Common.{◌∙◌, ap, sym, subst, List, ℕ, take, drop, length, ◌-◌, ◌+◌, ◌≡◌, ◌≤◌, ◌<◌, ◌++◌, arith}
+use Rattle.std.proofs.Common.{◌∙◌, ap, sym, List, ℕ, take, drop, length, ◌-◌, ◌+◌, ◌≡◌, ◌++◌, arith}
 use Rattle.ut_script.specs.Lines.{Reading}
 use Rattle.ut_script.proofs.PieceLemmas.{held-part, held-behind, held-none, breaks_at, breaks_whole, ends_at, joins_all}
 use Rattle.ut_script.proofs.lines.Lines.take_piece.Goals as goal
