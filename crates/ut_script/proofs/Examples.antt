@@ -1,5 +1,5 @@
 -- What some lines say and how some replies read, by computing the definitions.
-use Rattle.std.proofs.Common.{ℕ, ◌≡◌, true, false, List, [], ◌∷◌, None, Some, refl, pos, negsuc}
+use Rattle.std.proofs.Common.{◌≡◌, true, false, [], ◌∷◌, Some, refl, pos, negsuc}
 use Rattle.std.specs.Prelude.{codes, ◌++◌}
 use Rattle.ut_key.specs.declared.comparison.Cmp.TheVariants as ops
 use Rattle.ut_value.specs.declared.value.Kind.TheVariants as kinds
@@ -83,7 +83,7 @@ create = refl
 
 select : parsed false (codes "1 select T k where v < 'j' and k <> -1")
     ≡ Good 1 (statements.Ask (queries.Select (codes "T") (Some (codes "k" ∷ []))
-      (record { column = codes "v"; op = ops.Lt; value = values.Text (codes "j") } ∷ record { column = codes "k"; op = ops.Ne; value = values.Int (negsuc 0) } ∷ [])))
+    (record { column = codes "v"; op = ops.Lt; value = values.Text (codes "j") } ∷ record { column = codes "k"; op = ops.Ne; value = values.Int (negsuc 0) } ∷ [])))
 unfolding value_of text_of int_of operator_of comparison_of conditions_of
 select = refl
 

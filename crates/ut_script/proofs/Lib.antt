@@ -9,3 +9,5 @@ pub mod LineLemmas
 pub mod PieceLemmas
 pub mod RoomLemmas
 pub mod Examples
+pub mod NumberLaws
+pub mod ValueLaws

@@ -6,3 +6,4 @@ pub mod Grammar
 pub mod Lines
 pub mod LineSteps
 pub mod Texts
+pub mod Spellings

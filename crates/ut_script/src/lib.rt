@@ -2,6 +2,7 @@
 #![tactic(auto)]
 
 mod conditions;
+mod laws;
 mod line;
 mod lines;
 mod literals;
@@ -17,6 +18,7 @@ mod store;
 mod values;
 mod words;
 
+pub use laws::values_have_one_spelling;
 pub use line::{LineMemory, parse_line};
 pub use lines::{LineError, Lines};
 pub use reply::{put_reply, put_small};
