@@ -35,6 +35,14 @@ tuple_text (v ∷ vs) = value_text v ++ more_text vs
 abbrev pub group_text : Group → List ℕ
 group_text g = value_text g.key ++ 32 ∷ signed_decimal g.sum
 
+-- how many rows, and a line each
+abbrev pub rows_text : List (List Value) → List ℕ
+rows_text tuples = codes "rows " ++ decimal (length tuples) ++ flat_map (λ t. 10 ∷ tuple_text t) tuples
+
+-- how many groups, and a line each
+abbrev pub groups_text : List Group → List ℕ
+groups_text groups = codes "groups " ++ decimal (length groups) ++ flat_map (λ g. 10 ∷ group_text g) groups
+
 abbrev pub why_text : Why → List ℕ
 why_text whys.TxnOpen = codes "open"
 why_text whys.TxnClosed = codes "closed"
@@ -83,8 +91,8 @@ abbrev pub reply_body : Reply → List ℕ
 reply_body replies.Done = codes "ok"
 reply_body (replies.Committed n) = codes "ok commit " ++ decimal n
 reply_body (replies.Changed rows commit) = changed_text rows commit
-reply_body (replies.Rows tuples) = codes "rows " ++ decimal (length tuples) ++ flat_map (λ t. 10 ∷ tuple_text t) tuples
-reply_body (replies.Groups groups) = codes "groups " ++ decimal (length groups) ++ flat_map (λ g. 10 ∷ group_text g) groups
+reply_body (replies.Rows tuples) = rows_text tuples
+reply_body (replies.Groups groups) = groups_text groups
 reply_body (replies.Count n) = codes "count " ++ decimal n
 reply_body (replies.Sum n) = codes "sum " ++ signed_decimal n
 reply_body (replies.Min v) = codes "min " ++ value_or_none v

@@ -4,7 +4,7 @@ ghost use Rattle.ut_script.specs.Texts.{reply_text, reply_body, reply_room, item
 
 use crate::numbers::{add, add_number};
 use crate::room::room_of;
-use crate::values::{add_groups, add_parts, add_tuples, add_value};
+use crate::values::{add_groups, add_parts, add_rows, add_value};
 use std::alloc::AllocError;
 use ut_plain::{Refusal, Reply, Shape, Why};
 use ut_value::Value;
@@ -71,29 +71,15 @@ fn add_body(out: &mut Vec<u8>, reply: &Reply)
         Reply::Done => add(out, b"ok"),
         Reply::Committed(number) => add_named(out, b"ok commit ", *number),
         Reply::Changed { rows, commit } => add_changed(out, *rows, *commit),
-        Reply::Rows(tuples) => {
-            add(out, b"rows ");
-            add_number(out, tuples.len());
-            add_tuples(out, tuples.as_slice());
-        }
-        Reply::Groups(groups) => {
-            add(out, b"groups ");
-            add_number(out, groups.len());
-            add_groups(out, groups.as_slice());
-        }
+        Reply::Rows(tuples) => add_rows(out, tuples.as_slice()),
+        Reply::Groups(groups) => add_groups(out, groups.as_slice()),
         Reply::Count(number) => add_named(out, b"count ", *number),
         Reply::Sum(number) => {
             add(out, b"sum ");
             add_number(out, *number);
         }
-        Reply::Min(value) => {
-            add(out, b"min ");
-            add_value_or_none(out, value);
-        }
-        Reply::Max(value) => {
-            add(out, b"max ");
-            add_value_or_none(out, value);
-        }
+        Reply::Min(value) => add_value_or_none(out, b"min ", value),
+        Reply::Max(value) => add_value_or_none(out, b"max ", value),
         Reply::Moved(number) => add_named(out, b"ok ", *number),
         Reply::Merge(number) => add_named(out, b"ok ", *number),
         Reply::Saving { done, pages } => {
@@ -137,12 +123,13 @@ fn add_changed(out: &mut Vec<u8>, rows: u32, commit: Option<u32>)
     }
 }
 
-fn add_value_or_none(out: &mut Vec<u8>, value: &Option<Value>)
-    requires room { vec_len out.old + (value_or_none_room value.now + 4) ≤ vec_capacity out.old }
-    ensures text { out.new.items ≡ out.old.items ++ value_or_none value.now }
-    ensures len { vec_len out.new ≤ vec_len out.old + (value_or_none_room value.now + 4) }
+fn add_value_or_none(out: &mut Vec<u8>, name: &[u8], value: &Option<Value>)
+    requires room { vec_len out.old + (value_or_none_room value.now + length name.now + 4) ≤ vec_capacity out.old }
+    ensures text { out.new.items ≡ out.old.items ++ name.now ++ value_or_none value.now }
+    ensures len { vec_len out.new ≤ vec_len out.old + (value_or_none_room value.now + length name.now + 4) }
     ensures capacity { vec_capacity out.old ≤ vec_capacity out.new }
 {
+    add(out, name);
     match value {
         None => add(out, b"none"),
         Some(value) => add_value(out, value),

@@ -1,6 +1,6 @@
 //! The texts of values, rows and groups, put where there is room for them.
 ghost use Rattle.std.specs.Prelude.{◌≡◌, ◌≤◌, ◌+◌, ◌*◌, ◌++◌, ◌∷◌, length, vec_len, vec_capacity, flat_map, sum_by, decimal};
-ghost use Rattle.ut_script.specs.Texts.{quoted, value_text, more_text, tuple_text, group_text, value_room, tuple_room};
+ghost use Rattle.ut_script.specs.Texts.{quoted, value_text, more_text, tuple_text, rows_text, group_text, groups_text, value_room, tuple_room};
 
 use crate::numbers::{add, add_number};
 use ut_plain::Group;
@@ -8,8 +8,31 @@ use ut_value::{Seq, Value};
 
 const QUOTE: u8 = b'\'';
 
-/// Each row on a line of its own.
-pub fn add_tuples(out: &mut Vec<u8>, tuples: &[Seq<Value>])
+/// The number of rows, and each row on a line of its own.
+pub fn add_rows(out: &mut Vec<u8>, tuples: &[Seq<Value>])
+    requires room { vec_len out.old + (sum_by (λ t. tuple_room t + 1) tuples.now + 25) ≤ vec_capacity out.old }
+    ensures text { out.new.items ≡ out.old.items ++ rows_text tuples.now }
+    ensures len { vec_len out.new ≤ vec_len out.old + (sum_by (λ t. tuple_room t + 1) tuples.now + 25) }
+    ensures capacity { vec_capacity out.old ≤ vec_capacity out.new }
+{
+    add(out, b"rows ");
+    add_number(out, tuples.len());
+    add_tuples(out, tuples);
+}
+
+/// The number of groups, and each group on a line of its own.
+pub fn add_groups(out: &mut Vec<u8>, groups: &[Group])
+    requires room { vec_len out.old + (sum_by (λ g. value_room g.key + 42) groups.now + 27) ≤ vec_capacity out.old }
+    ensures text { out.new.items ≡ out.old.items ++ groups_text groups.now }
+    ensures len { vec_len out.new ≤ vec_len out.old + (sum_by (λ g. value_room g.key + 42) groups.now + 27) }
+    ensures capacity { vec_capacity out.old ≤ vec_capacity out.new }
+{
+    add(out, b"groups ");
+    add_number(out, groups.len());
+    add_each_group(out, groups);
+}
+
+fn add_tuples(out: &mut Vec<u8>, tuples: &[Seq<Value>])
     requires room { vec_len out.old + sum_by (λ t. tuple_room t + 1) tuples.now ≤ vec_capacity out.old }
     ensures text { out.new.items ≡ out.old.items ++ flat_map (λ t. 10 ∷ tuple_text t) tuples.now }
     ensures len { vec_len out.new ≤ vec_len out.old + sum_by (λ t. tuple_room t + 1) tuples.now }
@@ -21,8 +44,7 @@ pub fn add_tuples(out: &mut Vec<u8>, tuples: &[Seq<Value>])
     }
 }
 
-/// Each group on a line of its own.
-pub fn add_groups(out: &mut Vec<u8>, groups: &[Group])
+fn add_each_group(out: &mut Vec<u8>, groups: &[Group])
     requires room { vec_len out.old + sum_by (λ g. value_room g.key + 42) groups.now ≤ vec_capacity out.old }
     ensures text { out.new.items ≡ out.old.items ++ flat_map (λ g. 10 ∷ group_text g) groups.now }
     ensures len { vec_len out.new ≤ vec_len out.old + sum_by (λ g. value_room g.key + 42) groups.now }

@@ -1,7 +1,7 @@
 use Rattle.std.proofs.Common.{◌≡◌, ◌≤◌, ◌+◌, ◌++◌, ◌∷◌, drop, vec_len, vec_capacity}
 use Rattle.std.specs.Prelude.{flat_map, sum_by}
 use Rattle.ut_script.specs.Texts.{group_text, value_room}
-use Rattle.ut_script.proofs.values.add_groups.Given as goal
+use Rattle.ut_script.proofs.values.add_each_group.Given as goal
 
 abbrev pub invariant-loop-group : goal.invariant-loop-group
 invariant-loop-group l = record {
