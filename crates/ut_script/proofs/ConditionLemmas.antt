@@ -1,0 +1,116 @@
+-- One more comparison of a list of comparisons.
+use Rattle.std.proofs.Common.{ℕ, ◌≡◌, ◌<◌, Bool, true, false, cond, List, [], ◌∷◌, ◌++◌, length, Option, None, Some, refl, ap, ◌∙◌, sym, append_assoc, arith}
+use Rattle.std.specs.Prelude.{is_some, codes}
+use Rattle.std.specs.Option.{option_map}
+use Rattle.ut_value.specs.Text.{same_bytes}
+use Rattle.ut_plain.specs.declared.statement.Pred.{Pred}
+use Rattle.ut_key.specs.declared.comparison.Cmp.{Cmp}
+use Rattle.ut_value.specs.Text.{is_name}
+use Rattle.ut_value.specs.declared.value.Value.{Value}
+use Rattle.ut_script.specs.Literals.{name_of, value_of}
+use Rattle.ut_script.specs.Conditions.{operator_of, comparison_of, comparison_with, comparisons_of, conditions_of, onto_comparisons}
+
+-- fewer than three words are no comparison
+pub comparisons-few : (words : List (List ℕ)) → length words < 3 → comparisons_of words ≡ None
+comparisons-few [] h = refl
+comparisons-few (a ∷ []) h = refl
+comparisons-few (a ∷ b ∷ []) h = refl
+comparisons-few (a ∷ b ∷ c ∷ words) h = absurd (omega arith)
+
+onto_some : (p : Option Pred) (ps : Option (List Pred)) → is_some p ≡ true → is_some (onto_comparisons p ps) ≡ is_some ps
+onto_some None ps h = cc
+onto_some (Some p) None h = refl
+onto_some (Some p) (Some ps) h = refl
+
+onto_none : (p : Option Pred) (ps : Option (List Pred)) → is_some p ≡ false → is_some (onto_comparisons p ps) ≡ false
+onto_none None ps h = refl
+onto_none (Some p) ps h = cc
+
+-- the last comparison
+pub comparisons-last : (c op v : List ℕ) → is_some (comparison_of c op v) ≡ true → is_some (comparisons_of (c ∷ op ∷ v ∷ [])) ≡ true
+comparisons-last c op v h = onto_some (comparison_of c op v) (Some []) h
+
+stopped : (t : Bool) (p : Option Pred) (ps : Option (List Pred)) → is_some p ≡ false → is_some (cond t (onto_comparisons p ps) None) ≡ false
+stopped true p ps h = onto_none p ps h
+stopped false p ps h = refl
+
+-- three words that are no comparison
+pub comparisons-stop : (c op v : List ℕ) (words : List (List ℕ)) → is_some (comparison_of c op v) ≡ false → is_some (comparisons_of (c ∷ op ∷ v ∷ words)) ≡ false
+comparisons-stop c op v [] h = onto_none (comparison_of c op v) (Some []) h
+comparisons-stop c op v (joint ∷ words) h = stopped (same_bytes joint (codes "and")) (comparison_of c op v) (comparisons_of words) h
+
+-- a word that isn't `and`
+pub comparisons-joint : (c op v joint : List ℕ) (words : List (List ℕ)) → same_bytes joint (codes "and") ≡ false → is_some (comparisons_of (c ∷ op ∷ v ∷ joint ∷ words)) ≡ false
+comparisons-joint c op v joint words h = ap (λ (t : Bool). is_some (cond t (onto_comparisons (comparison_of c op v) (comparisons_of words)) None)) h
+
+-- one more comparison
+pub comparisons-next : (c op v joint : List ℕ) (words : List (List ℕ)) → is_some (comparison_of c op v) ≡ true → same_bytes joint (codes "and") ≡ true
+    → is_some (comparisons_of words) ≡ is_some (comparisons_of (c ∷ op ∷ v ∷ joint ∷ words))
+comparisons-next c op v joint words h k =
+    sym (onto_some (comparison_of c op v) (comparisons_of words) h) ∙ ap (λ (t : Bool). is_some (cond t (onto_comparisons (comparison_of c op v) (comparisons_of words)) None)) (sym k)
+
+first_some : (front : List Pred) (p : Option Pred) (ps : Option (List Pred)) → is_some (option_map (λ l. front ++ l) (onto_comparisons p ps)) ≡ true → is_some p ≡ true
+first_some front None ps h = cc
+first_some front (Some p) ps h = refl
+
+first_by : (front : List Pred) (t : Bool) (p : Option Pred) (ps : Option (List Pred)) → is_some (option_map (λ l. front ++ l) (cond t (onto_comparisons p ps) None)) ≡ true → is_some p ≡ true
+first_by front true p ps h = first_some front p ps h
+first_by front false p ps h = cc
+
+-- where the whole is there, so is its first part
+pub preds-first : (front : List Pred) (c op v : List ℕ) (words : List (List ℕ)) (whole : Option (List Pred)) → is_some whole ≡ true
+    → option_map (λ l. front ++ l) (comparisons_of (c ∷ op ∷ v ∷ words)) ≡ whole → is_some (comparison_of c op v) ≡ true
+preds-first front c op v [] whole h e = first_some front (comparison_of c op v) (Some []) (ap (λ (o : Option (List Pred)). is_some o) e ∙ h)
+preds-first front c op v (joint ∷ words) whole h e =
+    first_by front (same_bytes joint (codes "and")) (comparison_of c op v) (comparisons_of words) (ap (λ (o : Option (List Pred)). is_some o) e ∙ h)
+
+-- the last comparison ends the whole
+pub preds-last : (front : List Pred) (c op v : List ℕ) (p : Pred) (whole : Option (List Pred)) → comparison_of c op v ≡ Some p
+    → option_map (λ l. front ++ l) (comparisons_of (c ∷ op ∷ v ∷ [])) ≡ whole → whole ≡ Some (front ++ p ∷ [])
+preds-last front c op v p whole h e = sym e ∙ ap (λ (o : Option Pred). option_map (λ l. front ++ l) (onto_comparisons o (Some []))) h
+
+moved : (front : List Pred) (p : Pred) (o : Option (List Pred)) → option_map (λ l. (front ++ p ∷ []) ++ l) o ≡ option_map (λ l. front ++ l) (option_map (λ l. p ∷ l) o)
+moved front p None = refl
+moved front p (Some l) = ap (λ l. Some l) (append_assoc front (p ∷ []) l)
+
+next_by : (front : List Pred) (t : Bool) (p : Pred) (ps whole : Option (List Pred)) → is_some whole ≡ true → option_map (λ l. front ++ l) (cond t (onto_comparisons (Some p) ps) None) ≡ whole
+    → option_map (λ l. (front ++ p ∷ []) ++ l) ps ≡ whole
+next_by front true p ps whole some e = moved front p ps ∙ e
+next_by front false p ps whole some e = let none = ap (λ (o : Option (List Pred)). is_some o) e in cc
+
+-- one more comparison of the whole
+pub preds-next : (front : List Pred) (c op v joint : List ℕ) (words : List (List ℕ)) (p : Pred) (whole : Option (List Pred)) → is_some whole ≡ true → comparison_of c op v ≡ Some p
+    → option_map (λ l. front ++ l) (comparisons_of (c ∷ op ∷ v ∷ joint ∷ words)) ≡ whole → option_map (λ l. (front ++ p ∷ []) ++ l) (comparisons_of words) ≡ whole
+preds-next front c op v joint words p whole some h e =
+    next_by front (same_bytes joint (codes "and")) p (comparisons_of words) whole some
+    (ap (λ (o : Option Pred). option_map (λ l. front ++ l) (cond (same_bytes joint (codes "and")) (onto_comparisons o (comparisons_of words)) None)) (sym h) ∙ e)
+
+-- where fewer than three words are left, the whole isn't there
+pub preds-few : (front : List Pred) (words : List (List ℕ)) (whole : Option (List Pred)) → is_some whole ≡ true → length words < 3 → option_map (λ l. front ++ l) (comparisons_of words) ≡ whole → ⊥
+preds-few front words whole some h e =
+    let none = ap (λ (o : Option (List Pred)). is_some (option_map (λ l. front ++ l) o)) (comparisons-few words h) in
+    let is = ap (λ (o : Option (List Pred)). is_some o) e in
+    cc
+
+named : (t : Bool) (front name : List ℕ) (op : Cmp) (value : Value) → cond t (Some front) None ≡ Some name
+    → let P = λ (n : List ℕ). (let p : Pred = record { column = n; op = op; value = value } in p) in cond t (Some (P front)) None ≡ Some (P name)
+named true front name op value h = ap (λ (o : Option (List ℕ)). option_map (λ n. (let p : Pred = record { column = n; op = op; value = value } in p)) o) h
+named false front name op value h = cc
+
+-- a comparison, by its column, its operator and its value
+pub comparison_of-is : (c op v name : List ℕ) (cmp : Cmp) (value : Value) → name_of c ≡ Some name → operator_of op ≡ Some cmp → value_of v ≡ Some value
+    → comparison_of c op v ≡ Some (record { column = name; op = cmp; value = value })
+unfolding comparison_of
+comparison_of-is c op v name cmp value h k m =
+    ap (λ (o : Option Cmp). comparison_with c o (value_of v)) k
+    ∙ ap (λ (o : Option Value). comparison_with c (Some cmp) o) m
+    ∙ named (is_name c) c name cmp value h
+
+-- what stands behind the first word of conditions
+pub conditions-behind : (word : List ℕ) (words : List (List ℕ)) → is_some (conditions_of (word ∷ words)) ≡ true → conditions_of (word ∷ words) ≡ comparisons_of words
+unfolding conditions_of
+conditions-behind word words h = by_test (same_bytes word (codes "where")) (comparisons_of words) h
+  where
+    by_test : (t : Bool) (o : Option (List Pred)) → is_some (cond t o None) ≡ true → cond t o None ≡ o
+    by_test true o h = refl
+    by_test false o h = cc

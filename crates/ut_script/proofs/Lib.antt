@@ -1,0 +1,13 @@
+pub mod WordsLemmas
+pub mod Powers
+pub mod LiteralLemmas
+pub mod SpelledLemmas
+pub mod ConditionLemmas
+pub mod StatementLemmas
+pub mod NamedLemmas
+pub mod LineLemmas
+pub mod PieceLemmas
+pub mod RoomLemmas
+pub mod Examples
+pub mod NumberLaws
+pub mod ValueLaws

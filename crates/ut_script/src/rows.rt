@@ -1,0 +1,128 @@
+//! The statements that change tables and rows.
+#![tactic(auto, using(crate::proofs::StatementLemmas::statements))]
+
+ghost use Rattle.std.specs.Prelude.{◌≡◌, Some};
+ghost use Rattle.ut_script.specs.Words.{words_of};
+ghost use Rattle.ut_script.specs.Statements.{Reads, create_of, rows_of, chosen_of, update_of};
+
+use crate::conditions::{are_conditions, read_conditions};
+use crate::spelled::{Spelled, count_all, read_all};
+use crate::words::next_word;
+use std::alloc::{AllocError, Global};
+use ut_plain::Statement;
+use ut_value::{Column, Name, Value, is_name, same_bytes};
+
+/// The greatest number of columns of a table.
+const MAX_COLUMNS: usize = 64;
+
+/// `T c:int d:text ..`
+pub fn create_of(alloc: Global, line: &[u8]) -> Result<Option<Statement>, AllocError>
+    ensures { Reads result (create_of (words_of line.now)) }
+{
+    let Some((table, rest)) = next_word(line) else {
+        return Ok(None);
+    };
+    if !is_name(table) {
+        return Ok(None);
+    }
+    let Some(count) = count_all::<Column>(rest) else {
+        return Ok(None);
+    };
+    if count < 1 || count > MAX_COLUMNS {
+        return Ok(None);
+    }
+    let table = Name::read(alloc, table)?;
+    let columns = read_all(alloc, rest, count)?;
+    Ok(Some(Statement::Create { table, columns }))
+}
+
+/// `T v ..`, into L1.
+pub fn insert_of(alloc: Global, line: &[u8]) -> Result<Option<Statement>, AllocError>
+    ensures { Reads result (rows_of Statement.Insert (words_of line.now)) }
+{
+    let Some((table, rest)) = next_word(line) else {
+        return Ok(None);
+    };
+    if !is_name(table) {
+        return Ok(None);
+    }
+    let Some(count) = count_all::<Value>(rest) else {
+        return Ok(None);
+    };
+    if count < 1 {
+        return Ok(None);
+    }
+    let table = Name::read(alloc, table)?;
+    let values = read_all(alloc, rest, count)?;
+    Ok(Some(Statement::Insert { table, values }))
+}
+
+/// `T v ..`, into L2.
+pub fn bulk_of(alloc: Global, line: &[u8]) -> Result<Option<Statement>, AllocError>
+    ensures { Reads result (rows_of Statement.Bulk (words_of line.now)) }
+{
+    let Some((table, rest)) = next_word(line) else {
+        return Ok(None);
+    };
+    if !is_name(table) {
+        return Ok(None);
+    }
+    let Some(count) = count_all::<Value>(rest) else {
+        return Ok(None);
+    };
+    if count < 1 {
+        return Ok(None);
+    }
+    let table = Name::read(alloc, table)?;
+    let values = read_all(alloc, rest, count)?;
+    Ok(Some(Statement::Bulk { table, values }))
+}
+
+/// `T set c v [W]`
+pub fn update_of(alloc: Global, line: &[u8]) -> Result<Option<Statement>, AllocError>
+    ensures { Reads result (update_of (words_of line.now)) }
+{
+    let Some((table, rest)) = next_word(line) else {
+        return Ok(None);
+    };
+    let Some((verb, rest)) = next_word(rest) else {
+        return Ok(None);
+    };
+    let Some((column, rest)) = next_word(rest) else {
+        return Ok(None);
+    };
+    let Some((value, rest)) = next_word(rest) else {
+        return Ok(None);
+    };
+    if !(is_name(table) && same_bytes(verb, b"set") && is_name(column)) {
+        return Ok(None);
+    }
+    if !(Value::is_spelled(value) && are_conditions(rest)) {
+        return Ok(None);
+    }
+    let table = Name::read(alloc, table)?;
+    let column = Name::read(alloc, column)?;
+    let value = Value::read(alloc, value)?;
+    let preds = read_conditions(alloc, rest)?;
+    Ok(Some(Statement::Update {
+        table,
+        column,
+        value,
+        preds,
+    }))
+}
+
+/// `T [W]`
+pub fn delete_of(alloc: Global, line: &[u8]) -> Result<Option<Statement>, AllocError>
+    ensures { Reads result (chosen_of Statement.Delete (words_of line.now)) }
+{
+    let Some((table, rest)) = next_word(line) else {
+        return Ok(None);
+    };
+    if !(is_name(table) && are_conditions(rest)) {
+        return Ok(None);
+    }
+    let table = Name::read(alloc, table)?;
+    let preds = read_conditions(alloc, rest)?;
+    Ok(Some(Statement::Delete { table, preds }))
+}

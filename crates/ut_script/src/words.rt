@@ -1,0 +1,55 @@
+//! The words of a line: a space parts words where no quote is open.
+ghost use Rattle.std.specs.Prelude.{◌≡◌, ◌<◌, ◌≤◌, ◌∷◌, [], false, length, IfSome, IfNone};
+ghost use Rattle.ut_script.specs.Words.{words_of, piece_len, BeginsWord};
+
+const SPACE: u8 = b' ';
+
+const QUOTE: u8 = b'\'';
+
+/// The first word of a line, and what stands behind it.
+pub fn next_word(line: &[u8]) -> Option<(&[u8], &[u8])>
+    ensures found { IfSome result (λ r. words_of line.now ≡ r.0.now ∷ words_of r.1.now) }
+    ensures shorter { IfSome result (λ r. length r.1.now < length line.now) }
+    ensures none { IfNone result (words_of line.now ≡ []) }
+{
+    let rest = after_spaces(line);
+    if rest.is_empty() {
+        return None;
+    }
+    let count = piece_len(rest);
+    let (word, behind) = rest.split_at(count);
+    match behind {
+        [] => Some((word, behind)),
+        [_, others @ ..] => Some((word, others)),
+    }
+}
+
+/// What stands behind the spaces at the front.
+fn after_spaces(line: &[u8]) -> &[u8]
+    ensures same { words_of result.now ≡ words_of line.now }
+    ensures shorter { length result.now ≤ length line.now }
+    ensures begins { BeginsWord result.now }
+{
+    let mut rest = line;
+    while let [SPACE, others @ ..] = rest {
+        rest = others;
+    }
+    rest
+}
+
+/// How long the piece at the front is.
+fn piece_len(bytes: &[u8]) -> usize
+    ensures value { result ≡ piece_len false bytes.now }
+    ensures within { result ≤ length bytes.now }
+{
+    let mut inside = false;
+    for (i, b) in bytes.iter().enumerate() {
+        if *b == SPACE && !inside {
+            return i;
+        }
+        if *b == QUOTE {
+            inside = !inside;
+        }
+    }
+    bytes.len()
+}
