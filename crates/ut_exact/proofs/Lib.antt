@@ -1,0 +1,11 @@
+pub mod FateLemmas
+pub mod ExactLemmas
+pub mod OwnLemmas
+pub mod SessionLemmas
+pub mod WorkLemmas
+pub mod OrderLemmas
+pub mod FreeLemmas
+pub mod SeenLemmas
+pub mod OpenLemmas
+pub mod PlaceLemmas
+pub mod ScanLemmas
