@@ -136,7 +136,7 @@ closed_is_empty : (more : List (List Entry)) (gate : ℕ) (rest : List ℕ) → 
 closed_is_empty [] gate rest shut log = refl
 closed_is_empty (f ∷ more) gate rest shut log = absurd (let is = log.1 in let opened : gate ≡ open_gate = cc in shut opened)
 
-closed_gate : (frames : List (List Entry)) (bytes : List ℕ) → IsLog frames bytes → (gate : ℕ) × (rest : List ℕ) × (bytes ≡ frames_of frames ++ gate ∷ rest) × (gate ≢ open_gate)
+pub closed_gate : (frames : List (List Entry)) (bytes : List ℕ) → IsLog frames bytes → (gate : ℕ) × (rest : List ℕ) × (bytes ≡ frames_of frames ++ gate ∷ rest) × (gate ≢ open_gate)
 closed_gate [] bytes log = log
 closed_gate (f ∷ frames) bytes log =
     let p = closed_gate frames log.0 log.3 in

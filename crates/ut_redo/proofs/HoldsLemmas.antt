@@ -1,18 +1,18 @@
 -- What an append makes of the entries that a log holds.
-use Rattle.std.proofs.Common.{◌≡◌, inl, inr, ⊎_elim, ℕ, ◌+◌, ◌≤◌, ◌^◌, List, [], ◌∷◌, ◌++◌, length, get_or, take, drop, sym, ◌∙◌, ap, subst, arith}
+use Rattle.std.proofs.Common.{◌≡◌, inl, inr, ⊎_elim, ℕ, ◌+◌, ◌≤◌, ◌^◌, List, [], ◌∷◌, ◌++◌, length, get_or, take, drop, sym, ◌∙◌, ap, subst, arith, ◌<◌, ◌≢◌}
 use Rattle.std.specs.List.{AllByRecursion}
 use Rattle.std.specs.Int.{w32, to_le_bytes}
-use Rattle.std.proofs.lemmas.List.{take_at, length-append, drop-take, drop-append-le, take-append-drop, drop_more, length-take, length-drop}
+use Rattle.std.proofs.lemmas.List.{take_at, length-append, drop-take, drop-append-le, take-append-drop, drop_more, length-take, length-drop, drop_at, drop-drop, get_or-drop}
 use Rattle.ut_value.specs.declared.entry.Entry.{Entry}
 use Rattle.ut_outside.specs.declared.disk.Which.{Which}
-use Rattle.ut_outside.specs.Disk.{View, content}
+use Rattle.ut_outside.specs.Disk.{View, content, Image, Others}
 use Rattle.ut_outside.specs.Run.{ComesFrom, LeavesOnly}
 use Rattle.ut_outside.proofs.RunLemmas.{weaker}
-use Rattle.ut_redo.specs.Frames.{frame, payload_of, IsFrame, size, Holds}
+use Rattle.ut_redo.specs.Frames.{frame, payload_of, IsFrame, size, Holds, LogHolds}
 use Rattle.ut_redo.specs.Appends.{Place, behind, IsClosedAt, IsOpenAt, Extends, Extended, body, BeforeOrAfter, After}
 use Rattle.ut_value.specs.Spelling.{Spells}
 use Rattle.ut_redo.proofs.AppendLemmas.{one_entry, one_frame, length-body}
-use Rattle.ut_redo.proofs.FrameLemmas.{frames_of, parts_of, size_is, log_from, frames_push, each_frame_push, entries_push, size_push}
+use Rattle.ut_redo.proofs.FrameLemmas.{frames_of, parts_of, size_is, log_from, frames_push, each_frame_push, entries_push, size_push, closed_gate}
 
 module _ (from : ℕ) (held : List Entry) (at : ℕ) (d c : List ℕ) (holds : Holds from held at d) (same : take at c ≡ take at d) (long : at ≤ length c) where
   front : drop from c ≡ frames_of holds.frames ++ drop at c
@@ -82,3 +82,20 @@ one_after log entry payload d c spells short extended =
     let told = after items log.end d c (one_frame entry payload spells short) (subst (λ (p : List ℕ). Extended log.end p d c) is extended) in
     let next : log.end + length (body (payload_of items)) ≡ (behind log payload).end = ap (λ (p : List ℕ). log.end + length (body p)) (sym is) ∙ next_is log payload in
     subst (λ (n : ℕ). After items log.end n d c) next told
+
+-- ---- for the crates above
+
+-- where a log ends a closed gate stands
+pub closed_at_end : (from end : ℕ) (items : List Entry) (file : List ℕ) → Holds from items end file → IsClosedAt end file
+closed_at_end from end items file holds =
+    let p = closed_gate holds.frames (drop from file) holds.log in
+    let n = size holds.frames in
+    let there : drop end file ≡ p.0 ∷ p.1 =
+    ap (λ (k : ℕ). drop k file) holds.ends ∙ sym (drop-drop n from file) ∙ ap (drop n) p.2 ∙ drop_at (frames_of holds.frames) (p.0 ∷ p.1) n (sym (size_is holds.frames)) in
+    let long : end < length file = omega (arith, ap (λ (l : List ℕ). length l) there, length-drop end file) in
+    let gate : get_or file end 0 ≡ p.0 = ap (λ (k : ℕ). get_or file k 0) (omega arith) ∙ sym (get_or-drop end file 0 0) ∙ ap (λ (l : List ℕ). get_or l 0 0) there in
+    record { within = long; closed = λ opened. p.3 (sym gate ∙ opened) }
+
+-- a step of another file leaves a log as it is
+pub log_same : (file other : Which) (from end : ℕ) (items : List Entry) (d c : Image) → file ≢ other → Others other d c → LogHolds file from items end d → LogHolds file from items end c
+log_same file other from end items d c differs others holds = subst (λ (l : List ℕ). Holds from items end l) (sym (others file differs)) holds

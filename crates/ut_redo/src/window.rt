@@ -1,5 +1,5 @@
 //! A log's file, read ahead in blocks.
-ghost use Rattle.std.specs.Prelude.{◌≡◌, ◌≢◌, ◌+◌, ◌-◌, ◌<◌, ◌≤◌, ◌^◌, ◌∷◌, [], ℕ, List, false, length, take, drop, IsTrue, IfOk, IfSome, IfNone, IsErrOf, vec_len};
+ghost use Rattle.std.specs.Prelude.{◌≡◌, ◌≢◌, ◌+◌, ◌-◌, ◌<◌, ◌≤◌, ◌^◌, ◌∷◌, [], ℕ, List, false, length, take, drop, IsTrue, IfOk, IfSome, IfNone, IsErrOf, vec_len, ◌↔◌};
 ghost use Rattle.std.specs.Int.{w32, to_le_bytes};
 ghost use Rattle.ut_outside.specs.Disk.{IsTold, content};
 ghost use Rattle.ut_outside.specs.Faults.{Rose};
@@ -143,7 +143,7 @@ impl Window {
         if !self.need(alloc, disk, 1)? {
             return Err(RedoError::Damaged);
         }
-        if self.as_slice()[0] != OPEN_GATE {
+        if !is_open(self.as_slice()[0]) {
             return Ok(None);
         }
         if !self.need(alloc, disk, HEADER_LEN)? {
@@ -155,6 +155,13 @@ impl Window {
         }
         Ok(Some(len))
     }
+}
+
+// Whether a frame stands behind this gate.
+fn is_open(gate: u8) -> bool
+    ensures { IsTrue result ↔ gate ≡ open_gate }
+{
+    gate == OPEN_GATE
 }
 
 // The length that a frame begins with, behind its gate.
