@@ -98,7 +98,6 @@ wanted_in n test e = nat_eq e.1.table n && test e.1.values
 module _ {P : Type 0} (at : ℕ → P → Option StagedRow) (held : ℕ → Option Stamped) (n : ℕ) (fates : List Fate) (k : ℕ) (own : Option ℕ) (test : List Value → Bool) (found : List (ℕ × P)) (rows : List (ℕ × Stored))
     (h : AreHeld at held) (dead : counts fates k own dead_number ≡ false) (order : T (is_sorted nat_cmp rows)) (shown : (id : ℕ) → find nat_cmp id rows ≡ shown_by (counts fates k own) (held id))
     (scan : IsScan at n fates k own test found) where
-
   -- a row that is seen is shown
   shows : (m : ℕ) (row : StagedRow) → sees fates k own row.stamp ≡ true → shown_by (counts fates k own) (Some (stamped_in m row)) ≡ Some (record { table = m; values = row.values })
   shows m row seen = ap (λ b. cond b (Some (record { table = m; values = row.values })) None) seen
@@ -119,7 +118,7 @@ module _ {P : Type 0} (at : ℕ → P → Option StagedRow) (held : ℕ → Opti
       let in_place : held id ≡ Some (stamped_in n row) = ap held (sym s.2) ∙ h.each n p row s.1 (seen_is_live fates k own dead row.stamp s.3) in
       let is_shown : find nat_cmp id rows ≡ Some (record { table = n; values = row.values }) = shown id ∙ ap (shown_by (counts fates k own)) in_place ∙ shows n row s.3 in
       ap (λ o. Some (stored_in n o)) s.1
-        ∙ sym (ap (kept (wanted_in n test) id) is_shown ∙ (λ i. cond (eq-eqb n n refl i && s.4 i) (Some (record { table = n; values = row.values })) None))
+      ∙ sym (ap (kept (wanted_in n test) id) is_shown ∙ (λ i. cond (eq-eqb n n refl i && s.4 i) (Some (record { table = n; values = row.values })) None))
 
   -- nothing else is wanted
   none : (id : ℕ) → find nat_cmp id found ≡ None → None ≡ kept (wanted_in n test) id (find nat_cmp id rows)
@@ -159,8 +158,8 @@ module _ {P : Type 0} (at : ℕ → P → Option StagedRow) (held : ℕ → Opti
   pub scan-wanted : map (λ (e : ℕ × P). (e.0, stored_in n (at n e.1))) found ≡ filter (wanted_in n test) rows
   scan-wanted =
       same_entries nat_cmp nat_cmp_total (λ x y g. ranked x y Equal (sym g)) (map (λ (e : ℕ × P). (e.0, stored_in n (at n e.1))) found) (filter (wanted_in n test) rows)
-        (sorted-map (λ p. stored_in n (at n p)) found scan.sorted) (sorted_filter (wanted_in n test) rows order)
-        (λ id. find-map (λ p. stored_in n (at n p)) found id ∙ each id ∙ sym (find-filter (wanted_in n test) rows id order))
+      (sorted-map (λ p. stored_in n (at n p)) found scan.sorted) (sorted_filter (wanted_in n test) rows order)
+      (λ id. find-map (λ p. stored_in n (at n p)) found id ∙ each id ∙ sym (find-filter (wanted_in n test) rows id order))
 
 filter-both : {X : Type 0} (f g : X → Bool) (xs : List X) → filter (λ x. f x && g x) xs ≡ filter g (filter f xs)
 filter-both f g [] = refl
@@ -177,4 +176,4 @@ pub scan-is : {P : Type 0} (at : ℕ → P → Option StagedRow) (held : ℕ →
     → map (λ (e : ℕ × P). (e.0, stored_in n (at n e.1))) found ≡ filter (λ e. test e.1.values) (table_rows n rows)
 scan-is at held n fates k own test found rows h dead order shown scan =
     scan-wanted at held n fates k own test found rows h dead order shown scan
-      ∙ filter-both (λ (e : ℕ × Stored). nat_eq e.1.table n) (λ (e : ℕ × Stored). test e.1.values) rows
+    ∙ filter-both (λ (e : ℕ × Stored). nat_eq e.1.table n) (λ (e : ℕ × Stored). test e.1.values) rows

@@ -1,5 +1,0 @@
-pub mod ListedLemmas
-pub mod KnownLemmas
-pub mod ValueLemmas
-pub mod FilterLemmas
-pub mod MadeLemmas
