@@ -3,7 +3,7 @@
 //!     frame: length (u32, lowest byte first), payload, closed gate of the next frame (0x00)
 //!
 //! The payload is one entry's bytes. They are never copied on their way to the disk.
-ghost use Rattle.std.specs.Prelude.{◌≡◌, ◌+◌, ◌-◌, ◌<◌, ◌≤◌, ◌^◌, ◌++◌, ◌∷◌, [], ℕ, List, length, take, drop, IsTrue, IfOk, OnOk, vec_len, vec_capacity};
+ghost use Rattle.std.specs.Prelude.{◌≡◌, ◌+◌, ◌-◌, ◌<◌, ◌≤◌, ◌^◌, ◌++◌, ◌∷◌, [], ℕ, List, length, take, drop, IsTrue, IfOk, OnOk, min, vec_len, vec_capacity};
 ghost use Rattle.std.specs.Int.{w32, to_le_bytes};
 ghost use Rattle.ut_redo.specs.Framed.{Framed, payload_in, IsWhole};
 ghost use Rattle.ut_redo.specs.Appends.{body};
@@ -25,6 +25,12 @@ const AROUND_LEN: usize = 5;
 /// Where a transaction's number of operations stands.
 const COUNT_AT: usize = 5;
 
+/// The frame of a transaction without operations.
+const NO_OPERATIONS: [u8; 10] = [5, 0, 0, 0, 2, 0, 0, 0, 0, 0];
+
+/// The room that an emptied frame keeps.
+const KEPT_ROOM: usize = 1 << 16;
+
 /// An entry that is ready to be appended.
 #[derive(Drop)]
 pub struct Frame {
@@ -36,7 +42,7 @@ impl Model for Frame {
 
     ghost view = { λ f. record { payload = payload_in f.bytes.items; spare = vec_capacity f.bytes - vec_len f.bytes } };
 
-    ghost invariant = { λ f. IsWhole f.bytes.items };
+    ghost invariant = { λ f. (10 ≤ vec_len f.bytes) × IsWhole f.bytes.items };
 }
 
 impl Frame {
@@ -57,7 +63,7 @@ impl Frame {
     pub fn txn(alloc: Global) -> Result<Frame, AllocError>
         ensures { IfOk result (λ f. f.payload ≡ spelling (Txn [])) }
     {
-        let bytes = Vec::from_slice(alloc, &[5, 0, 0, 0, 2, 0, 0, 0, 0, 0])?;
+        let bytes = Vec::from_slice(alloc, &NO_OPERATIONS)?;
         Ok(Frame { bytes })
     }
 
@@ -73,7 +79,6 @@ impl Frame {
     /// Adds an operation to a transaction's frame, in the room that was made. This takes no memory.
     pub fn add(&mut self, op: &Op)
         requires rule { IsTrue (is_op op.now) }
-        requires begun { 5 ≤ length self.old.payload }
         requires room { op_len op.now ≤ self.old.spare }
         requires size { length self.old.payload + op_len op.now ≤ 2 ^ 30 }
         ensures added { (os : List Op) → self.old.payload ≡ spelling (Txn os) → self.new.payload ≡ spelling (Txn (os ++ op.now ∷ [])) }
@@ -81,6 +86,16 @@ impl Frame {
         ensures spare { self.old.spare ≤ self.new.spare + op_len op.now }
     {
         add_bytes(&mut self.bytes, op);
+    }
+
+    /// Makes it the frame of a transaction without operations. This takes no memory. The room stays, but for what is beyond 64 KiB.
+    pub fn clear(&mut self)
+        ensures payload { self.new.payload ≡ spelling (Txn []) }
+        ensures room { min (2 ^ 16) (length self.old.payload + 5 + self.old.spare) ≤ length self.new.payload + 5 + self.new.spare }
+    {
+        self.bytes.truncate(NO_OPERATIONS.len());
+        self.bytes.copy_from_slice(&NO_OPERATIONS);
+        self.bytes.shrink_to(KEPT_ROOM);
     }
 
     /// The number of the payload's bytes.
