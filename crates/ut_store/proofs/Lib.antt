@@ -1,0 +1,12 @@
+pub mod ListLemmas
+pub mod StageLemmas
+pub mod MovedLemmas
+pub mod ReadLemmas
+pub mod SeatLemmas
+pub mod StagingLemmas
+pub mod StandsLemmas
+pub mod ChangeLemmas
+pub mod TableLemmas
+pub mod HitLemmas
+pub mod MadeLemmas
+pub mod EarlyLemmas

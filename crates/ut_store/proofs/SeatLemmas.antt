@@ -1,0 +1,73 @@
+-- Seats that change, and a store that is the same.
+use Rattle.std.proofs.Common.{ℕ, ◌<◌, ◌≤◌, ◌≡◌, ◌≢◌, inl, inr, List, [], length, Option, None, Some, refl, sym, ap, ◌∙◌, subst, arith, slice_set, unwrap_or, map}
+use Rattle.std.proofs.lemmas.Bool.{cases_eq}
+use Rattle.std.specs.Option.{option_map}
+use Rattle.ut_value.specs.declared.entry.Entry.TheVariants.{Txn}
+use Rattle.ut_value.specs.Spelling.{spelling}
+use Rattle.ut_plain.specs.declared.transaction.OpenTransaction.{OpenTransaction}
+use Rattle.ut_plain.specs.Plain.{Plain, Sessions, open_at}
+use Rattle.ut_plain.specs.View.{own_ops}
+use Rattle.ut_stamps.specs.declared.fates.Fate.{Fate}
+use Rattle.ut_stamps.specs.declared.fates.Fate.TheVariants.{Aborted}
+use Rattle.ut_stamps.specs.Stamps.{fate_at}
+use Rattle.ut_exact.specs.Exact.{IsExact, AreOpen}
+use Rattle.ut_exact.specs.Work.{AreFree}
+use Rattle.ut_exact.specs.Places.{AreHeld, dead_number}
+use Rattle.ut_exact.proofs.SessionLemmas.{at-set_same, at-set_other, AreOpen-renumbered}
+use Rattle.ut_table.specs.Staged.{Staged}
+use Rattle.ut_plain.specs.declared.table.Table.{Table}
+use Rattle.ut_txn.specs.declared.opened.Opened.{Opened}
+use Rattle.ut_txn.specs.Seats.{Seat, opened_at, payload_at, number_at, SeatSet, SeatsStay}
+use Rattle.ut_store.specs.Held.{Held, place_at}
+use Rattle.ut_store.specs.Stands.{StandsFor, AreSeats, AreCounts, AreRows, snapshot_of, opened_snapshot, stages_of}
+use Rattle.ut_store.specs.Answers.{Same}
+
+-- the sessions with the transaction of one another
+pub AreSeats-set : (old new : List Seat) (sessions : Sessions) (session : ℕ) (opened : Option Opened) (payload : List ℕ) (t : Option OpenTransaction) → 0 < session → session < 17 → length sessions ≡ 17
+    → opened_snapshot opened ≡ snapshot_of t → payload ≡ spelling (Txn (own_ops t)) → SeatSet old new session opened payload → AreSeats old sessions → AreSeats new (slice_set sessions session t)
+AreSeats-set old new sessions session opened payload t some small seventeen look bytes c s =
+    let inside : session < length sessions = omega (arith, small, seventeen) in
+    record {
+      count = c.count ∙ s.count;
+      snapshots = λ r. elim (cases_eq r session) [
+        | inl same ↦ ap (λ k. opened_snapshot (opened_at new k)) same ∙ ap opened_snapshot c.opened ∙ look ∙ ap snapshot_of (sym (at-set_same None sessions session t inside)) ∙ ap (λ k. snapshot_of (open_at (slice_set sessions session t) k)) (sym same)
+        | inr other ↦ ap opened_snapshot (c.others r other) ∙ s.snapshots r ∙ ap snapshot_of (sym (at-set_other None sessions session r t other))
+      ];
+      payloads = λ r lt. elim (cases_eq r session) [
+        | inl same ↦ ap (payload_at new) same ∙ c.payload ∙ bytes ∙ ap (λ o. spelling (Txn (own_ops o))) (sym (at-set_same None sessions session t inside)) ∙ ap (λ k. spelling (Txn (own_ops (open_at (slice_set sessions session t) k)))) (sym same)
+        | inr other ↦ c.payloads r other ∙ s.payloads r lt ∙ ap (λ o. spelling (Txn (own_ops o))) (sym (at-set_other None sessions session r t other))
+      ];
+      nobody = at-set_other None sessions session 0 t (λ same. absurd (omega (arith, some, same))) ∙ s.nobody;
+    }
+
+-- the numbers of the others stay
+pub numbers-set : (old new : List Seat) (session : ℕ) (opened : Option Opened) (payload : List ℕ) (r : ℕ) → SeatSet old new session opened payload → r ≢ session → number_at new r ≡ number_at old r
+numbers-set old new session opened payload r c other = ap (λ o. unwrap_or (option_map (λ (x : Opened). x.number) o) 0) (c.others r other)
+
+-- seats that stay
+pub seats-stay : (old new : List Seat) (sessions : Sessions) → SeatsStay old new → AreSeats old sessions → AreSeats new sessions
+seats-stay old new sessions c s = record { count = c.count ∙ s.count; snapshots = λ r. ap opened_snapshot (c.opened r) ∙ s.snapshots r; payloads = λ r lt. c.payloads r ∙ s.payloads r lt; nobody = s.nobody }
+
+pub numbers-stay : (old new : List Seat) (r : ℕ) → SeatsStay old new → number_at new r ≡ number_at old r
+numbers-stay old new r c = ap (λ o. unwrap_or (option_map (λ (x : Opened). x.number) o) 0) (c.opened r)
+
+-- a store that is the same stands for the same
+pub stands-same : (old new : Held) (p : Plain) → Same old new → StandsFor old p → StandsFor new p
+stands-same old new p c s = record {
+  plain = s.plain;
+  counts = record { tables = c.tables ∙ s.counts.tables; commits = c.commits ∙ s.counts.commits; entries = c.entries ∙ s.counts.entries; next_id = c.next_id ∙ s.counts.next_id; rows_limit = c.rows_limit ∙ s.counts.rows_limit };
+  seats = seats-stay old.seats new.seats p.sessions c.seats s.seats;
+  rows = record {
+    held = s.rows.held;
+    places = subst (λ (x : List Staged). AreHeld (place_at x) s.rows.held) (sym c.staged) s.rows.places;
+    free = subst (λ n. AreFree s.rows.held n) (sym c.next_id) s.rows.free;
+    exact = subst (λ (x : List Fate). IsExact x s.rows.held p.journal p.opening) (sym c.fates) s.rows.exact;
+    transactions = AreOpen-renumbered new.fates s.rows.held p.sessions (number_at old.seats) (number_at new.seats) p.journal p.opening
+        (λ r t h. numbers-stay old.seats new.seats r c.seats)
+        (subst (λ (x : List Fate). AreOpen x s.rows.held p.sessions (number_at old.seats) p.journal p.opening) (sym c.fates) s.rows.transactions);
+    dead = ap (λ (x : List Fate). fate_at x dead_number) c.fates ∙ s.rows.dead;
+    started = subst (λ (x : List Fate). dead_number < length x) (sym c.fates) s.rows.started;
+    stages = s.rows.stages ∙ ap (λ (x : List Staged). map stages_of x) (sym c.staged);
+    columns = ap (λ (x : List Staged). map (λ (y : Staged). y.columns) x) c.staged ∙ s.rows.columns ∙ ap (λ (x : List Table). map (λ (y : Table). y.columns) x) (sym c.tables);
+  };
+}

@@ -1,0 +1,19 @@
+-- The refusals that a statement gets before any row is looked at.
+use Rattle.std.specs.Prelude.{ℕ, Option, is_some}
+use Rattle.std.specs.Option.{option_map}
+use Rattle.ut_plain.specs.declared.statement.Statement.{Statement}
+use Rattle.ut_plain.specs.declared.reply.Refusal.{Refusal}
+use Rattle.ut_plain.specs.declared.reply.Refusal.TheVariants as refusals
+use Rattle.ut_plain.specs.Names.{names_known}
+use Rattle.ut_plain.specs.Kinds.{kinds_fit}
+use Rattle.ut_plain.specs.Refusals.{is_supported, state_why, unless, or_else}
+use Rattle.ut_txn.specs.Seats.{opened_at}
+use Rattle.ut_store.specs.Held.{Held}
+
+-- names, kinds, and whether the session is in a transaction
+abbrev pub early_refusal : Held → ℕ → Statement → Option Refusal
+early_refusal e session st =
+    or_else (unless (is_supported st) refusals.Syntax)
+    (or_else (unless (names_known e.tables st) refusals.Name)
+    (or_else (unless (kinds_fit e.tables st) refusals.Kind)
+    (option_map refusals.State (state_why (is_some (opened_at e.seats session)) st))))

@@ -1,0 +1,86 @@
+-- When the store in memory agrees with a plain state.
+use Rattle.std.specs.Prelude.{ℕ, ◌+◌, ◌<◌, ◌≤◌, ◌≡◌, List, [], map, length, Option, None, Some, slice_get}
+use Rattle.std.specs.Option.{option_map, unwrap_or}
+use Rattle.ut_value.specs.declared.value.Column.{Column}
+use Rattle.ut_value.specs.declared.entry.Op.{Op}
+use Rattle.ut_value.specs.declared.entry.Entry.TheVariants.{Txn}
+use Rattle.ut_value.specs.Spelling.{spelling}
+use Rattle.ut_plain.specs.declared.table.Table.{Table}
+use Rattle.ut_plain.specs.declared.transaction.OpenTransaction.{OpenTransaction}
+use Rattle.ut_plain.specs.Journal.{journal_len, current}
+use Rattle.ut_plain.specs.Plain.{Plain, Sessions, open_at}
+use Rattle.ut_plain.specs.declared.stage.Placed.{Placed}
+use Rattle.ut_plain.specs.declared.stage.TableStages.{TableStages}
+use Rattle.ut_plain.specs.Reached.{IsPlain}
+use Rattle.ut_plain.specs.View.{own_ops}
+use Rattle.ut_stamps.specs.declared.fates.Fate.{Fate}
+use Rattle.ut_stamps.specs.declared.fates.Fate.TheVariants.{Aborted}
+use Rattle.ut_stamps.specs.Stamps.{fate_at}
+use Rattle.ut_scan.specs.declared.place.Place.{Place}
+use Rattle.ut_exact.specs.Stamped.{Stamped}
+use Rattle.ut_exact.specs.Exact.{IsExact, AreOpen}
+use Rattle.ut_exact.specs.Work.{AreFree}
+use Rattle.ut_exact.specs.Places.{StagedRow, is_dead, dead_number, AreHeld}
+use Rattle.ut_table.specs.Staged.{Staged}
+use Rattle.ut_txn.specs.declared.opened.Opened.{Opened}
+use Rattle.ut_txn.specs.Seats.{Seat, opened_at, payload_at, number_at}
+use Rattle.ut_store.specs.Held.{Held, place_at}
+
+-- ---- counts
+
+pub record AreCounts (e : Held) (p : Plain) : Type 0 where
+  pub tables : e.tables ≡ (current p.journal).tables
+  pub commits : e.commits ≡ (current p.journal).commits
+  pub entries : e.entries ≡ journal_len p.journal
+  pub next_id : e.next_id ≡ p.next_id
+  pub rows_limit : e.rows_limit ≡ p.rows_limit
+
+-- ---- sessions
+
+-- where a transaction looks
+abbrev pub snapshot_of : Option OpenTransaction → Option ℕ
+snapshot_of t = option_map (λ (o : OpenTransaction). o.snapshot) t
+
+abbrev pub opened_snapshot : Option Opened → Option ℕ
+opened_snapshot o = option_map (λ (x : Opened). x.snapshot) o
+
+-- The seats hold the transactions of these sessions: each looks where the transaction looks, and has the bytes of its own operations.
+pub record AreSeats (seats : List Seat) (sessions : Sessions) : Type 0 where
+  pub count : length seats ≡ 17
+  pub snapshots : (s : ℕ) → opened_snapshot (opened_at seats s) ≡ snapshot_of (open_at sessions s)
+  pub payloads : (s : ℕ) → s < 17 → payload_at seats s ≡ spelling (Txn (own_ops (open_at sessions s)))
+  -- the first seat is nobody's
+  pub nobody : open_at sessions 0 ≡ None
+
+-- ---- rows
+
+-- a row in its place as the plain store has it
+abbrev pub placed_of : StagedRow → Placed
+placed_of row = record { id = row.id; values = row.values; dead = is_dead row.stamp }
+
+-- a table's stages as the plain store has them
+abbrev pub stages_of : Staged → TableStages
+stages_of s = record { l1 = map placed_of s.l1; l2 = map placed_of s.l2; closed = None; parts = []; keep = [] }
+
+-- the places hold the rows of the plain state, each with an exact stamp
+pub record AreRows (e : Held) (p : Plain) : Type 0 where
+  -- the row of each id
+  pub held : ℕ → Option Stamped
+  pub places : AreHeld (place_at e.staged) held
+  pub free : AreFree held e.next_id
+  pub exact : IsExact e.fates held p.journal p.opening
+  pub transactions : AreOpen e.fates held p.sessions (number_at e.seats) p.journal p.opening
+  -- the transaction of the places that are nobody's never commits
+  pub dead : fate_at e.fates dead_number ≡ Aborted
+  pub started : dead_number < length e.fates
+  pub stages : p.stages ≡ map stages_of e.staged
+  -- each table's stages have its columns
+  pub columns : map (λ (s : Staged). s.columns) e.staged ≡ map (λ (t : Table). t.columns) e.tables
+
+-- ---- all of it
+
+pub record StandsFor (e : Held) (p : Plain) : Type 0 where
+  pub plain : IsPlain p
+  pub counts : AreCounts e p
+  pub seats : AreSeats e.seats p.sessions
+  pub rows : AreRows e p

@@ -1,0 +1,6 @@
+//! The store in memory.
+#![tactic(auto)]
+
+mod turn;
+
+pub use turn::Turn;

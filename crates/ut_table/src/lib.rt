@@ -1,0 +1,2 @@
+//! One table: its stages with stamps.
+#![tactic(auto)]
