@@ -1,6 +1,8 @@
 -- The stages of a table: lists of rows with their stamps.
-use Rattle.std.specs.Prelude.{ℕ, zero, suc, min, List, [], ◌∷◌, ◌++◌, length, take, drop, Option, None, Some, slice_get}
+use Rattle.std.specs.Prelude.{ℕ, zero, suc, ◌+◌, List, [], ◌∷◌, ◌++◌, length, take, drop, Option, None, Some, slice_get}
 use Rattle.ut_value.specs.declared.value.Column.{Column}
+use Rattle.ut_value.specs.declared.value.Row.{Row}
+use Rattle.ut_stamps.specs.declared.visibility.Stamp.{Stamp}
 use Rattle.ut_scan.specs.declared.place.Place.{Place}
 use Rattle.ut_scan.specs.declared.place.Place.TheVariants.{L1, L2}
 use Rattle.ut_exact.specs.Places.{StagedRow, ended_row}
@@ -22,6 +24,18 @@ no_rows columns = record { columns = columns; l1 = []; l2 = [] }
 abbrev pub row_at : Staged → Place → Option StagedRow
 row_at s (L1 i) = slice_get s.l1 i
 row_at s (L2 i) = slice_get s.l2 i
+
+-- how many rows stand in the stages
+abbrev pub count_of : Staged → ℕ
+count_of s = length s.l1 + length s.l2
+
+-- a row with its stamp
+abbrev pub stamped_row : Stamp → Row → StagedRow
+stamped_row stamp row = record { id = row.id; values = row.values; stamp = stamp }
+
+-- a row that a transaction begins
+abbrev pub begun_row : ℕ → Row → StagedRow
+begun_row t row = stamped_row (record { begin = t; end = None }) row
 
 -- a row enters the first stage
 abbrev pub entered_l1 : StagedRow → Staged → Staged

@@ -1,2 +1,6 @@
 //! One table: its stages with stamps.
 #![tactic(auto)]
+
+mod table;
+
+pub use table::Table;
