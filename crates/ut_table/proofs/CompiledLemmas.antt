@@ -1,14 +1,11 @@
 -- A row meets comparisons where its keys meet them.
-use Rattle.std.proofs.Common.{◌≡◌, ℕ, zero, suc, ◌+◌, ◌<◌, Bool, true, false, ◌&&◌, ◌||◌, cond, not, List, [], ◌∷◌, length, map, get_or, All, IsTrue, Option, None, Some, nat_lt, refl, sym, ◌∙◌, ap, subst, arith, true≢false}
+use Rattle.std.proofs.Common.{◌≡◌, ℕ, suc, ◌+◌, ◌<◌, Bool, true, false, ◌&&◌, ◌||◌, cond, not, List, [], ◌∷◌, length, map, get_or, All, IsTrue, None, Some, nat_lt, refl, sym, ◌∙◌, ap, subst, arith, true≢false}
 use Rattle.std.specs.Prelude.{slice_get}
 use Rattle.std.specs.Option.{unwrap_or, option_map, option_and_then}
 use Rattle.std.specs.List.{list_all, list_any, position, position_or_len, find}
-use Rattle.std.proofs.Common.{ltb-true}
 use Rattle.std.proofs.lemmas.Bool.{ltb-false}
 use Rattle.std.proofs.lemmas.List.Elements.{All-nil, All-cons}
 use Rattle.ut_key.specs.Keys.{key_cmp, allows, meets as key_meets}
-use Rattle.ut_key.specs.declared.comparison.Cmp.{Cmp}
-use Rattle.ut_value.specs.declared.value.Kind.{Kind}
 use Rattle.ut_value.specs.declared.value.Value.{Value}
 use Rattle.ut_value.specs.declared.value.Column.{Column}
 use Rattle.ut_value.specs.declared.value.Row.{Row}
@@ -17,7 +14,7 @@ use Rattle.ut_value.specs.Text.{same_bytes}
 use Rattle.ut_value.specs.Spelling.{has_column}
 use Rattle.ut_value.proofs.KeyLemmas.{keys_in_order}
 use Rattle.ut_plain.specs.declared.statement.Pred.{Pred}
-use Rattle.ut_plain.specs.Tables.{column_of, fits_columns}
+use Rattle.ut_plain.specs.Tables.{fits_columns}
 use Rattle.ut_plain.specs.Names.{preds_known}
 use Rattle.ut_plain.specs.Kinds.{kind_in, has_kind, preds_fit}
 use Rattle.ut_plain.specs.Condition.{value_in, value_meets, meets}
@@ -25,7 +22,7 @@ use Rattle.ut_plain.proofs.BoolLemmas.{and_left, and_right}
 use Rattle.ut_l2.specs.KeyRows.{keyed, key_at}
 use Rattle.ut_scan.specs.declared.place.ColumnPred.{ColumnPred}
 use Rattle.ut_scan.specs.Finds.{passes}
-use Rattle.ut_table.specs.Compiled.{column_pred, KeepRules}
+use Rattle.ut_table.specs.Compiled.{column_pred}
 use Rattle.ut_table.specs.Kept.{IsRow}
 
 -- the place of the first element that passes, if one does

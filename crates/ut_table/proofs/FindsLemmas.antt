@@ -1,17 +1,15 @@
 -- What a scan of the stages finds, in the order of the ids, is what a contract says.
-use Rattle.std.proofs.Common.{◌≡◌, ◌≢◌, ◌⊎◌, inl, inr, ℕ, ◌+◌, ◌<◌, ◌≤◌, Bool, T, true, false, cond, ◌&&◌, nat_eq, List, [], ◌∷◌, ◌++◌, length, map, filter, get_or, All, IsTrue, Option, None, Some, refl, sym, ◌∙◌, ap, subst, arith}
+use Rattle.std.proofs.Common.{◌≡◌, inl, inr, ℕ, ◌<◌, ◌≤◌, Bool, T, true, cond, ◌&&◌, nat_eq, List, [], ◌++◌, length, map, get_or, All, IsTrue, Option, Some, is_some, refl, sym, ◌∙◌, ap, subst, arith}
 use Rattle.std.specs.Prelude.{slice_get}
-use Rattle.std.specs.List.{list_all, range_with_len, sum_by}
 use Rattle.std.specs.List.Sorted.{IsPermutation, IsNonDecreasingBy}
 use Rattle.std.specs.Ordering.{nat_cmp}
-use Rattle.std.specs.FinMap.{find, is_sorted}
+use Rattle.std.specs.FinMap.{is_sorted}
 use Rattle.std.proofs.lemmas.List.{length-map, get_or-map}
-use Rattle.std.proofs.lemmas.List.Elements.{All-get_or}
+use Rattle.std.proofs.lemmas.List.Elements.{All-get_or, Contains-get_or}
 use Rattle.std.proofs.lemmas.List.Sorted.{IsPermutation-sym, Contains-permutation, sum_by-IsPermutation}
 use Rattle.std.proofs.lemmas.Option.{same_Some, slice_get_within}
 use Rattle.ut_value.specs.declared.value.Column.{Column}
 use Rattle.ut_value.specs.declared.value.Row.{Row}
-use Rattle.ut_value.specs.KeyBytes.{is_value}
 use Rattle.ut_plain.specs.declared.statement.Pred.{Pred}
 use Rattle.ut_plain.specs.Names.{preds_known}
 use Rattle.ut_plain.specs.Kinds.{preds_fit}
@@ -22,7 +20,6 @@ use Rattle.ut_stamps.specs.declared.visibility.Stamp.{Stamp}
 use Rattle.ut_stamps.specs.Stamps.{sees}
 use Rattle.ut_l2.specs.KeyRows.{KeyRow, keyed, no_row}
 use Rattle.ut_l2.specs.Delta.{Delta}
-use Rattle.ut_scan.specs.declared.place.ColumnPred.{ColumnPred}
 use Rattle.ut_scan.specs.declared.place.Found.{Found}
 use Rattle.ut_scan.specs.declared.place.Place.{Place}
 use Rattle.ut_scan.specs.declared.place.Place.TheVariants.{L1, L2}
@@ -32,7 +29,7 @@ use Rattle.ut_exact.specs.Places.{StagedRow}
 use Rattle.ut_exact.specs.Scan.{IsScan}
 use Rattle.ut_table.specs.Compiled.{column_pred, KeepRules}
 use Rattle.ut_table.specs.Staged.{Staged, row_at, stamped_row}
-use Rattle.ut_table.specs.Finds.{SeenOnce, Finds, hits_of}
+use Rattle.ut_table.specs.Finds.{SeenOnce, Finds, hits_of, AreThere}
 use Rattle.ut_table.specs.Kept.{stamped_rows, decoded_rows, staged, IsRow, IsTable}
 use Rattle.ut_table.proofs.StagedLemmas.{stamped_rows-length, stamped_rows-at}
 use Rattle.ut_table.proofs.CompiledLemmas.{passes-compiled}
@@ -193,3 +190,10 @@ pub scan-finds : (fates : List Fate) (snapshot : ℕ) (own : Option ℕ) (column
 scan-finds fates snapshot own columns preds asked l1 l2 stamps h s view once list rows up =
     subst (λ (x : Staged). Finds x fates snapshot own preds list) view
     (record { scan = finds-scan fates snapshot own columns preds asked h (subst (λ (x : Staged). SeenOnce x fates snapshot own) (sym view) once) list rows up })
+
+-- a row stands at each place that was found
+pub are-there : (s : Staged) (fates : List Fate) (snapshot : ℕ) (own : Option ℕ) (preds : List Pred) (list : List Found) → Finds s fates snapshot own preds list → AreThere s list
+are-there s fates snapshot own preds list h = λ k d lt.
+    let g = get_or list k d in
+    let r = h.scan.sound g.id g.place (find-in list g h.scan.sorted (contains-In g list (Contains-get_or list k d lt))) in
+    ap is_some r.1

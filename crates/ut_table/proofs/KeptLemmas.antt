@@ -1,13 +1,12 @@
 -- What a table keeps, as its stages change.
-use Rattle.std.proofs.Common.{◌≡◌, ℕ, ◌+◌, ◌<◌, ◌≤◌, ◌^◌, List, [], ◌∷◌, ◌++◌, length, map, take, drop, min, get_or, set, replicate, Option, None, Some, unwrap_or, All, refl, sym, ◌∙◌, ap, subst, arith}
-use Rattle.std.specs.Prelude.{slice_get, IsSome}
-use Rattle.std.proofs.lemmas.List.{length-append, length-map, length-take-le, length-drop, length-set, length-replicate, map-append, get_or-map, take_min, drop_min}
+use Rattle.std.proofs.Common.{◌≡◌, ℕ, ◌+◌, ◌<◌, ◌≤◌, ◌^◌, List, [], ◌∷◌, ◌++◌, length, map, take, drop, min, get_or, replicate, Some, unwrap_or, All, refl, sym, ◌∙◌, ap, subst, arith}
+use Rattle.std.specs.Prelude.{IsSome}
+use Rattle.std.proofs.lemmas.List.{length-append, length-map, length-take-le, length-drop, length-replicate, map-append, get_or-map, take_min, drop_min}
 use Rattle.std.proofs.lemmas.List.Elements.{All-append, All-push, All-take, All-drop, All-get_or}
 use Rattle.ut_value.specs.declared.value.Column.{Column}
 use Rattle.ut_value.specs.declared.value.Row.{Row}
-use Rattle.ut_value.specs.declared.value.Value.{Value}
 use Rattle.ut_stamps.specs.declared.visibility.Stamp.{Stamp}
-use Rattle.ut_l2.specs.KeyRows.{KeyRow, keyed, no_row}
+use Rattle.ut_l2.specs.KeyRows.{keyed, no_row}
 use Rattle.ut_l2.specs.Delta.{Delta}
 use Rattle.ut_scan.specs.declared.place.Place.{Place}
 use Rattle.ut_scan.specs.declared.place.Place.TheVariants.{L1, L2}

@@ -6,3 +6,4 @@ pub mod CompiledLemmas
 pub mod OrderLemmas
 pub mod PartLemmas
 pub mod FindsLemmas
+pub mod NumberedLemmas

@@ -1,11 +1,10 @@
 -- What the lists of a table tell of the stages that a contract sees.
-use Rattle.std.proofs.Common.{◌≡◌, ℕ, ◌+◌, ◌<◌, ◌≤◌, ◌^◌, List, length, get_or, Some, All, IsTrue, sym, ◌∙◌, ap, subst, arith}
+use Rattle.std.proofs.Common.{◌≡◌, ℕ, ◌<◌, ◌≤◌, ◌^◌, List, length, get_or, Some, All, IsTrue, sym, ◌∙◌, ap, subst}
 use Rattle.std.specs.Prelude.{IsSome}
 use Rattle.std.specs.List.{list_all}
 use Rattle.std.proofs.lemmas.List.Elements.{All-get_or}
 use Rattle.ut_value.specs.declared.value.Column.{Column}
 use Rattle.ut_value.specs.declared.value.Row.{Row}
-use Rattle.ut_value.specs.declared.value.Value.{Value}
 use Rattle.ut_value.specs.KeyBytes.{is_value}
 use Rattle.ut_plain.specs.Tables.{fits_columns}
 use Rattle.ut_l2.specs.KeyRows.{no_row}

@@ -1,10 +1,9 @@
 -- Rows with their stamps, as either list changes.
-use Rattle.std.proofs.Common.{◌≡◌, ℕ, zero, suc, ◌+◌, ◌<◌, List, [], ◌∷◌, ◌++◌, length, map, take, drop, get_or, set, replicate, Option, None, Some, is_some, true, false, true≢false, refl, sym, ◌∙◌, ap, arith}
+use Rattle.std.proofs.Common.{◌≡◌, ℕ, zero, suc, ◌<◌, List, [], ◌∷◌, ◌++◌, length, map, take, drop, get_or, set, replicate, Some, true≢false, refl, sym, ap, arith}
 use Rattle.std.specs.Prelude.{slice_get, IsSome}
 use Rattle.ut_value.specs.declared.value.Row.{Row}
 use Rattle.ut_stamps.specs.declared.visibility.Stamp.{Stamp}
 use Rattle.ut_scan.specs.StampLists.{no_stamp}
-use Rattle.ut_exact.specs.Places.{StagedRow}
 use Rattle.ut_table.specs.Staged.{stamped_row, end_at}
 use Rattle.ut_table.specs.Kept.{stamped_rows}
 

@@ -4,6 +4,8 @@
 mod compiled;
 mod kept;
 mod table;
+#[cfg(test)]
+mod tests;
 mod values;
 
 pub use table::Table;

@@ -1,4 +1,4 @@
-use Rattle.std.proofs.Common.{IsTrue, take}
+use Rattle.std.proofs.Common.{take}
 use Rattle.ut_table.specs.Compiled.{KeepRules}
 use Rattle.ut_table.proofs.compiled.preds_keep_rules.Given as goal
 

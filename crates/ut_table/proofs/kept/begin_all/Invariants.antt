@@ -1,4 +1,4 @@
-use Rattle.std.proofs.Common.{◌≡◌, ◌+◌, ◌≤◌, ◌++◌, replicate, None}
+use Rattle.std.proofs.Common.{◌≡◌, ◌+◌, ◌++◌, replicate, None}
 use Rattle.ut_table.proofs.kept.begin_all.Given as goal
 
 abbrev pub invariant-loop : goal.invariant-loop

@@ -1,9 +1,8 @@
-use Rattle.std.proofs.Common.{IsTrue, sym, ap, subst}
+use Rattle.std.proofs.Common.{IsTrue, sym, subst}
 use Rattle.std.specs.List.{list_all}
-use Rattle.std.proofs.lemmas.List.{take_all, get_or_read}
+use Rattle.std.proofs.lemmas.List.{take_all}
 use Rattle.std.proofs.lemmas.List.Elements.{All-more, All-same}
 use Rattle.ut_value.specs.declared.value.Row.{Row}
-use Rattle.ut_value.specs.declared.value.Value.{Value}
 use Rattle.ut_value.specs.KeyBytes.{is_value}
 use Rattle.ut_table.proofs.kept.rows_keep_rules.Goals as goal
 

@@ -1,9 +1,7 @@
-use Rattle.std.proofs.Common.{◌≡◌, ◌∙◌, ◌+◌, ◌≤◌, ◌++◌, ◌^◌, length, map, replicate, List, All, None, ap, sym, subst, arith}
-use Rattle.ut_value.specs.declared.value.Row.{Row}
+use Rattle.std.proofs.Common.{◌∙◌, ◌+◌, ◌≤◌, ◌++◌, ◌^◌, length, map, replicate, None, ap, arith}
 use Rattle.ut_stamps.specs.declared.visibility.Stamp.{Stamp}
 use Rattle.ut_l1.specs.Queued.{Queued}
 use Rattle.ut_table.specs.Staged.{TableValue, entered_l2, begun_row}
-use Rattle.ut_table.specs.Kept.{IsRow}
 use Rattle.ut_table.proofs.KeptLemmas.{loaded-stages, loaded-kept}
 use Rattle.ut_table.proofs.ReadLemmas.{l1-count, l2-count, rows-are, rows-wide}
 use Rattle.ut_table.proofs.table.Table.load.Goals as goal

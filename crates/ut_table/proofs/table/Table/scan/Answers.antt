@@ -1,18 +1,13 @@
-use Rattle.std.proofs.Common.{◌≡◌, ◌∙◌, ◌<◌, ◌++◌, map, length, List, All, IfOk, IsTrue, IsPermutation, Result, Ok, Err, ap, sym, subst}
-use Rattle.std.specs.List.Sorted.{IsNonDecreasingBy}
-use Rattle.std.proofs.lemmas.Result.{IfOk-weaker}
+use Rattle.std.proofs.Common.{◌∙◌, ◌++◌, map, List, IfOk, IsTrue, IsPermutation, Result, Ok, Err, ap, sym, subst}
 use Rattle.ut_value.specs.declared.value.Column.{Column}
-use Rattle.ut_value.specs.declared.value.Row.{Row}
 use Rattle.ut_plain.specs.Names.{preds_known}
 use Rattle.ut_plain.specs.Kinds.{preds_fit}
 use Rattle.ut_l2.specs.KeyRows.{keyed}
 use Rattle.ut_scan.specs.declared.place.ColumnPred.{ColumnPred}
-use Rattle.ut_scan.specs.declared.place.Found.{Found}
 use Rattle.ut_scan.specs.declared.place.Place.TheVariants.{L1, L2}
 use Rattle.ut_scan.specs.Finds.{found_in}
 use Rattle.ut_table.specs.Compiled.{column_pred}
 use Rattle.ut_table.specs.Staged.{TableValue}
-use Rattle.ut_table.specs.Finds.{Finds}
 use Rattle.ut_table.proofs.CompiledLemmas.{compiled-within}
 use Rattle.ut_table.proofs.ReadLemmas.{rows-wide}
 use Rattle.ut_table.proofs.FindsLemmas.{Asked, scan-finds}
