@@ -19,24 +19,13 @@ fn name(rt: &impl Abort, alloc: Global, bytes: &[u8]) -> Result<Name, AllocError
     Ok(Name::of(bytes))
 }
 
-fn column(
-    rt: &impl Abort,
-    alloc: Global,
-    bytes: &[u8],
-    kind: Kind,
-) -> Result<Column, AllocError> {
+fn column(rt: &impl Abort, alloc: Global, bytes: &[u8], kind: Kind) -> Result<Column, AllocError> {
     let name = name(rt, alloc, bytes)?;
     Ok(Column { name, kind })
 }
 
 /// A row of a number and a text.
-fn row(
-    rt: &impl Abort,
-    alloc: Global,
-    id: u32,
-    number: i64,
-    text: &[u8],
-) -> Result<Row, AllocError>
+fn row(rt: &impl Abort, alloc: Global, id: u32, number: i64, text: &[u8]) -> Result<Row, AllocError>
     ensures { IfOk result (λ r. r.id ≡ id) }
 {
     let bytes = Vec::from_slice(alloc, text)?;
