@@ -6,3 +6,4 @@ pub mod Staging
 pub mod Allowed
 pub mod Hits
 pub mod Early
+pub mod Standing
