@@ -10,3 +10,5 @@ pub mod TableLemmas
 pub mod HitLemmas
 pub mod MadeLemmas
 pub mod EarlyLemmas
+pub mod NumberLemmas
+pub mod TransactionLemmas

@@ -1,7 +1,10 @@
 //! The store in memory.
 #![tactic(auto)]
 
+mod statement;
 mod store;
+mod tables;
+mod transactions;
 mod turn;
 
 pub use store::Store;
