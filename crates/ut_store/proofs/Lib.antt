@@ -12,3 +12,7 @@ pub mod MadeLemmas
 pub mod EarlyLemmas
 pub mod NumberLemmas
 pub mod TransactionLemmas
+pub mod NamedLemmas
+pub mod CreateLemmas
+pub mod PlaceTurnLemmas
+pub mod RestoredLemmas
