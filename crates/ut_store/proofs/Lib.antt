@@ -16,3 +16,4 @@ pub mod NamedLemmas
 pub mod CreateLemmas
 pub mod PlaceTurnLemmas
 pub mod RestoredLemmas
+pub mod AskLemmas

@@ -89,12 +89,12 @@ impl Store {
     }
 
     /// Tells how many rows stand in each stage of a table.
-    pub(crate) fn shape(&mut self, alloc: Global, session: u8, table: &Name) -> Turn
+    pub(crate) fn shape(&self, alloc: Global, session: u8, table: &Name) -> Turn
         requires seat { session < 17 }
         requires spelled { IsTrue (is_spelled (statements.Shape table.now)) }
-        requires stands { Stands self.old }
-        requires early { early_refusal self.old session (statements.Shape table.now) ≡ None }
-        ensures { Answers self.old session (statements.Shape table.now) result self.new }
+        requires stands { Stands self.now }
+        requires early { early_refusal self.now session (statements.Shape table.now) ≡ None }
+        ensures { Answers self.now session (statements.Shape table.now) result self.now }
     {
         let place = place_of(&self.tables, table.as_slice()).unwrap();
         let stages = &self.stages[place];
