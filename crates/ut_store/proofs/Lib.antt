@@ -17,3 +17,5 @@ pub mod CreateLemmas
 pub mod PlaceTurnLemmas
 pub mod RestoredLemmas
 pub mod AskLemmas
+pub mod ScanLemmas
+pub mod ListedLemmas

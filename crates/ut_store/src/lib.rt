@@ -2,6 +2,8 @@
 #![tactic(auto)]
 
 mod awaited;
+mod readers;
+mod scan;
 mod statement;
 mod store;
 mod tables;
