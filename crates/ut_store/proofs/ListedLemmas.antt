@@ -1,9 +1,8 @@
 -- The rows that are listed are those of the journal.
-use Rattle.std.proofs.Common.{ℕ, ◌+◌, ◌<◌, ◌≤◌, ◌≡◌, Bool, true, false, cond, List, [], ◌∷◌, ◌++◌, filter, length, map, take, get_or, Option, None, Some, refl, sym, ap, ◌∙◌, subst, arith, IsTrue, slice_get, unwrap_or}
+use Rattle.std.proofs.Common.{ℕ, ◌+◌, ◌<◌, ◌≡◌, Bool, true, cond, List, [], ◌∷◌, ◌++◌, filter, length, map, take, get_or, Option, None, Some, refl, sym, ap, ◌∙◌, subst, arith, slice_get, unwrap_or}
 use Rattle.std.proofs.lemmas.List.{take_more, map-append}
 use Rattle.std.proofs.lemmas.List.Elements.{All-cons}
 use Rattle.std.specs.Option.{option_map, IsSome}
-use Rattle.std.specs.List.{All}
 use Rattle.std.specs.FinMap as finmap
 use Rattle.ut_value.specs.declared.value.Value.{Value}
 use Rattle.ut_value.specs.declared.value.Row.{Row}
@@ -12,11 +11,10 @@ use Rattle.ut_plain.specs.declared.table.Stored.{Stored}
 use Rattle.ut_plain.specs.declared.transaction.OpenTransaction.{OpenTransaction}
 use Rattle.ut_plain.specs.Condition.{meets, found}
 use Rattle.ut_plain.specs.Journal.{current}
-use Rattle.ut_plain.specs.Plain.{Plain, open_at, seen_by}
+use Rattle.ut_plain.specs.Plain.{Plain, seen_by}
 use Rattle.ut_plain.specs.Rows.{table_rows}
 use Rattle.ut_plain.specs.Tables.{place_of, place_in, columns_in}
 use Rattle.ut_plain.specs.View.{view}
-use Rattle.ut_scan.specs.declared.place.Place.{Place}
 use Rattle.ut_scan.specs.declared.place.Found.{Found}
 use Rattle.ut_exact.specs.Places.{StagedRow}
 use Rattle.ut_exact.specs.Scan.{stored_in}
@@ -74,6 +72,9 @@ all_pass : (test : ℕ × Stored → Bool) (rows : List (ℕ × Stored)) → ((e
 all_pass test [] h = refl
 all_pass test (e ∷ es) h = (λ i. cond (h e i) (e ∷ filter test es) (filter test es)) ∙ ap (λ (xs : List (ℕ × Stored)). e ∷ xs) (all_pass test es h)
 
+pub hits_in : (e : Held) (name : List ℕ) (n : ℕ) (found : List Found) → place_of e.tables name ≡ Some n → Hits e 0 (place_in e.tables name) (meets (columns_in e.tables name) []) (hits_of found) → Hits e 0 n (meets (columns_in e.tables name) []) (hits_of found)
+hits_in e name n found at h = subst (λ (k : ℕ). Hits e 0 k (meets (columns_in e.tables name) []) (hits_of found)) (ap (λ (o : Option ℕ). unwrap_or o 0) at) h
+
 pub lists_some : (e : Held) (name : List ℕ) (n : ℕ) (s : Staged) (found : List Found) → Stands e → place_of e.tables name ≡ Some n → slice_get e.staged n ≡ Some s
     → Hits e 0 (place_in e.tables name) (meets (columns_in e.tables name) []) (hits_of found) → Lists e name (Some (map (row_in s) found))
 lists_some e name n s rows st at is h = record { each = λ p stands. by p stands }
@@ -83,9 +84,7 @@ lists_some e name n s rows st at is h = record { each = λ p stands. by p stands
         let tables : e.tables ≡ (current p.journal).tables = stands.counts.tables in
         let placed : place_of (current p.journal).tables name ≡ Some n = ap (λ (ts : List Table). place_of ts name) (sym tables) ∙ at in
         let seen : (view p 0).rows ≡ finmap.entries (current p.journal).rows = ap (λ (t : Option OpenTransaction). finmap.entries (seen_by p.journal t)) stands.seats.nobody in
-        let hits : Hits e 0 n (meets (columns_in (current p.journal).tables name) []) (hits_of rows) =
-        subst (λ (ts : List Table). Hits e 0 n (meets (columns_in ts name) []) (hits_of rows)) tables
-        (subst (λ (k : ℕ). Hits e 0 k (meets (columns_in e.tables name) []) (hits_of rows)) (ap (λ (o : Option ℕ). unwrap_or o 0) at) h) in
+        let hits : Hits e 0 n (meets (columns_in (current p.journal).tables name) []) (hits_of rows) = subst (λ (ts : List Table). Hits e 0 n (meets (columns_in ts name) []) (hits_of rows)) tables (hits_in e name n rows at h) in
         let is_found = found-is e p 0 n name [] (hits_of rows) (omega arith) stands (ap (λ (o : Option ℕ). unwrap_or o 0) placed) hits in
         let all : found (view p 0).tables (view p 0).rows name [] ≡ table_rows n (finmap.entries (current p.journal).rows) =
         all_pass (λ (x : ℕ × Stored). meets (columns_in (current p.journal).tables name) [] x.1.values) (table_rows (place_in (current p.journal).tables name) (view p 0).rows) (λ x. refl)
@@ -99,6 +98,3 @@ lists_none e name at = record { each = λ p s. ap (option_map (λ n. map row_of 
 pub lists_rows : (e : Held) (name : List ℕ) (n : ℕ) (s : Staged) (found : List Found) (rows : List Row) → Stands e → place_of e.tables name ≡ Some n → slice_get e.staged n ≡ Some s
     → Hits e 0 (place_in e.tables name) (meets (columns_in e.tables name) []) (hits_of found) → rows ≡ map (row_in s) found → Lists e name (Some rows)
 lists_rows e name n s found rows st at is h are = subst (λ (x : List Row). Lists e name (Some x)) (sym are) (lists_some e name n s found st at is h)
-
-pub hits_in : (e : Held) (name : List ℕ) (n : ℕ) (found : List Found) → place_of e.tables name ≡ Some n → Hits e 0 (place_in e.tables name) (meets (columns_in e.tables name) []) (hits_of found) → Hits e 0 n (meets (columns_in e.tables name) []) (hits_of found)
-hits_in e name n found at h = subst (λ (k : ℕ). Hits e 0 k (meets (columns_in e.tables name) []) (hits_of found)) (ap (λ (o : Option ℕ). unwrap_or o 0) at) h

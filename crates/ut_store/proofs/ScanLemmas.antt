@@ -1,5 +1,5 @@
 -- A scan of a table finds what the store's scan is to find.
-use Rattle.std.proofs.Common.{ℕ, ◌<◌, ◌≡◌, Bool, true, false, List, [], ◌∷◌, map, Option, None, Some, refl, sym, ap, ◌∙◌, subst, IsTrue, slice_get, unwrap_or}
+use Rattle.std.proofs.Common.{ℕ, ◌≡◌, Bool, List, [], Option, Some, sym, ap, ◌∙◌, subst, IsTrue, slice_get, unwrap_or}
 use Rattle.std.proofs.lemmas.Option.{slice_get-map}
 use Rattle.std.specs.Option.{option_map, option_and_then}
 use Rattle.ut_value.specs.declared.value.Value.{Value}

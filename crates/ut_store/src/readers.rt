@@ -76,10 +76,7 @@ fn rows_found(alloc: Global, table: &Stages, found: &[Found]) -> Result<Seq<Row>
     let mut rows = Seq::new(alloc);
     for hit in found {
         let values = table.values(alloc, hit.place)?;
-        rows.push(Row {
-            id: hit.id,
-            values,
-        })?;
+        rows.push(Row { id: hit.id, values })?;
     }
     Ok(rows)
 }

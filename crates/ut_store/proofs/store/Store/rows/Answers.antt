@@ -1,4 +1,4 @@
-use Rattle.std.proofs.Common.{◌≡◌, ◌<◌, List, [], Some, refl, sym, ap, ◌∙◌, subst, slice_get, map, arith}
+use Rattle.std.proofs.Common.{◌≡◌, List, [], Some, refl, sym, ap, ◌∙◌, subst, slice_get, map, arith}
 use Rattle.ut_plain.specs.Condition.{meets}
 use Rattle.ut_plain.specs.Tables.{place_of, columns_in}
 use Rattle.ut_scan.specs.declared.place.Found.{Found}

@@ -1,16 +1,13 @@
-use Rattle.std.proofs.Common.{◌≡◌, ◌<◌, List, Some, refl, sym, ap, ◌∙◌, subst, slice_get, length, arith}
+use Rattle.std.proofs.Common.{◌≡◌, List, Some, refl, sym, ap, slice_get, arith}
 use Rattle.std.proofs.lemmas.Result.{IfOk-weaker}
 use Rattle.ut_plain.specs.Condition.{meets}
 use Rattle.ut_plain.specs.Kinds.{preds_fit}
 use Rattle.ut_plain.specs.Names.{preds_known}
 use Rattle.ut_plain.specs.Tables.{place_of, place_in, columns_in}
 use Rattle.ut_value.specs.declared.value.Column.{Column}
-use Rattle.ut_stamps.specs.declared.fates.Fate.{Fate}
-use Rattle.ut_table.specs.Finds.{SeenOnce, Finds, hits_of}
+use Rattle.ut_table.specs.Finds.{Finds, hits_of}
 use Rattle.ut_store.specs.Held.{Held}
 use Rattle.ut_store.specs.Hits.{Hits}
-use Rattle.ut_store.specs.Reads.{looks_at, own_at}
-use Rattle.ut_store.specs.Standing.{Stands}
 use Rattle.ut_store.specs.contracts.store.Store.{the_view}
 use Rattle.ut_store.proofs.NamedLemmas.{place_within, looked_up, staged_read}
 use Rattle.ut_store.proofs.ScanLemmas.{seen_once_at, known_here, fit_here, hits_at}
