@@ -6,3 +6,6 @@ pub mod Staging
 pub mod Allowed
 pub mod Hits
 pub mod Early
+pub mod Standing
+pub mod Created
+pub mod Listed

@@ -1,0 +1,66 @@
+-- The facts that a running store keeps, and those with which it begins.
+use Rattle.std.specs.Prelude.{ℕ, suc, zero, ◌≡◌, Bool, true, false, List, [], ◌∷◌}
+use Rattle.ut_value.specs.declared.entry.Entry.{Entry}
+use Rattle.ut_plain.specs.declared.table.Table.{Table}
+use Rattle.ut_plain.specs.declared.statement.Statement.{Statement}
+use Rattle.ut_plain.specs.declared.statement.Statement.TheVariants as statements
+use Rattle.ut_plain.specs.State.{empty_state}
+use Rattle.ut_plain.specs.Journal.{Journal}
+use Rattle.ut_plain.specs.Plain.{Plain, opened_store}
+use Rattle.ut_plain.specs.Reached.{MayOpen}
+use Rattle.ut_stamps.specs.declared.fates.Fate.TheVariants.{Committed, Aborted}
+use Rattle.ut_table.specs.Staged.{Staged}
+use Rattle.ut_txn.specs.Seats.{AreEmpty}
+use Rattle.ut_store.specs.Held.{Held}
+use Rattle.ut_store.specs.Stands.{StandsFor}
+
+-- The store agrees with some plain state.
+pub record Stands (e : Held) : Type 0 where
+  pub plain : Plain
+  pub stands : StandsFor e plain
+
+-- whether a statement is one of the store, which no session has
+abbrev pub is_of_store : Statement → Bool
+is_of_store (statements.MergeL1 name n) = true
+is_of_store (statements.MergeBegin name kind) = true
+is_of_store statements.MergeEnd = true
+is_of_store statements.SaveBegin = true
+is_of_store (statements.SaveStep n) = true
+is_of_store statements.SaveSeal = true
+is_of_store statements.SaveFlip = true
+is_of_store statements.SaveDrop = true
+is_of_store (statements.Shape name) = true
+is_of_store _ = false
+
+-- session 0 has the statements of the store alone
+abbrev pub suits_session : ℕ → Statement → Bool
+suits_session zero st = is_of_store st
+suits_session (suc session) st = true
+
+-- whether a statement changes rows
+abbrev pub changes_rows : Statement → Bool
+changes_rows (statements.Insert name values) = true
+changes_rows (statements.Bulk name values) = true
+changes_rows (statements.Update name column value preds) = true
+changes_rows (statements.Delete name preds) = true
+changes_rows _ = false
+
+-- The store has these tables, their rows, and these counts. Nobody has a transaction: a row was committed before all else, or is nobody's.
+pub record Restored (tables : List Table) (staged : List Staged) (next_id rows_limit commits entries : ℕ) (e : Held) : Type 0 where
+  pub has_tables : e.tables ≡ tables
+  pub has_rows : e.staged ≡ staged
+  pub fates : e.fates ≡ Committed 0 ∷ Aborted ∷ []
+  pub seats : AreEmpty 17 e.seats
+  pub has_next : e.next_id ≡ next_id
+  pub has_limit : e.rows_limit ≡ rows_limit
+  pub has_commits : e.commits ≡ commits
+  pub has_entries : e.entries ≡ entries
+
+-- a journal of these entries that began with nothing
+abbrev pub journal_of : List Entry → Journal
+journal_of entries = record { base = empty_state; entries = entries }
+
+-- The entries are a journal of a store, which was opened with it.
+pub record Reopened (entries : List Entry) (rows_limit : ℕ) (e : Held) : Type 0 where
+  pub may : MayOpen [] (journal_of entries)
+  pub stands : StandsFor e (opened_store [] (journal_of entries) rows_limit)

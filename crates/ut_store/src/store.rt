@@ -1,0 +1,120 @@
+//! The store: its tables, their rows in stages, the transactions and what became of each.
+ghost use Rattle.std.specs.Prelude.{◌≡◌, ◌<◌, ◌≤◌, ◌^◌, ℕ, List, length, map, IsTrue, IfOk, OnOk};
+ghost use Rattle.ut_plain.specs.Plain.{new_store};
+ghost use Rattle.ut_store.specs.Stands.{StandsFor};
+ghost use Rattle.ut_store.specs.Standing.{Restored};
+
+use std::alloc::{AllocError, Global};
+use std::marker::Model;
+use ut_plain::Table;
+use ut_redo::Frame;
+use ut_stamps::Fates;
+use ut_table::Table as Stages;
+use ut_txn::Sessions;
+
+/// The id of the first row.
+const FIRST_ID: u32 = 1;
+
+/// A store in memory. Sessions 1 to 16 have transactions; session 0 has the statements of the store.
+#[derive(Drop)]
+pub struct Store {
+    /// The name and the columns of each table, and in the same order its stages.
+    pub(crate) tables: Vec<Table>,
+    pub(crate) stages: Vec<Stages>,
+    pub(crate) fates: Fates,
+    pub(crate) sessions: Sessions,
+    pub(crate) next_id: u32,
+    pub(crate) rows_limit: u32,
+    pub(crate) commits: u32,
+    pub(crate) entries: u32,
+    pub(crate) frame: Frame,
+}
+
+impl Model for Store {
+    ghost use Rattle.std.specs.Prelude.{map};
+    ghost use Rattle.ut_store.specs.Held.{Held};
+    ghost use Rattle.ut_table.specs.Staged.{TableValue};
+
+    ghost Value = { Held };
+
+    ghost view = { λ s. record {
+      tables = s.tables.items;
+      staged = map (λ (t : TableValue). t.stages) s.stages.items;
+      fates = s.fates;
+      seats = s.sessions;
+      next_id = s.next_id;
+      rows_limit = s.rows_limit;
+      commits = s.commits;
+      entries = s.entries;
+      frame = s.frame.payload;
+    } };
+}
+
+impl Store {
+    /// A store without tables, which gives at most so many ids.
+    pub fn new(alloc: Global, rows_limit: u32) -> Result<Store, AllocError>
+        requires { rows_limit ≤ 2 ^ 31 }
+        ensures { IfOk result (λ s. StandsFor s (new_store rows_limit)) }
+    {
+        Store::restored(
+            alloc,
+            Vec::new(alloc),
+            Vec::new(alloc),
+            FIRST_ID,
+            rows_limit,
+            0,
+            0,
+        )
+    }
+
+    /// A store with these tables and their rows, in which nobody has a transaction. The ids from `next_id` on are free.
+    pub fn restored(
+        alloc: Global,
+        tables: Vec<Table>,
+        stages: Vec<Stages>,
+        next_id: u32,
+        rows_limit: u32,
+        commits: u32,
+        entries: u32,
+    ) -> Result<Store, AllocError>
+        ensures { IfOk result (Restored tables.items (map (λ t. t.stages) stages.items) next_id rows_limit commits entries) }
+    {
+        let mut fates = Fates::new(alloc)?;
+        let nobody = fates.start()?;
+        fates.abort(nobody);
+        let sessions = Sessions::new(alloc)?;
+        let frame = Frame::txn(alloc)?;
+        Ok(Store {
+            tables,
+            stages,
+            fates,
+            sessions,
+            next_id,
+            rows_limit,
+            commits,
+            entries,
+            frame,
+        })
+    }
+
+    /// The frame that the log is to append.
+    pub fn frame(&self) -> &Frame
+        ensures { result.now.payload ≡ self.now.frame }
+    {
+        &self.frame
+    }
+
+    /// How many tables were made and transactions committed.
+    pub fn commits(&self) -> u32
+        ensures { result ≡ self.now.commits }
+    {
+        self.commits
+    }
+
+    /// How many entries the journal has.
+    pub fn entries(&self) -> u32
+        ensures { result ≡ self.now.entries }
+    {
+        self.entries
+    }
+}
