@@ -10,3 +10,4 @@ pub mod TableLemmas
 pub mod HitLemmas
 pub mod MadeLemmas
 pub mod EarlyLemmas
+pub mod WriteLemmas

@@ -3,6 +3,7 @@
 
 mod store;
 mod turn;
+mod write;
 
 pub use store::Store;
 pub use turn::Turn;

@@ -1,0 +1,77 @@
+-- What a change of rows needs, and what it does to the store.
+use Rattle.std.specs.Prelude.{ℕ, ◌+◌, ◌≤◌, ◌<◌, ◌≡◌, ◌≢◌, Bool, true, false, ◌&&◌, ◌||◌, nat_eq, nat_le, nat_lt, is_some, IsTrue, IsSome, All, List, [], ◌∷◌, ◌++◌, length, map, Option, None, Some, slice_get, slice_set}
+use Rattle.std.specs.Option.{option_map}
+use Rattle.std.specs.List as lists
+use Rattle.std.specs.List.{list_all, sum_by}
+use Rattle.ut_value.specs.declared.value.Value.{Value}
+use Rattle.ut_value.specs.declared.value.Column.{Column}
+use Rattle.ut_value.specs.declared.entry.Op.{Op}
+use Rattle.ut_value.specs.declared.entry.Op.TheVariants as ops
+use Rattle.ut_value.specs.declared.entry.Entry.TheVariants.{Txn}
+use Rattle.ut_value.specs.Spelling.{spelling, is_op, ops_len}
+use Rattle.ut_plain.specs.declared.statement.Statement.{Statement}
+use Rattle.ut_plain.specs.declared.reply.Refusal.{Refusal}
+use Rattle.ut_plain.specs.declared.reply.Refusal.TheVariants as refusals
+use Rattle.ut_plain.specs.Tables.{fits_columns}
+use Rattle.ut_plain.specs.Rows.{inserts_of}
+use Rattle.ut_plain.specs.Refusals.{unless, or_else, conflict}
+use Rattle.ut_plain.specs.Limits.{has_room, has_ops_room}
+use Rattle.ut_plain.specs.Made.{made, changes}
+use Rattle.ut_plain.specs.Plain.{Plain}
+use Rattle.ut_plain.specs.View.{View, view}
+use Rattle.ut_plain.specs.Spelled.{is_spelled}
+use Rattle.ut_plain.specs.Step.{effect_of, changed, is_bulk}
+use Rattle.ut_stamps.specs.declared.fates.Fate.{Fate}
+use Rattle.ut_stamps.specs.declared.fates.Fate.TheVariants.{Running, Committed}
+use Rattle.ut_stamps.specs.Stamps.{is_taken}
+use Rattle.ut_scan.specs.declared.place.Place.{Place}
+use Rattle.ut_exact.specs.Work.{Fits}
+use Rattle.ut_exact.specs.Places.{dead_number}
+use Rattle.ut_table.specs.Staged.{Staged, row_at, count_of, entered_l1, ended_in}
+use Rattle.ut_txn.specs.declared.opened.Opened.{Opened}
+use Rattle.ut_txn.specs.Seats.{opened_at, payload_at, SeatSet, SeatsStay}
+use Rattle.ut_store.specs.Held.{Held}
+use Rattle.ut_store.specs.Stands.{StandsFor}
+use Rattle.ut_store.specs.Standing.{Stands}
+use Rattle.ut_store.specs.Early.{early_refusal}
+use Rattle.ut_store.specs.Hits.{stamp_in, first_taken_of}
+use Rattle.ut_store.specs.Staging.{Staging, new_row}
+
+-- ---- one operation after the other
+
+-- what one operation of a transaction makes of the stages: a delete ends the next place that was found, an insert enters the first stage
+abbrev pub written_one : ℕ → Op → List (ℕ × Place) → Staged → Staged
+written_one number (ops.Insert table id values) hits s = entered_l1 (new_row number id values) s
+written_one number (ops.Delete table id) [] s = s
+written_one number (ops.Delete table id) (h ∷ hits) s = ended_in number h.1 s
+
+-- the places that are left behind it
+abbrev pub hits_behind : Op → List (ℕ × Place) → List (ℕ × Place)
+hits_behind (ops.Insert table id values) hits = hits
+hits_behind (ops.Delete table id) [] = []
+hits_behind (ops.Delete table id) (h ∷ hits) = hits
+
+-- whether an insert has a value for each column
+abbrev pub op_fits : List Column → Op → Bool
+op_fits columns (ops.Insert table id values) = fits_columns columns values
+op_fits columns (ops.Delete table id) = true
+
+-- how many rows an operation, or these, end
+abbrev pub op_ends : Op → ℕ
+op_ends (ops.Insert table id values) = 0
+op_ends (ops.Delete table id) = 1
+
+abbrev pub ends_of : List Op → ℕ
+ends_of os = sum_by op_ends os
+
+-- a row stands in each of these places
+abbrev pub AreThere : Staged → List (ℕ × Place) → Type 0
+AreThere s [] = Unit {0}
+AreThere s (h ∷ hits) = IsSome (row_at s h.1) × AreThere s hits
+
+-- The stages can take these operations: the inserts fit the columns, there are places for them, and there is a place with a row for each delete.
+pub record CanWrite (s : Staged) (hits : List (ℕ × Place)) (os : List Op) : Type 0 where
+  pub fits : IsTrue (list_all (op_fits s.columns) os)
+  pub few : count_of s + inserts_of os ≤ 2147483648
+  pub there : AreThere s hits
+  pub enough : ends_of os ≤ length hits
