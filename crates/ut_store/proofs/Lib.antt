@@ -11,3 +11,4 @@ pub mod HitLemmas
 pub mod MadeLemmas
 pub mod EarlyLemmas
 pub mod WriteLemmas
+pub mod LimitLemmas

@@ -75,3 +75,73 @@ pub record CanWrite (s : Staged) (hits : List (ℕ × Place)) (os : List Op) : T
   pub few : count_of s + inserts_of os ≤ 2147483648
   pub there : AreThere s hits
   pub enough : ends_of os ≤ length hits
+
+-- ---- limits and conflicts
+
+-- whether there are ids for so many new rows
+abbrev pub has_ids_for : Held → ℕ → Bool
+has_ids_for e rows = nat_eq rows 0 || nat_le (e.next_id + rows) (e.rows_limit + 1)
+
+-- whether the session's own operations and these have a spelling
+abbrev pub has_bytes_for : Held → ℕ → List Op → Bool
+has_bytes_for e session os = nat_le (length (payload_at e.seats session) + ops_len os) 1073741824
+
+-- whether operations of a session keep to the limits
+abbrev pub has_room_for : Held → ℕ → List Op → Bool
+has_room_for e session [] = true
+has_room_for e session (op ∷ os) = has_ids_for e (inserts_of (op ∷ os)) && has_bytes_for e session (op ∷ os) && (is_some (opened_at e.seats session) || nat_lt e.entries 1073741823)
+
+-- the refusal behind the early ones: of limits, else of a conflict
+abbrev pub late_refusal : Held → ℕ → ℕ → List (ℕ × Place) → List Op → Option Refusal
+late_refusal e session n hits os = or_else (unless (has_room_for e session os) refusals.Full) (option_map refusals.Conflict (first_taken_of e session n hits))
+
+-- the first of these rows of a table that is taken
+abbrev pub first_taken_in : Staged → List Fate → ℕ → Option ℕ → List (ℕ × Place) → Option ℕ
+first_taken_in s fates snapshot own hits = option_map (λ (x : ℕ × Place). x.0) (lists.find (λ (x : ℕ × Place). is_taken fates snapshot own (stamp_in (row_at s x.1))) hits)
+
+-- ---- what is done
+
+-- The table has these places, with a row in each.
+pub record HasPlaces (e : Held) (n : ℕ) (hits : List (ℕ × Place)) : Type 0 where
+  pub table : Staged
+  pub at : slice_get e.staged n ≡ Some table
+  pub there : AreThere table hits
+
+-- Nothing but memory stands in the way of these operations.
+pub record CanDo (e : Held) (session n : ℕ) (hits : List (ℕ × Place)) (os : List Op) : Type 0 where
+  pub table : Staged
+  pub at : slice_get e.staged n ≡ Some table
+  pub write : CanWrite table hits os
+  pub rule : IsTrue (list_all is_op os)
+  pub bytes : length (payload_at e.seats session) + ops_len os ≤ 1073741824
+  pub short : ops_len os + 5 ≤ 1073741824
+  pub ids : e.next_id + inserts_of os ≤ 2147483649
+
+-- The journal has room for one entry more.
+pub record CanAppend (e : Held) : Type 0 where
+  pub entries : e.entries < 1073741823
+  pub commits : e.commits ≤ e.entries
+
+-- Operations were done in the session's transaction, after which the table's stages are these.
+pub record DoneInside (old new : Held) (session : ℕ) (o : Opened) (n : ℕ) (os : List Op) (after : ℕ → Staged → Staged) : Type 0 where
+  pub tables : new.tables ≡ old.tables
+  pub staged : (s : Staged) → slice_get old.staged n ≡ Some s → new.staged ≡ slice_set old.staged n (after o.number s)
+  pub fates : new.fates ≡ old.fates
+  pub bytes : (ps : List Op) → payload_at old.seats session ≡ spelling (Txn ps) → payload_at new.seats session ≡ spelling (Txn (ps ++ os))
+  pub seats : SeatSet old.seats new.seats session (Some o) (payload_at new.seats session)
+  pub next_id : new.next_id ≡ old.next_id + inserts_of os
+  pub rows_limit : new.rows_limit ≡ old.rows_limit
+  pub commits : new.commits ≡ old.commits
+  pub entries : new.entries ≡ old.entries
+
+-- The same as a transaction by themselves, which is committed.
+pub record DoneAlone (old new : Held) (n : ℕ) (os : List Op) (after : ℕ → Staged → Staged) : Type 0 where
+  pub tables : new.tables ≡ old.tables
+  pub staged : (s : Staged) → slice_get old.staged n ≡ Some s → new.staged ≡ slice_set old.staged n (after (length old.fates) s)
+  pub fates : new.fates ≡ slice_set (old.fates ++ Running ∷ []) (length old.fates) (Committed (old.entries + 1))
+  pub seats : SeatsStay old.seats new.seats
+  pub next_id : new.next_id ≡ old.next_id + inserts_of os
+  pub rows_limit : new.rows_limit ≡ old.rows_limit
+  pub commits : new.commits ≡ old.commits + 1
+  pub entries : new.entries ≡ old.entries + 1
+  pub frame : new.frame ≡ spelling (Txn os)

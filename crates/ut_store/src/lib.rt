@@ -1,8 +1,10 @@
 //! The store in memory.
 #![tactic(auto)]
 
+mod limits;
 mod store;
 mod turn;
+mod work;
 mod write;
 
 pub use store::Store;

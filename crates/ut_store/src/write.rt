@@ -42,7 +42,7 @@ fn op_inserts(op: &Op) -> usize
 pub(crate) fn ops_len(ops: &[Op], most: u32) -> Option<u32>
     requires rule { IsTrue (list_all is_op ops.now) }
     requires most { most ≤ 2 ^ 30 }
-    ensures { MatchOption result (most < ops_len ops.now) (λ n. n ≡ ops_len ops.now) }
+    ensures { MatchOption result (most < ops_len ops.now) (λ n. (n ≡ ops_len ops.now) × (n ≤ most)) }
 {
     let mut total = 0;
     for op in ops {
