@@ -12,3 +12,4 @@ pub mod MadeLemmas
 pub mod EarlyLemmas
 pub mod WriteLemmas
 pub mod LimitLemmas
+pub mod IndexLemmas
