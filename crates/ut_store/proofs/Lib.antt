@@ -13,3 +13,4 @@ pub mod EarlyLemmas
 pub mod WriteLemmas
 pub mod LimitLemmas
 pub mod IndexLemmas
+pub mod FinishLemmas

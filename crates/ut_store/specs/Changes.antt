@@ -32,7 +32,7 @@ use Rattle.ut_txn.specs.declared.opened.Opened.{Opened}
 use Rattle.ut_txn.specs.Seats.{opened_at, payload_at, SeatSet, SeatsStay}
 use Rattle.ut_store.specs.Held.{Held}
 use Rattle.ut_store.specs.Stands.{StandsFor}
-use Rattle.ut_store.specs.Standing.{Stands}
+use Rattle.ut_store.specs.Standing.{Stands, changes_rows}
 use Rattle.ut_store.specs.Early.{early_refusal}
 use Rattle.ut_store.specs.Hits.{stamp_in, first_taken_of}
 use Rattle.ut_store.specs.Staging.{Staging, new_row}
@@ -108,12 +108,11 @@ pub record HasPlaces (e : Held) (n : ℕ) (hits : List (ℕ × Place)) : Type 0 
   pub there : AreThere table hits
 
 -- Nothing but memory stands in the way of these operations.
-pub record CanDo (e : Held) (session n : ℕ) (hits : List (ℕ × Place)) (os : List Op) : Type 0 where
+pub record CanDo (e : Held) (n : ℕ) (hits : List (ℕ × Place)) (os : List Op) : Type 0 where
   pub table : Staged
   pub at : slice_get e.staged n ≡ Some table
   pub write : CanWrite table hits os
   pub rule : IsTrue (list_all is_op os)
-  pub bytes : length (payload_at e.seats session) + ops_len os ≤ 1073741824
   pub short : ops_len os + 5 ≤ 1073741824
   pub ids : e.next_id + inserts_of os ≤ 2147483649
 
@@ -145,3 +144,37 @@ pub record DoneAlone (old new : Held) (n : ℕ) (os : List Op) (after : ℕ → 
   pub commits : new.commits ≡ old.commits + 1
   pub entries : new.entries ≡ old.entries + 1
   pub frame : new.frame ≡ spelling (Txn os)
+
+-- ---- statements
+
+-- A session's statement that changes rows, which no early refusal keeps back.
+pub record MayChange (e : Held) (session : ℕ) (st : Statement) : Type 0 where
+  pub seat : session < 17
+  pub inside : 0 < session
+  pub spelled : IsTrue (is_spelled st)
+  pub stands : Stands e
+  pub early : early_refusal e session st ≡ None
+  pub kind : IsTrue (changes_rows st)
+
+-- Operations that suit the table at a place, where the rows that they end stand in these places.
+pub record AreReady (e : Held) (n : ℕ) (hits : List (ℕ × Place)) (os : List Op) : Type 0 where
+  pub table : Staged
+  pub at : slice_get e.staged n ≡ Some table
+  pub there : AreThere table hits
+  pub enough : ends_of os ≤ length hits
+  pub fits : IsTrue (list_all (op_fits table.columns) os)
+  pub rule : IsTrue (list_all is_op os)
+
+-- A statement makes these operations, which change so many rows, and ends the rows in these places; after them the table's stages are these.
+pub record IsWork (e : Held) (session : ℕ) (st : Statement) (n : ℕ) (hits : List (ℕ × Place)) (os : List Op) (rows : ℕ) (after : ℕ → Staged → Staged) : Type 0 where
+  pub changes_rows : (p : Plain) → effect_of p session st ≡ changed p session st
+  pub operations : (p : Plain) → StandsFor e p → made (view p session).tables (view p session).rows (view p session).next_id st ≡ os
+  pub count : (p : Plain) → StandsFor e p → changes (view p session).tables (view p session).rows st ≡ rows
+  -- rows are changed just where something is done
+  pub none : os ≡ [] → rows ≡ 0
+  pub some : (op : Op) (rest : List Op) → os ≡ op ∷ rest → 0 < rows
+  pub limits : (v : View) → has_room v st ≡ has_ops_room v (made v.tables v.rows v.next_id st)
+  pub clash : (p : Plain) → StandsFor e p → conflict (view p session) st ≡ first_taken_of e session n hits
+  pub fits_inside : (o : Opened) (p : Plain) (s : StandsFor e p) → first_taken_of e session n hits ≡ None → opened_at e.seats session ≡ Some o → Fits e.fates o.snapshot o.number e.next_id s.rows.held os
+  pub fits_alone : (p : Plain) (s : StandsFor e p) → first_taken_of e session n hits ≡ None → opened_at e.seats session ≡ None → Fits (e.fates ++ Running ∷ []) e.entries (length e.fates) e.next_id s.rows.held os
+  pub staging : (t : ℕ) (s : Staged) → slice_get e.staged n ≡ Some s → t ≢ dead_number → Staging e.staged (slice_set e.staged n (after t s)) t (is_bulk st) e.next_id os

@@ -32,6 +32,14 @@ is_of_store statements.SaveDrop = true
 is_of_store (statements.Shape name) = true
 is_of_store _ = false
 
+-- whether a statement changes rows
+abbrev pub changes_rows : Statement → Bool
+changes_rows (statements.Insert name values) = true
+changes_rows (statements.Bulk name values) = true
+changes_rows (statements.Update name column value preds) = true
+changes_rows (statements.Delete name preds) = true
+changes_rows _ = false
+
 -- session 0 has the statements of the store alone
 abbrev pub suits_session : ℕ → Statement → Bool
 suits_session zero st = is_of_store st

@@ -1,6 +1,7 @@
 //! The store in memory.
 #![tactic(auto)]
 
+mod finish;
 mod limits;
 mod store;
 mod turn;

@@ -5,7 +5,7 @@ ghost use Rattle.ut_value.specs.declared.entry.Entry.TheVariants.{Txn};
 ghost use Rattle.ut_value.specs.Spelling.{spelling, is_op, ops_len};
 ghost use Rattle.ut_table.specs.Staged.{Staged};
 ghost use Rattle.ut_table.specs.Finds.{hits_of};
-ghost use Rattle.ut_txn.specs.Seats.{opened_at};
+ghost use Rattle.ut_txn.specs.Seats.{opened_at, payload_at};
 ghost use Rattle.ut_store.specs.Answers.{Same};
 ghost use Rattle.ut_store.specs.Staging.{written};
 ghost use Rattle.ut_store.specs.Changes.{CanDo, CanAppend, DoneInside, DoneAlone};
@@ -30,7 +30,8 @@ impl Store {
     ) -> Result<(), AllocError>
         requires seat { session < 17 }
         requires opened { opened_at self.old.seats session ≡ Some opened }
-        requires can { CanDo self.old session place (hits_of hits.now) ops.items }
+        requires can { CanDo self.old place (hits_of hits.now) ops.items }
+        requires size { length (payload_at self.old.seats session) + ops_len ops.items ≤ 2 ^ 30 }
         ensures ok { OnOk result (DoneInside self.old self.new session opened place ops.items (λ t s. written t ops.items (hits_of hits.now) s)) }
         ensures err { OnErr result (Same self.old self.new) }
     {
@@ -49,12 +50,11 @@ impl Store {
     pub(crate) fn do_alone(
         &mut self,
         alloc: Global,
-        session: u8,
         place: usize,
         hits: &[Found],
         ops: Vec<Op>,
     ) -> Result<(), AllocError>
-        requires can { CanDo self.old session place (hits_of hits.now) ops.items }
+        requires can { CanDo self.old place (hits_of hits.now) ops.items }
         requires journal { CanAppend self.old }
         ensures ok { OnOk result (DoneAlone self.old self.new place ops.items (λ t s. written t ops.items (hits_of hits.now) s)) }
         ensures err { OnErr result (Same self.old self.new) }
