@@ -14,3 +14,4 @@ pub mod WriteLemmas
 pub mod LimitLemmas
 pub mod IndexLemmas
 pub mod FinishLemmas
+pub mod KindLemmas

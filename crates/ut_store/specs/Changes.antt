@@ -10,9 +10,13 @@ use Rattle.ut_value.specs.declared.entry.Op.TheVariants as ops
 use Rattle.ut_value.specs.declared.entry.Entry.TheVariants.{Txn}
 use Rattle.ut_value.specs.Spelling.{spelling, is_op, ops_len}
 use Rattle.ut_plain.specs.declared.statement.Statement.{Statement}
+use Rattle.ut_plain.specs.declared.statement.Pred.{Pred}
 use Rattle.ut_plain.specs.declared.reply.Refusal.{Refusal}
 use Rattle.ut_plain.specs.declared.reply.Refusal.TheVariants as refusals
 use Rattle.ut_plain.specs.Tables.{fits_columns}
+use Rattle.ut_plain.specs.Names.{preds_known}
+use Rattle.ut_plain.specs.Kinds.{preds_fit}
+use Rattle.ut_plain.specs.Condition.{meets}
 use Rattle.ut_plain.specs.Rows.{inserts_of}
 use Rattle.ut_plain.specs.Refusals.{unless, or_else, conflict}
 use Rattle.ut_plain.specs.Limits.{has_room, has_ops_room}
@@ -28,13 +32,15 @@ use Rattle.ut_scan.specs.declared.place.Place.{Place}
 use Rattle.ut_exact.specs.Work.{Fits}
 use Rattle.ut_exact.specs.Places.{dead_number}
 use Rattle.ut_table.specs.Staged.{Staged, row_at, count_of, entered_l1, ended_in}
+use Rattle.ut_table.specs.Finds.{SeenOnce}
 use Rattle.ut_txn.specs.declared.opened.Opened.{Opened}
 use Rattle.ut_txn.specs.Seats.{opened_at, payload_at, SeatSet, SeatsStay}
 use Rattle.ut_store.specs.Held.{Held}
 use Rattle.ut_store.specs.Stands.{StandsFor}
 use Rattle.ut_store.specs.Standing.{Stands, changes_rows}
 use Rattle.ut_store.specs.Early.{early_refusal}
-use Rattle.ut_store.specs.Hits.{stamp_in, first_taken_of}
+use Rattle.ut_store.specs.Reads.{looks_at, own_at}
+use Rattle.ut_store.specs.Hits.{Hits, stamp_in, first_taken_of}
 use Rattle.ut_store.specs.Staging.{Staging, new_row}
 
 -- ---- one operation after the other
@@ -144,6 +150,23 @@ pub record DoneAlone (old new : Held) (n : ℕ) (os : List Op) (after : ℕ → 
   pub commits : new.commits ≡ old.commits + 1
   pub entries : new.entries ≡ old.entries + 1
   pub frame : new.frame ≡ spelling (Txn os)
+
+-- ---- what is looked for
+
+-- The session can look for rows of the table at a place.
+pub record CanLook (e : Held) (session n : ℕ) (preds : List Pred) : Type 0 where
+  pub seat : session < 17
+  pub table : Staged
+  pub at : slice_get e.staged n ≡ Some table
+  pub known : IsTrue (preds_known preds table.columns)
+  pub fit : IsTrue (preds_fit table.columns preds)
+  pub once : SeenOnce table e.fates (looks_at e session) (own_at e session)
+
+-- The rows of the table at a place that the session sees and that meet each comparison.
+pub record Looked (e : Held) (session n : ℕ) (preds : List Pred) (hits : List (ℕ × Place)) : Type 0 where
+  pub table : Staged
+  pub at : slice_get e.staged n ≡ Some table
+  pub hits_are : Hits e session n (meets table.columns preds) hits
 
 -- ---- statements
 

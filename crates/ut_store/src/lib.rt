@@ -1,7 +1,11 @@
 //! The store in memory.
 #![tactic(auto)]
 
+mod change;
+mod delete;
 mod finish;
+mod hits;
+mod insert;
 mod limits;
 mod store;
 mod turn;
