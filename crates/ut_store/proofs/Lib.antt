@@ -15,3 +15,5 @@ pub mod LimitLemmas
 pub mod IndexLemmas
 pub mod FinishLemmas
 pub mod KindLemmas
+pub mod SearchLemmas
+pub mod DeleteLemmas
