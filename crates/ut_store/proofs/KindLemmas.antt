@@ -71,6 +71,11 @@ columns_mapped [] n = refl
 columns_mapped (t ∷ ts) zero = refl
 columns_mapped (t ∷ ts) (suc n) = columns_mapped ts n
 
+pub at_n : (e : Held) (p : Plain) (name : List ℕ) (n : ℕ) → StandsFor e p → IsThere e.tables name → n ≡ place_in e.tables name → columns_at e.tables n ≡ Some (columns_in e.tables name)
+at_n e p name n s is at =
+    let t = table_is p name s.plain (subst (λ ts. IsThere ts name) s.counts.tables is) in
+    ap (columns_at e.tables) at ∙ subst (λ ts. columns_at ts (place_in ts name) ≡ Some (columns_in ts name)) (sym s.counts.tables) t.at
+
 pub table_at : (e : Held) (p : Plain) (name : List ℕ) (n : ℕ) → StandsFor e p → IsThere e.tables name → n ≡ place_in e.tables name → TableAt e n (columns_in e.tables name)
 table_at e p name n s is at_n =
     let t = table_is p name s.plain (subst (λ ts. IsThere ts name) s.counts.tables is) in

@@ -17,3 +17,5 @@ pub mod FinishLemmas
 pub mod KindLemmas
 pub mod SearchLemmas
 pub mod DeleteLemmas
+pub mod SuitLemmas
+pub mod UpdateLemmas

@@ -31,6 +31,7 @@ use Rattle.ut_stamps.specs.Stamps.{is_taken}
 use Rattle.ut_scan.specs.declared.place.Place.{Place}
 use Rattle.ut_exact.specs.Work.{Fits}
 use Rattle.ut_exact.specs.Places.{dead_number}
+use Rattle.ut_exact.specs.Scan.{stored_in}
 use Rattle.ut_table.specs.Staged.{Staged, row_at, count_of, entered_l1, ended_in}
 use Rattle.ut_table.specs.Finds.{SeenOnce}
 use Rattle.ut_txn.specs.declared.opened.Opened.{Opened}
@@ -167,6 +168,11 @@ pub record Looked (e : Held) (session n : ℕ) (preds : List Pred) (hits : List 
   pub table : Staged
   pub at : slice_get e.staged n ≡ Some table
   pub hits_are : Hits e session n (meets table.columns preds) hits
+
+-- the operations of an update: the row in each place is deleted, and a copy with another value in a column inserted
+abbrev pub updated_ops : Staged → ℕ → ℕ → ℕ → Value → List (ℕ × Place) → List Op
+updated_ops s n id column value [] = []
+updated_ops s n id column value (h ∷ hits) = ops.Delete n h.0 ∷ ops.Insert n id (slice_set (stored_in n (row_at s h.1)).values column value) ∷ updated_ops s n (id + 1) column value hits
 
 -- ---- statements
 

@@ -25,6 +25,12 @@ impl Store {
         match st {
             Statement::Insert { table, values } => self.insert(alloc, session, st, table, values),
             Statement::Delete { table, preds } => self.delete(alloc, session, st, table, preds),
+            Statement::Update {
+                table,
+                column,
+                value,
+                preds,
+            } => self.update(alloc, session, st, table, column, value, preds),
             _ => no_memory(),
         }
     }

@@ -9,6 +9,7 @@ mod insert;
 mod limits;
 mod store;
 mod turn;
+mod update;
 mod work;
 mod write;
 
