@@ -108,10 +108,17 @@ fn changed_values(
     requires { IsSome (row_at stages.now.stages place) }
     ensures { IfOk result (λ values. values ≡ slice_set (stored_in change.table (row_at stages.now.stages place)).values change.column value.now) }
 {
-    let mut values = stages.values(alloc, place)?.into_vec();
+    let values = stages.values(alloc, place)?;
     let value = value.copy(alloc)?;
-    if change.column < values.len() {
-        values[change.column] = value;
+    Ok(Seq::from_vec(with_value(values.into_vec(), change.column, value)))
+}
+
+fn with_value(mut values: Vec<Value>, column: usize, value: Value) -> Vec<Value>
+    ensures { result.items ≡ slice_set values.items column value }
+{
+    if column >= values.len() {
+        return values;
     }
-    Ok(Seq::from_vec(values))
+    values[column] = value;
+    values
 }
