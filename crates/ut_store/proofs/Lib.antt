@@ -19,3 +19,12 @@ pub mod RestoredLemmas
 pub mod AskLemmas
 pub mod ScanLemmas
 pub mod ListedLemmas
+pub mod WriteLemmas
+pub mod LimitLemmas
+pub mod IndexLemmas
+pub mod FinishLemmas
+pub mod KindLemmas
+pub mod SearchLemmas
+pub mod DeleteLemmas
+pub mod SuitLemmas
+pub mod UpdateLemmas

@@ -9,3 +9,4 @@ pub mod Early
 pub mod Standing
 pub mod Created
 pub mod Listed
+pub mod Changes

@@ -16,19 +16,6 @@ use std::alloc::{AllocError, Global};
 use ut_plain::{Query, Refusal, Reply, Statement};
 
 impl Store {
-    pub(crate) fn change(&mut self, alloc: Global, session: u8, st: &Statement) -> Turn
-        requires seat { session < 17 }
-        requires inside { 0 < session }
-        requires spelled { IsTrue (is_spelled st.now) }
-        requires stands { Stands self.old }
-        requires early { early_refusal self.old session st.now ≡ None }
-        requires kind { IsTrue (changes_rows st.now) }
-        ensures { Answers self.old session st.now result self.new }
-    {
-        let _read = self.entries;
-        Turn::Answered(Reply::Refused(Refusal::Memory))
-    }
-
     pub(crate) fn ask(&self, alloc: Global, session: u8, query: &Query) -> Result<Reply, AllocError>
         requires seat { session < 17 }
         requires stands { Stands self.now }

@@ -2,6 +2,12 @@
 #![tactic(auto)]
 
 mod awaited;
+mod change;
+mod delete;
+mod finish;
+mod hits;
+mod insert;
+mod limits;
 mod readers;
 mod scan;
 mod statement;
@@ -9,6 +15,9 @@ mod store;
 mod tables;
 mod transactions;
 mod turn;
+mod update;
+mod work;
+mod write;
 
 pub use store::Store;
 pub use turn::Turn;

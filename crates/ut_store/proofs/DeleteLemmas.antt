@@ -1,0 +1,143 @@
+-- The operations of a delete.
+use Rattle.std.proofs.Common.{ℕ, zero, suc, ◌+◌, ◌<◌, ◌≤◌, ◌≡◌, ◌≢◌, Bool, T, true, false, ◌&&◌, List, [], ◌∷◌, length, map, Option, None, Some, refl, sym, ap, ◌∙◌, subst, arith, IsTrue, nat_lt, lt-ltb, slice_get, slice_set}
+use Rattle.std.specs.List.{list_all}
+use Rattle.std.proofs.lemmas.List.Sums.{sum_by-cons}
+use Rattle.ut_value.specs.declared.value.Column.{Column}
+use Rattle.ut_value.specs.declared.entry.Op.{Op}
+use Rattle.ut_value.specs.declared.entry.Op.TheVariants as ops
+use Rattle.ut_value.specs.Spelling.{is_op, is_u16, is_u32}
+use Rattle.ut_plain.specs.declared.statement.Statement.{Statement}
+use Rattle.ut_plain.specs.declared.statement.Statement.TheVariants as statements
+use Rattle.ut_plain.specs.declared.statement.Pred.{Pred}
+use Rattle.ut_plain.specs.Tables.{place_in, columns_in, columns_of}
+use Rattle.ut_plain.specs.Names.{preds_known}
+use Rattle.ut_plain.specs.Condition.{meets, found}
+use Rattle.ut_plain.specs.Made.{deletes_all}
+use Rattle.ut_plain.specs.Refusals.{first_taken}
+use Rattle.ut_plain.specs.Plain.{Plain}
+use Rattle.ut_plain.specs.View.{View, view}
+use Rattle.ut_plain.proofs.BoolLemmas.{and_both}
+use Rattle.ut_plain.proofs.TableLemmas.{there_known}
+use Rattle.ut_scan.specs.declared.place.Place.{Place}
+use Rattle.ut_scan.specs.declared.place.Found.{Found}
+use Rattle.ut_exact.specs.Places.{dead_number}
+use Rattle.ut_table.specs.Staged.{Staged}
+use Rattle.ut_table.specs.Finds.{hits_of}
+use Rattle.ut_store.specs.Held.{Held}
+use Rattle.ut_store.specs.Stands.{StandsFor}
+use Rattle.ut_store.specs.Hits.{plain_rows}
+use Rattle.ut_store.specs.Staging.{Staging, written, ended_all, AreFound}
+use Rattle.ut_store.specs.Changes.{op_fits, op_ends, ends_of, CanLook, Looked, MayChange, AreReady, IsWork}
+use Rattle.ut_store.proofs.HitLemmas.{found-is, first_taken-is}
+use Rattle.ut_store.proofs.MadeLemmas.{FindsFree, deletes-are, length-rows, deletes_fit, deletes_fit_alone}
+use Rattle.ut_store.proofs.StagingLemmas.{staging-deletes, written-deletes}
+use Rattle.ut_store.proofs.KindLemmas.{early_tests, TableAt, table_at, next_small}
+use Rattle.ut_store.proofs.SearchLemmas.{known_in, can_look, place_view, hits_view, finds_free, AreGiven, FoundAt, found_places}
+
+some_inside : (a b : Staged) → Some a ≡ Some b → a ≡ b
+some_inside a b h = cc
+
+-- the deletes of places
+abbrev pub deletes_of : ℕ → List (ℕ × Place) → List Op
+deletes_of n hits = map (λ (x : ℕ × Place). ops.Delete n x.0) hits
+
+pub deletes-found : (n : ℕ) (found : List Found) → map (λ (f : Found). ops.Delete n f.id) found ≡ deletes_of n (hits_of found)
+deletes-found n [] = refl
+deletes-found n (f ∷ fs) = ap (λ os. ops.Delete n f.id ∷ os) (deletes-found n fs)
+
+pub length-hits : (found : List Found) → length (hits_of found) ≡ length found
+length-hits [] = refl
+length-hits (f ∷ fs) = ap suc (length-hits fs)
+
+deletes-fit : (columns : List Column) (n : ℕ) (hits : List (ℕ × Place)) → list_all (op_fits columns) (deletes_of n hits) ≡ true
+deletes-fit columns n [] = refl
+deletes-fit columns n (x ∷ xs) = deletes-fit columns n xs
+
+deletes-rule : (n next : ℕ) (hits : List (ℕ × Place)) → n < 65536 → next ≤ 2147483649 → AreGiven next hits → IsTrue (list_all is_op (deletes_of n hits))
+deletes-rule n next [] small few g = refl
+deletes-rule n next (x ∷ xs) small few g =
+    let lt = g.0 in
+    and_both _ _ (and_both (is_u16 n) (is_u32 x.0) (lt-ltb n 65536 small) (lt-ltb x.0 4294967296 (omega arith))) (deletes-rule n next xs small few g.1)
+
+ends-deletes : (n : ℕ) (hits : List (ℕ × Place)) → ends_of (deletes_of n hits) ≡ length hits
+ends-deletes n [] = refl
+ends-deletes n (x ∷ xs) = let rest = ends-deletes n xs in let one = sum_by-cons op_ends (ops.Delete n x.0) (deletes_of n xs) in omega (arith, rest, one)
+
+nothing_of : (n : ℕ) (hits : List (ℕ × Place)) → deletes_of n hits ≡ [] → length hits ≡ 0
+nothing_of n [] h = refl
+nothing_of n (x ∷ xs) h = cc
+
+something_of : (n : ℕ) (hits : List (ℕ × Place)) (op : Op) (rest : List Op) → deletes_of n hits ≡ op ∷ rest → 0 < length hits
+something_of n [] op rest h = cc
+something_of n (x ∷ xs) op rest h = omega arith
+
+-- ---- the statement
+
+module _ (e : Held) (session n : ℕ) (name : List ℕ) (preds : List Pred) (m : MayChange e session (statements.Delete name preds)) (is : n ≡ place_in e.tables name) where
+  delete_table : TableAt e n (columns_in e.tables name)
+  delete_table = table_at e m.stands.plain name n m.stands.stands (there_known e.tables (preds_known preds) name (early_tests e session (statements.Delete name preds) m.early).0) is
+
+  look_of : CanLook e session n preds
+  look_of =
+      let tests = early_tests e session (statements.Delete name preds) m.early in
+      can_look e m.stands.plain session n name preds m.seat m.stands.stands delete_table (known_in (columns_of e.tables name) (preds_known preds) tests.0) tests.1
+
+  module _ (hits : List (ℕ × Place)) (l : Looked e session n preds hits) where
+    the_found : FoundAt e n hits
+    the_found = found_places e m.stands.plain session n preds hits m.seat m.stands.stands l
+
+    ready_of : AreReady e n hits (deletes_of n hits)
+    ready_of = let f = the_found in record {
+      table = f.table;
+      at = f.at;
+      there = f.there;
+      enough = let ends = ends-deletes n hits in omega (arith, ends);
+      fits = deletes-fit f.table.columns n hits;
+      rule = deletes-rule n e.next_id hits delete_table.small (next_small e m.stands.plain m.stands.stands) f.given;
+    }
+
+    rows_are : (p : Plain) → StandsFor e p → found (view p session).tables (view p session).rows name preds ≡ plain_rows e n hits
+    rows_are p s = found-is e p session n name preds hits m.seat s (place_view e session n name preds hits m.seat is delete_table l p s) (hits_view e session n name preds hits m.seat is delete_table l p s)
+
+    work_of : IsWork e session (statements.Delete name preds) n hits (deletes_of n hits) (length hits) (λ t s. written t (deletes_of n hits) hits s)
+    work_of = record {
+      changes_rows = λ p. refl;
+      operations = λ p s. (λ i. deletes_all (place_view e session n name preds hits m.seat is delete_table l p s i) (rows_are p s i)) ∙ deletes-are e n hits;
+      count = λ p s. ap length (rows_are p s) ∙ length-rows e n hits;
+      none = nothing_of n hits;
+      some = something_of n hits;
+      limits = λ v. refl;
+      clash = λ p s. ap (first_taken (view p session).taken) (rows_are p s) ∙ first_taken-is e p session n _ hits m.seat s (hits_view e session n name preds hits m.seat is delete_table l p s);
+      fits_inside = λ o p s free h. deletes_fit e p session n name preds hits o m.seat h s (finds_free e session n name preds hits m.seat is delete_table l free);
+      fits_alone = λ p s free h. deletes_fit_alone e p session n name preds hits m.seat h s (finds_free e session n name preds hits m.seat is delete_table l free);
+      staging = λ t s at alive. subst (λ (x : Staged). Staging e.staged (slice_set e.staged n x) t false e.next_id (deletes_of n hits)) (sym (written-deletes n t hits s))
+          (staging-deletes e.staged n t e.next_id hits s at l.hits_are.scan.sorted (found_places_at t s at));
+    }
+      where
+        found_places_at : (t : ℕ) (s : Staged) → slice_get e.staged n ≡ Some s → AreFound s hits
+        found_places_at t s at = subst (λ (x : Staged). AreFound x hits) (some_inside the_found.table s (sym the_found.at ∙ at)) the_found.found
+
+-- ---- the same of a statement that is a delete
+
+module _ (e : Held) (session n : ℕ) (st : Statement) (name : List ℕ) (preds : List Pred) (m : MayChange e session st) (h : st ≡ statements.Delete name preds) (is : n ≡ place_in e.tables name) where
+  that : MayChange e session (statements.Delete name preds)
+  that = subst (λ x. MayChange e session x) h m
+
+  pub delete_small : n < 65536
+  delete_small = (delete_table e session n name preds that is).small
+
+  pub delete_look : CanLook e session n preds
+  delete_look = look_of e session n name preds that is
+
+  module _ (hits : List (ℕ × Place)) (l : Looked e session n preds hits) where
+    pub delete_rows : length hits ≤ 2147483649
+    delete_rows = let few = (the_found e session n name preds that is hits l).few in let next = next_small e m.stands.plain m.stands.stands in omega arith
+
+    pub delete_ready : (os : List Op) → os ≡ deletes_of n hits → AreReady e n hits os
+    delete_ready os made = subst (λ x. AreReady e n hits x) (sym made) (ready_of e session n name preds that is hits l)
+
+    pub delete_work : (os : List Op) (rows : ℕ) → os ≡ deletes_of n hits → rows ≡ length hits → IsWork e session st n hits os rows (λ t s. written t os hits s)
+    delete_work os rows made count =
+        subst (λ x. IsWork e session x n hits os rows (λ t s. written t os hits s)) (sym h)
+        (subst (λ x. IsWork e session (statements.Delete name preds) n hits os x (λ t s. written t os hits s)) (sym count)
+        (subst (λ x. IsWork e session (statements.Delete name preds) n hits x (length hits) (λ t s. written t x hits s)) (sym made) (work_of e session n name preds that is hits l)))

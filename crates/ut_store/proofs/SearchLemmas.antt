@@ -1,0 +1,153 @@
+-- What is looked for is what the plain store finds.
+use Rattle.std.proofs.Common.{ℕ, zero, suc, ◌+◌, ◌<◌, ◌≤◌, ◌≡◌, ◌≢◌, inl, inr, Bool, T, true, false, ◌&&◌, List, [], ◌∷◌, length, map, is_some, Option, None, Some, refl, sym, ap, ◌∙◌, subst, arith, IsTrue, IsSome, OnErr, slice_get, unwrap_or, nat_eq}
+use Rattle.std.proofs.lemmas.Bool.{cases_lt}
+use Rattle.std.specs.Option.{option_map, option_and_then}
+use Rattle.std.specs.Ordering.{nat_cmp, is_lt}
+use Rattle.std.specs.FinMap.{find, is_sorted}
+use Rattle.std.specs.FinMap.Entries.{below_all}
+use Rattle.ut_value.specs.declared.value.Column.{Column}
+use Rattle.ut_value.specs.declared.value.Value.{Value}
+use Rattle.ut_plain.specs.declared.statement.Pred.{Pred}
+use Rattle.ut_plain.specs.Tables.{place_in, columns_in, columns_of}
+use Rattle.ut_plain.specs.Names.{known, preds_known}
+use Rattle.ut_plain.specs.Kinds.{preds_fit}
+use Rattle.ut_plain.specs.Condition.{meets}
+use Rattle.ut_plain.specs.Plain.{Plain}
+use Rattle.ut_plain.specs.View.{View, view}
+use Rattle.ut_stamps.specs.declared.fates.Fate.{Fate}
+use Rattle.ut_stamps.specs.Stamps.{sees}
+use Rattle.ut_scan.specs.declared.place.Place.{Place}
+use Rattle.ut_scan.specs.declared.place.Found.{Found}
+use Rattle.ut_exact.specs.Stamped.{Stamped}
+use Rattle.ut_exact.specs.Places.{StagedRow, is_dead, stamped_in}
+use Rattle.ut_exact.specs.Scan.{IsScan}
+use Rattle.ut_exact.proofs.OrderLemmas.{T_first, T_second, less}
+use Rattle.ut_exact.proofs.ScanLemmas.{seen_is_live}
+use Rattle.ut_table.specs.Staged.{Staged, row_at}
+use Rattle.ut_table.specs.Finds.{SeenOnce, Finds, hits_of}
+use Rattle.ut_store.specs.Held.{Held, place_at}
+use Rattle.ut_store.specs.Stands.{StandsFor}
+use Rattle.ut_store.specs.Reads.{looks_at, own_at}
+use Rattle.ut_store.specs.Hits.{Hits, first_taken_of}
+use Rattle.ut_store.specs.Staging.{AreFound}
+use Rattle.ut_store.specs.Changes.{AreThere, CanLook, Looked}
+use Rattle.ut_store.proofs.ReadLemmas.{reads}
+use Rattle.ut_store.proofs.StageLemmas.{here}
+use Rattle.ut_store.proofs.HitLemmas.{dead_never, AreFound-hits}
+use Rattle.ut_store.proofs.MadeLemmas.{FindsFree}
+use Rattle.ut_store.proofs.KindLemmas.{TableAt}
+
+-- ---- what can be looked for
+
+pub known_in : (o : Option (List Column)) (test : List Column → Bool) → known test o ≡ true → test (unwrap_or o []) ≡ true
+known_in None test h = cc
+known_in (Some columns) test h = h
+
+pub seen_once : (e : Held) (p : Plain) (session n : ℕ) (table : Staged) → StandsFor e p → slice_get e.staged n ≡ Some table → SeenOnce table e.fates (looks_at e session) (own_at e session)
+seen_once e p session n table s at = record {
+  each = λ q r a b is_a is_b sees_a sees_b same.
+      (s.rows.places.once n n q r a b (here e.staged n table q at ∙ is_a) (here e.staged n table r at ∙ is_b)
+      (seen_is_live e.fates (looks_at e session) (own_at e session) (dead_never e p session s) a.stamp sees_a)
+      (seen_is_live e.fates (looks_at e session) (own_at e session) (dead_never e p session s) b.stamp sees_b) same).1;
+}
+
+pub can_look : (e : Held) (p : Plain) (session n : ℕ) (name : List ℕ) (preds : List Pred) → session < 17 → StandsFor e p → TableAt e n (columns_in e.tables name)
+    → preds_known preds (columns_in e.tables name) ≡ true → preds_fit (columns_in e.tables name) preds ≡ true → CanLook e session n preds
+can_look e p session n name preds small s t names kinds = record {
+  seat = small;
+  table = t.table;
+  at = t.at;
+  known = ap (preds_known preds) t.has ∙ names;
+  fit = ap (λ cs. preds_fit cs preds) t.has ∙ kinds;
+  once = seen_once e p session n t.table s t.at;
+}
+
+-- ---- from a table to all
+
+scan_there : (staged : List Staged) (n : ℕ) (table : Staged) (fates : List Fate) (k : ℕ) (own : Option ℕ) (test : List Value → Bool) (hits : List (ℕ × Place)) → slice_get staged n ≡ Some table
+    → IsScan (λ m p. row_at table p) 0 fates k own test hits → IsScan (place_at staged) n fates k own test hits
+scan_there staged n table fates k own test hits at scan = record {
+  sorted = scan.sorted;
+  sound = λ id p is. let f = scan.sound id p is in (f.0, here staged n table p at ∙ f.1, f.2, f.3, f.4);
+  complete = λ p row is seen passes. scan.complete p row (sym (here staged n table p at) ∙ is) seen passes;
+}
+
+pub looked : (e : Held) (session n : ℕ) (preds : List Pred) (table found_in : Staged) (fates : List Fate) (k : ℕ) (own : Option ℕ) (found : List Found) → slice_get e.staged n ≡ Some table → found_in ≡ table → fates ≡ e.fates → k ≡ looks_at e session → own ≡ own_at e session
+    → Finds found_in fates k own preds found → Looked e session n preds (hits_of found)
+looked e session n preds table found_in fates k own found at same_table same_fates same_look same_own f =
+    let g : Finds table e.fates (looks_at e session) (own_at e session) preds found =
+    subst (λ (t : Staged). Finds t e.fates (looks_at e session) (own_at e session) preds found) same_table
+    (subst (λ (x : List Fate). Finds found_in x (looks_at e session) (own_at e session) preds found) same_fates
+    (subst (λ x. Finds found_in fates x (own_at e session) preds found) same_look (subst (λ x. Finds found_in fates k x preds found) same_own f))) in
+    record { table = table; at = at; hits_are = record { scan = scan_there e.staged n table e.fates (looks_at e session) (own_at e session) (meets table.columns preds) (hits_of found) at g.scan } }
+
+-- ---- what was found, in the plain store's words
+
+some_inside : (a b : Staged) → Some a ≡ Some b → a ≡ b
+some_inside a b h = cc
+
+module _ (e : Held) (session n : ℕ) (name : List ℕ) (preds : List Pred) (hits : List (ℕ × Place)) (small : session < 17) (is : n ≡ place_in e.tables name) (t : TableAt e n (columns_in e.tables name)) (l : Looked e session n preds hits) where
+  columns_are : l.table.columns ≡ columns_in e.tables name
+  columns_are = ap (λ (s : Staged). s.columns) (some_inside l.table t.table (sym l.at ∙ t.at)) ∙ t.has
+
+  pub place_view : (p : Plain) → StandsFor e p → place_in (view p session).tables name ≡ n
+  place_view p s = ap (λ ts. place_in ts name) (reads e p session small s).tables ∙ sym is
+
+  pub hits_view : (p : Plain) → StandsFor e p → Hits e session n (meets (columns_in (view p session).tables name) preds) hits
+  hits_view p s = subst (λ cs. Hits e session n (meets cs preds) hits) (columns_are ∙ ap (λ ts. columns_in ts name) (sym (reads e p session small s).tables)) l.hits_are
+
+  pub finds_free : first_taken_of e session n hits ≡ None → FindsFree e session n name preds hits
+  finds_free free = record { place = place_view; hits_are = hits_view; none_taken = free }
+
+-- ---- the places
+
+are_there : (s : Staged) (hits : List (ℕ × Place)) → AreFound s hits → AreThere s hits
+are_there s [] h = tt
+are_there s (x ∷ xs) h = (ap is_some h.1, are_there s xs h.4)
+
+-- each id was given
+abbrev pub AreGiven : ℕ → List (ℕ × Place) → Type 0
+AreGiven next [] = Unit {0}
+AreGiven next (x ∷ xs) = (x.0 < next) × AreGiven next xs
+
+are_given : (e : Held) (p : Plain) (n : ℕ) (table : Staged) (hits : List (ℕ × Place)) → StandsFor e p → slice_get e.staged n ≡ Some table → AreFound table hits → AreGiven e.next_id hits
+are_given e p n table [] s at h = tt
+are_given e p n table (x ∷ xs) s at h = (low, are_given e p n table xs s at h.4)
+  where
+    nothing : (y : Stamped) → None ≡ Some y → ⊥
+    nothing y g = cc
+
+    held_is : s.rows.held x.0 ≡ Some (stamped_in n h.0)
+    held_is = ap s.rows.held (sym h.2) ∙ s.rows.places.each n x.1 h.0 (here e.staged n table x.1 at ∙ h.1) h.3
+
+    low : x.0 < e.next_id
+    low = elim (cases_lt x.0 e.next_id) [ inl lt ↦ lt | inr le ↦ absurd (nothing (stamped_in n h.0) (sym (s.rows.free x.0 le) ∙ held_is)) ]
+
+-- sorted ids below a number are at most so many
+sorted_above : (a b : ℕ) (hits : List (ℕ × Place)) → T (is_sorted nat_cmp hits) → AreGiven b hits → ((x : ℕ × Place) (xs : List (ℕ × Place)) → hits ≡ x ∷ xs → a ≤ x.0) → a ≤ b → a + length hits ≤ b
+sorted_above a b [] sorted g low le = omega arith
+sorted_above a b (x ∷ xs) sorted g low le =
+    let first : a ≤ x.0 = low x xs refl in
+    let below : T (below_all nat_cmp x.0 xs) = T_first (below_all nat_cmp x.0 xs) _ sorted in
+    let given = g.0 in
+    let rest = sorted_above (x.0 + 1) b xs (T_second (below_all nat_cmp x.0 xs) _ sorted) g.1 (λ y ys is. above y ys is (subst (λ zs. T (below_all nat_cmp x.0 zs)) is below)) (omega arith) in
+    omega arith
+  where
+    above : (y : ℕ × Place) (ys : List (ℕ × Place)) → xs ≡ y ∷ ys → T (below_all nat_cmp x.0 (y ∷ ys)) → x.0 + 1 ≤ y.0
+    above y ys is below = let lt = less x.0 y.0 (T_first (is_lt (nat_cmp x.0 y.0)) _ below) in omega arith
+
+-- what holds of the places that were found
+pub record FoundAt (e : Held) (n : ℕ) (hits : List (ℕ × Place)) : Type 0 where
+  pub table : Staged
+  pub at : slice_get e.staged n ≡ Some table
+  pub found : AreFound table hits
+  pub there : AreThere table hits
+  pub given : AreGiven e.next_id hits
+  pub few : length hits ≤ e.next_id
+
+pub found_places : (e : Held) (p : Plain) (session n : ℕ) (preds : List Pred) (hits : List (ℕ × Place)) → session < 17 → StandsFor e p → Looked e session n preds hits → FoundAt e n hits
+found_places e p session n preds hits small s l =
+    let found = AreFound-hits e p session n (meets l.table.columns preds) hits l.table small s l.at l.hits_are in
+    let given = are_given e p n l.table hits s l.at found in
+    let few = sorted_above 0 e.next_id hits l.hits_are.scan.sorted given (λ x xs is. omega arith) (omega arith) in
+    record { table = l.table; at = l.at; found = found; there = are_there l.table hits found; given = given; few = omega arith }

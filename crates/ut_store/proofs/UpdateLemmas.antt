@@ -1,0 +1,234 @@
+-- The operations of an update.
+use Rattle.std.proofs.Common.{ℕ, zero, suc, ◌+◌, ◌<◌, ◌≤◌, ◌≡◌, ◌≢◌, Bool, T, true, false, ◌&&◌, ◌||◌, List, [], ◌∷◌, length, map, Option, None, Some, refl, sym, ap, ◌∙◌, subst, arith, IsTrue, nat_eq, nat_le, nat_lt, lt-ltb, leb-true, eqb-true, slice_get, slice_set, unwrap_or}
+use Rattle.std.specs.List.{list_all}
+use Rattle.std.proofs.lemmas.List.Sums.{sum_by-cons}
+use Rattle.ut_value.specs.declared.value.Column.{Column}
+use Rattle.ut_value.specs.declared.value.Value.{Value}
+use Rattle.ut_value.specs.declared.entry.Op.{Op}
+use Rattle.ut_value.specs.declared.entry.Op.TheVariants as ops
+use Rattle.ut_value.specs.KeyBytes.{is_value}
+use Rattle.ut_value.specs.Text.{is_name}
+use Rattle.ut_value.specs.Spelling.{is_op, is_u16, is_u32, is_count, are_values, are_columns, has_column}
+use Rattle.ut_plain.specs.declared.table.Table.{Table}
+use Rattle.ut_plain.specs.declared.statement.Statement.{Statement}
+use Rattle.ut_plain.specs.declared.statement.Statement.TheVariants as statements
+use Rattle.ut_plain.specs.declared.statement.Pred.{Pred}
+use Rattle.ut_plain.specs.declared.reply.Refusal.{Refusal}
+use Rattle.ut_plain.specs.declared.reply.Refusal.TheVariants as refusals
+use Rattle.ut_plain.specs.Tables.{fits_columns, fits_table, columns_at, column_of, place_in, columns_in, columns_of}
+use Rattle.ut_plain.specs.Names.{preds_known}
+use Rattle.ut_plain.specs.Kinds.{kind_in, has_kind, preds_fit}
+use Rattle.ut_plain.specs.Condition.{meets, found}
+use Rattle.ut_plain.specs.Rows.{op_inserts, inserts_of}
+use Rattle.ut_plain.specs.Made.{updates, changed_value}
+use Rattle.ut_plain.specs.Refusals.{first_taken, unless, or_else}
+use Rattle.ut_plain.specs.Spelled.{are_preds}
+use Rattle.ut_plain.specs.Plain.{Plain}
+use Rattle.ut_plain.specs.View.{View, view}
+use Rattle.ut_plain.proofs.BoolLemmas.{and_left, and_right, and_both}
+use Rattle.ut_plain.proofs.ListLemmas.{list_all_set}
+use Rattle.ut_plain.proofs.TableLemmas.{there_known, fits_columns-set, are_values-fit}
+use Rattle.ut_plain.proofs.MadeLemmas.{suits_table}
+use Rattle.ut_scan.specs.declared.place.Place.{Place}
+use Rattle.ut_exact.specs.Places.{StagedRow, dead_number}
+use Rattle.ut_exact.specs.Scan.{stored_in}
+use Rattle.ut_table.specs.Staged.{Staged, row_at}
+use Rattle.ut_plain.specs.declared.reply.Reply.TheVariants as replies
+use Rattle.ut_store.specs.declared.turn.Turn.TheVariants.{Answered}
+use Rattle.ut_store.specs.Answers.{Answers}
+use Rattle.ut_store.specs.Held.{Held, place_at}
+use Rattle.ut_store.specs.Stands.{StandsFor}
+use Rattle.ut_store.specs.Hits.{plain_rows}
+use Rattle.ut_store.specs.Staging.{Staging, written, AreFound}
+use Rattle.ut_store.specs.Changes.{has_ids_for, has_room_for, late_refusal, updated_ops, op_fits, op_ends, ends_of, AreThere, CanLook, Looked, MayChange, AreReady, IsWork}
+use Rattle.ut_store.proofs.ReadLemmas.{reads}
+use Rattle.ut_store.proofs.StageLemmas.{here}
+use Rattle.ut_store.proofs.HitLemmas.{found-is, first_taken-is}
+use Rattle.ut_store.proofs.MadeLemmas.{FindsFree, values_at, updates-are, length-rows, updates_fit, updates_fit_alone}
+use Rattle.ut_store.proofs.StagingLemmas.{updates_of, staging-updates, written-updates}
+use Rattle.ut_store.proofs.KindLemmas.{early_tests, TableAt, table_at, at_n, next_small}
+use Rattle.ut_store.proofs.FinishLemmas.{answers_refused}
+use Rattle.ut_store.proofs.SearchLemmas.{known_in, can_look, place_view, hits_view, finds_free, AreGiven, FoundAt, found_places}
+use Rattle.ut_store.proofs.SuitLemmas.{AllSuit, all_suit}
+
+-- ---- what is made
+
+-- each of these rows fits columns, and may be spelled
+abbrev AllFit : List Column → List (List Value) → Type 0
+AllFit columns [] = Unit {0}
+AllFit columns (vs ∷ rows) = IsTrue (fits_columns columns vs) × IsTrue (are_values vs) × AllFit columns rows
+
+updates-fit : (columns : List Column) (n id : ℕ) (hits : List (ℕ × Place)) (rows : List (List Value)) → AllFit columns rows → list_all (op_fits columns) (updates_of n id hits rows) ≡ true
+updates-fit columns n id [] rows h = refl
+updates-fit columns n id (x ∷ xs) [] h = refl
+updates-fit columns n id (x ∷ xs) (vs ∷ rows) h = and_both _ _ h.0 (updates-fit columns n (id + 1) xs rows h.2)
+
+updates-rule : (columns : List Column) (n next id : ℕ) (hits : List (ℕ × Place)) (rows : List (List Value)) → n < 65536 → next ≤ 2147483649 → id + length hits ≤ 2147483649 → AreGiven next hits → AllFit columns rows → IsTrue (list_all is_op (updates_of n id hits rows))
+updates-rule columns n next id [] rows small few room g h = refl
+updates-rule columns n next id (x ∷ xs) [] small few room g h = refl
+updates-rule columns n next id (x ∷ xs) (vs ∷ rows) small few room g h =
+    let given = g.0 in
+    let table : IsTrue (is_u16 n) = lt-ltb n 65536 small in
+    and_both _ _ (and_both (is_u16 n) (is_u32 x.0) table (lt-ltb x.0 4294967296 (omega arith)))
+    (and_both _ _ (and_both (is_u16 n && is_u32 id) (are_values vs) (and_both (is_u16 n) (is_u32 id) table (lt-ltb id 4294967296 (omega arith))) h.1)
+    (updates-rule columns n next (id + 1) xs rows small few (omega arith) g.1 h.2))
+
+ends-updates : (n id : ℕ) (hits : List (ℕ × Place)) (rows : List (List Value)) → ends_of (updates_of n id hits rows) ≤ length hits
+ends-updates n id [] rows = omega arith
+ends-updates n id (x ∷ xs) [] = omega arith
+ends-updates n id (x ∷ xs) (vs ∷ rows) =
+    let rest = ends-updates n (id + 1) xs rows in
+    let one = sum_by-cons op_ends (ops.Delete n x.0) (ops.Insert n id vs ∷ updates_of n (id + 1) xs rows) in
+    let two = sum_by-cons op_ends (ops.Insert n id vs) (updates_of n (id + 1) xs rows) in omega (arith, rest, one, two)
+
+abbrev pub update_of : Held → ℕ → (List Value → List Value) → ℕ → List (ℕ × Place) → List Op
+update_of e n change id hits = updates_of n id hits (map change (values_at e n hits))
+
+inserts-updates : (e : Held) (n id : ℕ) (change : List Value → List Value) (hits : List (ℕ × Place)) → inserts_of (update_of e n change id hits) ≡ length hits
+inserts-updates e n id change [] = refl
+inserts-updates e n id change (x ∷ xs) =
+    let rest = inserts-updates e n (id + 1) change xs in
+    let vs = change (stored_in n (place_at e.staged n x.1)).values in
+    let one = sum_by-cons op_inserts (ops.Delete n x.0) (ops.Insert n id vs ∷ update_of e n change (id + 1) xs) in
+    let two = sum_by-cons op_inserts (ops.Insert n id vs) (update_of e n change (id + 1) xs) in omega (arith, rest, one, two)
+
+nothing_of : (e : Held) (n id : ℕ) (change : List Value → List Value) (hits : List (ℕ × Place)) → update_of e n change id hits ≡ [] → length hits ≡ 0
+nothing_of e n id change [] h = refl
+nothing_of e n id change (x ∷ xs) h = cc
+
+something_of : (e : Held) (n id : ℕ) (change : List Value → List Value) (hits : List (ℕ × Place)) (op : Op) (rest : List Op) → update_of e n change id hits ≡ op ∷ rest → 0 < length hits
+something_of e n id change [] op rest h = cc
+something_of e n id change (x ∷ xs) op rest h = omega arith
+
+some_inside : (a b : Staged) → Some a ≡ Some b → a ≡ b
+some_inside a b h = cc
+
+pub updated-are : (e : Held) (n id column : ℕ) (value : Value) (s : Staged) (hits : List (ℕ × Place)) → slice_get e.staged n ≡ Some s → updated_ops s n id column value hits ≡ update_of e n (λ row. slice_set row column value) id hits
+updated-are e n id column value s [] at = refl
+updated-are e n id column value s (x ∷ xs) at =
+    λ i. ops.Delete n x.0 ∷ ops.Insert n id (slice_set (stored_in n (sym (here e.staged n s x.1 at) i)).values column value) ∷ updated-are e n (id + 1) column value s xs at i
+
+-- ---- the ids
+
+ids_from : (e : Held) (p : Plain) (rows : ℕ) → StandsFor e p → has_ids_for e rows ≡ true → e.next_id + rows ≤ 2147483649
+ids_from e p rows s h = by (nat_eq rows 0) refl h
+  where
+    by : (b : Bool) → nat_eq rows 0 ≡ b → (b || nat_le (e.next_id + rows) (e.rows_limit + 1)) ≡ true → e.next_id + rows ≤ 2147483649
+    by true is k = let none = eqb-true rows 0 is in let next = next_small e p s in omega arith
+    by false is k = let le = leb-true (e.next_id + rows) (e.rows_limit + 1) k in let limit = s.plain.limit in let same = s.counts.rows_limit in omega (arith, le, limit, same)
+
+full_by : (a b c : Bool) (rest : Option Refusal) → a ≡ false → or_else (unless (a && b && c) refusals.Full) rest ≡ Some refusals.Full
+full_by true b c rest h = cc
+full_by false b c rest h = refl
+
+pub no_ids : (e : Held) (session n : ℕ) (hits : List (ℕ × Place)) (os : List Op) → has_ids_for e (inserts_of os) ≡ false → late_refusal e session n hits os ≡ Some refusals.Full
+no_ids e session n hits [] h = cc
+no_ids e session n hits (op ∷ os) h = full_by (has_ids_for e (inserts_of (op ∷ os))) _ _ _ h
+
+-- ---- the statement
+
+module _ (e : Held) (session n : ℕ) (name column : List ℕ) (value : Value) (preds : List Pred) (m : MayChange e session (statements.Update name column value preds)) (is : n ≡ place_in e.tables name) where
+  names_known_of : (has_column (columns_in e.tables name) column && preds_known preds (columns_in e.tables name)) ≡ true
+  names_known_of = known_in (columns_of e.tables name) (λ cs. has_column cs column && preds_known preds cs) (early_tests e session (statements.Update name column value preds) m.early).0
+
+  kinds_of : (has_kind value (kind_in (columns_in e.tables name) column) && preds_fit (columns_in e.tables name) preds) ≡ true
+  kinds_of = (early_tests e session (statements.Update name column value preds) m.early).1
+
+  update_table : TableAt e n (columns_in e.tables name)
+  update_table = table_at e m.stands.plain name n m.stands.stands (there_known e.tables (λ cs. has_column cs column && preds_known preds cs) name (early_tests e session (statements.Update name column value preds) m.early).0) is
+
+  look_of : CanLook e session n preds
+  look_of = can_look e m.stands.plain session n name preds m.seat m.stands.stands update_table (and_right (has_column (columns_in e.tables name) column) _ names_known_of) (and_right (has_kind value (kind_in (columns_in e.tables name) column)) _ kinds_of)
+
+  module _ (hits : List (ℕ × Place)) (l : Looked e session n preds hits) where
+    the_found : FoundAt e n hits
+    the_found = found_places e m.stands.plain session n preds hits m.seat m.stands.stands l
+
+    columns_at_n : columns_at e.tables n ≡ Some (columns_in e.tables name)
+    columns_at_n = at_n e m.stands.plain name n m.stands.stands (there_known e.tables (λ cs. has_column cs column && preds_known preds cs) name (early_tests e session (statements.Update name column value preds) m.early).0) is
+
+    rows_are : (p : Plain) → StandsFor e p → found (view p session).tables (view p session).rows name preds ≡ plain_rows e n hits
+    rows_are p s = found-is e p session n name preds hits m.seat s (place_view e session n name preds hits m.seat is update_table l p s) (hits_view e session n name preds hits m.seat is update_table l p s)
+
+    changed_fit : (vs : List Value) → IsTrue (suits_table e.tables n vs) → IsTrue (fits_columns (columns_in e.tables name) (changed_value (columns_in e.tables name) column value vs)) × IsTrue (are_values (changed_value (columns_in e.tables name) column value vs))
+    changed_fit vs s =
+        let cs = columns_in e.tables name in
+        let fits : IsTrue (fits_columns cs vs) = sym (ap (λ o. fits_table o vs) columns_at_n) ∙ and_left _ (are_values vs) s in
+        let each : IsTrue (list_all is_value vs) = and_right (is_count 64 (length vs)) _ (and_right (fits_table (columns_at e.tables n) vs) _ s) in
+        let kind : IsTrue (has_kind value (kind_in cs column)) = and_left _ (preds_fit cs preds) kinds_of in
+        let good : IsTrue (is_value value) = and_right (is_name name && is_name column) _ (and_left _ (are_preds preds) m.spelled) in
+        let new = fits_columns-set cs column vs value fits kind in
+        (new, are_values-fit cs (changed_value cs column value vs) update_table.are new (list_all_set is_value vs _ value each good))
+
+    all_fit : (some : List (ℕ × Place)) → AllSuit e n some → AllFit (columns_in e.tables name) (map (changed_value (columns_in e.tables name) column value) (values_at e n some))
+    all_fit [] a = tt
+    all_fit (x ∷ xs) a = let f = changed_fit (stored_in n (place_at e.staged n x.1)).values a.0 in (f.0, f.1, all_fit xs a.1)
+
+    fit_of : AllFit (columns_in e.tables name) (map (changed_value (columns_in e.tables name) column value) (values_at e n hits))
+    fit_of = all_fit hits (all_suit e m.stands.plain session n _ hits m.seat m.stands.stands l.hits_are)
+
+    ready_of : has_ids_for e (length hits) ≡ true → AreReady e n hits (update_of e n (changed_value (columns_in e.tables name) column value) e.next_id hits)
+    ready_of ids =
+        let f = the_found in
+        let same : update_table.table ≡ f.table = some_inside update_table.table f.table (sym update_table.at ∙ f.at) in
+        record {
+          table = f.table;
+          at = f.at;
+          there = f.there;
+          enough = ends-updates n e.next_id hits _;
+          fits = subst (λ cs. IsTrue (list_all (op_fits cs) (update_of e n (changed_value (columns_in e.tables name) column value) e.next_id hits))) (sym update_table.has ∙ ap (λ (s : Staged). s.columns) same) (updates-fit (columns_in e.tables name) n e.next_id hits _ fit_of);
+          rule = updates-rule (columns_in e.tables name) n e.next_id e.next_id hits _ update_table.small (next_small e m.stands.plain m.stands.stands) (ids_from e m.stands.plain (length hits) m.stands.stands ids) f.given fit_of;
+        }
+
+    work_of : IsWork e session (statements.Update name column value preds) n hits (update_of e n (changed_value (columns_in e.tables name) column value) e.next_id hits) (length hits) (λ t s. written t (update_of e n (changed_value (columns_in e.tables name) column value) e.next_id hits) hits s)
+    work_of = record {
+      changes_rows = λ p. refl;
+      operations = λ p s. let r = reads e p session m.seat s in
+          (λ i. updates (place_view e session n name preds hits m.seat is update_table l p s i) (r.next_id i) (changed_value (columns_in (r.tables i) name) column value) (rows_are p s i))
+          ∙ updates-are e n e.next_id (changed_value (columns_in e.tables name) column value) hits;
+      count = λ p s. ap length (rows_are p s) ∙ length-rows e n hits;
+      none = nothing_of e n e.next_id _ hits;
+      some = something_of e n e.next_id _ hits;
+      limits = λ v. refl;
+      clash = λ p s. ap (first_taken (view p session).taken) (rows_are p s) ∙ first_taken-is e p session n _ hits m.seat s (hits_view e session n name preds hits m.seat is update_table l p s);
+      fits_inside = λ o p s free h. updates_fit e p session n name preds hits o _ m.seat h s (finds_free e session n name preds hits m.seat is update_table l free);
+      fits_alone = λ p s free h. updates_fit_alone e p session n name preds hits _ m.seat h s (finds_free e session n name preds hits m.seat is update_table l free);
+      staging = λ t s at alive. subst (λ (x : Staged). Staging e.staged (slice_set e.staged n x) t false e.next_id (update_of e n (changed_value (columns_in e.tables name) column value) e.next_id hits)) (sym (written-updates n t e.next_id hits _ s))
+          (staging-updates e.staged n t e.next_id hits _ s at alive l.hits_are.scan.sorted (subst (λ (x : Staged). AreFound x hits) (some_inside the_found.table s (sym the_found.at ∙ at)) the_found.found));
+    }
+
+-- ---- the same of a statement that is an update
+
+module _ (e : Held) (session n : ℕ) (st : Statement) (name column : List ℕ) (value : Value) (preds : List Pred) (m : MayChange e session st) (h : st ≡ statements.Update name column value preds) (is : n ≡ place_in e.tables name) where
+  that : MayChange e session (statements.Update name column value preds)
+  that = subst (λ x. MayChange e session x) h m
+
+  pub update_small : n < 65536
+  update_small = (update_table e session n name column value preds that is).small
+
+  pub update_look : CanLook e session n preds
+  update_look = look_of e session n name column value preds that is
+
+  -- the columns of the table, as it has them
+  pub update_columns : (s : Staged) → slice_get e.staged n ≡ Some s → s.columns ≡ columns_in e.tables name
+  update_columns s at = let t = update_table e session n name column value preds that is in ap (λ (x : Staged). x.columns) (some_inside s t.table (sym at ∙ t.at)) ∙ t.has
+
+  module _ (hits : List (ℕ × Place)) (l : Looked e session n preds hits) where
+    pub update_found : FoundAt e n hits
+    update_found = the_found e session n name column value preds that is hits l
+
+    pub update_ready : (os : List Op) → os ≡ update_of e n (changed_value (columns_in e.tables name) column value) e.next_id hits → has_ids_for e (length hits) ≡ true → AreReady e n hits os
+    update_ready os made ids = subst (λ x. AreReady e n hits x) (sym made) (ready_of e session n name column value preds that is hits l ids)
+
+    pub update_work : (os : List Op) (rows : ℕ) → os ≡ update_of e n (changed_value (columns_in e.tables name) column value) e.next_id hits → rows ≡ length hits → IsWork e session st n hits os rows (λ t s. written t os hits s)
+    update_work os rows made count =
+        subst (λ x. IsWork e session x n hits os rows (λ t s. written t os hits s)) (sym h)
+        (subst (λ x. IsWork e session (statements.Update name column value preds) n hits os x (λ t s. written t os hits s)) (sym count)
+        (subst (λ x. IsWork e session (statements.Update name column value preds) n hits x (length hits) (λ t s. written t x hits s)) (sym made) (work_of e session n name column value preds that is hits l)))
+
+    -- without ids it is refused
+    pub update_full : (rows : ℕ) → rows ≡ length hits → has_ids_for e rows ≡ false → Answers e session st (Answered (replies.Refused refusals.Full)) e
+    update_full rows count none =
+        let os = update_of e n (changed_value (columns_in e.tables name) column value) e.next_id hits in
+        answers_refused e session st n hits os (length hits) (λ t s. written t os hits s) refusals.Full m (update_work os (length hits) refl refl)
+        (no_ids e session n hits os (ap (has_ids_for e) (inserts-updates e n e.next_id _ hits ∙ sym count) ∙ none))

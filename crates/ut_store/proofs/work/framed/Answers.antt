@@ -1,0 +1,5 @@
+use Rattle.std.proofs.Common.{[], ◌∙◌, refl}
+use Rattle.ut_store.proofs.work.framed.Goals as goal
+
+pub returns : goal.returns
+returns c = c.add_all.ensures [] (c.in_ok-room.ensures.payload ∙ c.in_ok-frame.ensures)

@@ -1,0 +1,209 @@
+-- What a change of rows needs, and what it does to the store.
+use Rattle.std.specs.Prelude.{ℕ, ◌+◌, ◌≤◌, ◌<◌, ◌≡◌, ◌≢◌, Bool, true, false, ◌&&◌, ◌||◌, nat_eq, nat_le, nat_lt, is_some, IsTrue, IsSome, All, List, [], ◌∷◌, ◌++◌, length, map, Option, None, Some, slice_get, slice_set}
+use Rattle.std.specs.Option.{option_map}
+use Rattle.std.specs.List as lists
+use Rattle.std.specs.List.{list_all, sum_by}
+use Rattle.ut_value.specs.declared.value.Value.{Value}
+use Rattle.ut_value.specs.declared.value.Column.{Column}
+use Rattle.ut_value.specs.declared.entry.Op.{Op}
+use Rattle.ut_value.specs.declared.entry.Op.TheVariants as ops
+use Rattle.ut_value.specs.declared.entry.Entry.TheVariants.{Txn}
+use Rattle.ut_value.specs.Spelling.{spelling, is_op, ops_len}
+use Rattle.ut_plain.specs.declared.statement.Statement.{Statement}
+use Rattle.ut_plain.specs.declared.statement.Pred.{Pred}
+use Rattle.ut_plain.specs.declared.reply.Refusal.{Refusal}
+use Rattle.ut_plain.specs.declared.reply.Refusal.TheVariants as refusals
+use Rattle.ut_plain.specs.Tables.{fits_columns}
+use Rattle.ut_plain.specs.Names.{preds_known}
+use Rattle.ut_plain.specs.Kinds.{preds_fit}
+use Rattle.ut_plain.specs.Condition.{meets}
+use Rattle.ut_plain.specs.Rows.{inserts_of}
+use Rattle.ut_plain.specs.Refusals.{unless, or_else, conflict}
+use Rattle.ut_plain.specs.Limits.{has_room, has_ops_room}
+use Rattle.ut_plain.specs.Made.{made, changes}
+use Rattle.ut_plain.specs.Plain.{Plain}
+use Rattle.ut_plain.specs.View.{View, view}
+use Rattle.ut_plain.specs.Spelled.{is_spelled}
+use Rattle.ut_plain.specs.Step.{effect_of, changed, is_bulk}
+use Rattle.ut_stamps.specs.declared.fates.Fate.{Fate}
+use Rattle.ut_stamps.specs.declared.fates.Fate.TheVariants.{Running, Committed}
+use Rattle.ut_stamps.specs.Stamps.{is_taken}
+use Rattle.ut_scan.specs.declared.place.Place.{Place}
+use Rattle.ut_exact.specs.Work.{Fits}
+use Rattle.ut_exact.specs.Places.{dead_number}
+use Rattle.ut_exact.specs.Scan.{stored_in}
+use Rattle.ut_table.specs.Staged.{Staged, row_at, count_of, entered_l1, ended_in}
+use Rattle.ut_table.specs.Finds.{SeenOnce}
+use Rattle.ut_txn.specs.declared.opened.Opened.{Opened}
+use Rattle.ut_txn.specs.Seats.{opened_at, payload_at, SeatSet, SeatsStay}
+use Rattle.ut_store.specs.Held.{Held}
+use Rattle.ut_store.specs.Stands.{StandsFor}
+use Rattle.ut_store.specs.Standing.{Stands, changes_rows}
+use Rattle.ut_store.specs.Early.{early_refusal}
+use Rattle.ut_store.specs.Reads.{looks_at, own_at}
+use Rattle.ut_store.specs.Hits.{Hits, stamp_in, first_taken_of}
+use Rattle.ut_store.specs.Staging.{Staging, new_row}
+
+-- ---- one operation after the other
+
+-- what one operation of a transaction makes of the stages: a delete ends the next place that was found, an insert enters the first stage
+abbrev pub written_one : ℕ → Op → List (ℕ × Place) → Staged → Staged
+written_one number (ops.Insert table id values) hits s = entered_l1 (new_row number id values) s
+written_one number (ops.Delete table id) [] s = s
+written_one number (ops.Delete table id) (h ∷ hits) s = ended_in number h.1 s
+
+-- the places that are left behind it
+abbrev pub hits_behind : Op → List (ℕ × Place) → List (ℕ × Place)
+hits_behind (ops.Insert table id values) hits = hits
+hits_behind (ops.Delete table id) [] = []
+hits_behind (ops.Delete table id) (h ∷ hits) = hits
+
+-- whether an insert has a value for each column
+abbrev pub op_fits : List Column → Op → Bool
+op_fits columns (ops.Insert table id values) = fits_columns columns values
+op_fits columns (ops.Delete table id) = true
+
+-- how many rows an operation, or these, end
+abbrev pub op_ends : Op → ℕ
+op_ends (ops.Insert table id values) = 0
+op_ends (ops.Delete table id) = 1
+
+abbrev pub ends_of : List Op → ℕ
+ends_of os = sum_by op_ends os
+
+-- a row stands in each of these places
+abbrev pub AreThere : Staged → List (ℕ × Place) → Type 0
+AreThere s [] = Unit {0}
+AreThere s (h ∷ hits) = IsSome (row_at s h.1) × AreThere s hits
+
+-- The stages can take these operations: the inserts fit the columns, there are places for them, and there is a place with a row for each delete.
+pub record CanWrite (s : Staged) (hits : List (ℕ × Place)) (os : List Op) : Type 0 where
+  pub fits : IsTrue (list_all (op_fits s.columns) os)
+  pub few : count_of s + inserts_of os ≤ 2147483648
+  pub there : AreThere s hits
+  pub enough : ends_of os ≤ length hits
+
+-- ---- limits and conflicts
+
+-- whether there are ids for so many new rows
+abbrev pub has_ids_for : Held → ℕ → Bool
+has_ids_for e rows = nat_eq rows 0 || nat_le (e.next_id + rows) (e.rows_limit + 1)
+
+-- whether the session's own operations and these have a spelling
+abbrev pub has_bytes_for : Held → ℕ → List Op → Bool
+has_bytes_for e session os = nat_le (length (payload_at e.seats session) + ops_len os) 1073741824
+
+-- whether operations of a session keep to the limits
+abbrev pub has_room_for : Held → ℕ → List Op → Bool
+has_room_for e session [] = true
+has_room_for e session (op ∷ os) = has_ids_for e (inserts_of (op ∷ os)) && has_bytes_for e session (op ∷ os) && (is_some (opened_at e.seats session) || nat_lt e.entries 1073741823)
+
+-- the refusal behind the early ones: of limits, else of a conflict
+abbrev pub late_refusal : Held → ℕ → ℕ → List (ℕ × Place) → List Op → Option Refusal
+late_refusal e session n hits os = or_else (unless (has_room_for e session os) refusals.Full) (option_map refusals.Conflict (first_taken_of e session n hits))
+
+-- the first of these rows of a table that is taken
+abbrev pub first_taken_in : Staged → List Fate → ℕ → Option ℕ → List (ℕ × Place) → Option ℕ
+first_taken_in s fates snapshot own hits = option_map (λ (x : ℕ × Place). x.0) (lists.find (λ (x : ℕ × Place). is_taken fates snapshot own (stamp_in (row_at s x.1))) hits)
+
+-- ---- what is done
+
+-- The table has these places, with a row in each.
+pub record HasPlaces (e : Held) (n : ℕ) (hits : List (ℕ × Place)) : Type 0 where
+  pub table : Staged
+  pub at : slice_get e.staged n ≡ Some table
+  pub there : AreThere table hits
+
+-- Nothing but memory stands in the way of these operations.
+pub record CanDo (e : Held) (n : ℕ) (hits : List (ℕ × Place)) (os : List Op) : Type 0 where
+  pub table : Staged
+  pub at : slice_get e.staged n ≡ Some table
+  pub write : CanWrite table hits os
+  pub rule : IsTrue (list_all is_op os)
+  pub short : ops_len os + 5 ≤ 1073741824
+  pub ids : e.next_id + inserts_of os ≤ 2147483649
+
+-- The journal has room for one entry more.
+pub record CanAppend (e : Held) : Type 0 where
+  pub entries : e.entries < 1073741823
+  pub commits : e.commits ≤ e.entries
+
+-- Operations were done in the session's transaction, after which the table's stages are these.
+pub record DoneInside (old new : Held) (session : ℕ) (o : Opened) (n : ℕ) (os : List Op) (after : ℕ → Staged → Staged) : Type 0 where
+  pub tables : new.tables ≡ old.tables
+  pub staged : (s : Staged) → slice_get old.staged n ≡ Some s → new.staged ≡ slice_set old.staged n (after o.number s)
+  pub fates : new.fates ≡ old.fates
+  pub bytes : (ps : List Op) → payload_at old.seats session ≡ spelling (Txn ps) → payload_at new.seats session ≡ spelling (Txn (ps ++ os))
+  pub seats : SeatSet old.seats new.seats session (Some o) (payload_at new.seats session)
+  pub next_id : new.next_id ≡ old.next_id + inserts_of os
+  pub rows_limit : new.rows_limit ≡ old.rows_limit
+  pub commits : new.commits ≡ old.commits
+  pub entries : new.entries ≡ old.entries
+
+-- The same as a transaction by themselves, which is committed.
+pub record DoneAlone (old new : Held) (n : ℕ) (os : List Op) (after : ℕ → Staged → Staged) : Type 0 where
+  pub tables : new.tables ≡ old.tables
+  pub staged : (s : Staged) → slice_get old.staged n ≡ Some s → new.staged ≡ slice_set old.staged n (after (length old.fates) s)
+  pub fates : new.fates ≡ slice_set (old.fates ++ Running ∷ []) (length old.fates) (Committed (old.entries + 1))
+  pub seats : SeatsStay old.seats new.seats
+  pub next_id : new.next_id ≡ old.next_id + inserts_of os
+  pub rows_limit : new.rows_limit ≡ old.rows_limit
+  pub commits : new.commits ≡ old.commits + 1
+  pub entries : new.entries ≡ old.entries + 1
+  pub frame : new.frame ≡ spelling (Txn os)
+
+-- ---- what is looked for
+
+-- The session can look for rows of the table at a place.
+pub record CanLook (e : Held) (session n : ℕ) (preds : List Pred) : Type 0 where
+  pub seat : session < 17
+  pub table : Staged
+  pub at : slice_get e.staged n ≡ Some table
+  pub known : IsTrue (preds_known preds table.columns)
+  pub fit : IsTrue (preds_fit table.columns preds)
+  pub once : SeenOnce table e.fates (looks_at e session) (own_at e session)
+
+-- The rows of the table at a place that the session sees and that meet each comparison.
+pub record Looked (e : Held) (session n : ℕ) (preds : List Pred) (hits : List (ℕ × Place)) : Type 0 where
+  pub table : Staged
+  pub at : slice_get e.staged n ≡ Some table
+  pub hits_are : Hits e session n (meets table.columns preds) hits
+
+-- the operations of an update: the row in each place is deleted, and a copy with another value in a column inserted
+abbrev pub updated_ops : Staged → ℕ → ℕ → ℕ → Value → List (ℕ × Place) → List Op
+updated_ops s n id column value [] = []
+updated_ops s n id column value (h ∷ hits) = ops.Delete n h.0 ∷ ops.Insert n id (slice_set (stored_in n (row_at s h.1)).values column value) ∷ updated_ops s n (id + 1) column value hits
+
+-- ---- statements
+
+-- A session's statement that changes rows, which no early refusal keeps back.
+pub record MayChange (e : Held) (session : ℕ) (st : Statement) : Type 0 where
+  pub seat : session < 17
+  pub inside : 0 < session
+  pub spelled : IsTrue (is_spelled st)
+  pub stands : Stands e
+  pub early : early_refusal e session st ≡ None
+  pub kind : IsTrue (changes_rows st)
+
+-- Operations that suit the table at a place, where the rows that they end stand in these places.
+pub record AreReady (e : Held) (n : ℕ) (hits : List (ℕ × Place)) (os : List Op) : Type 0 where
+  pub table : Staged
+  pub at : slice_get e.staged n ≡ Some table
+  pub there : AreThere table hits
+  pub enough : ends_of os ≤ length hits
+  pub fits : IsTrue (list_all (op_fits table.columns) os)
+  pub rule : IsTrue (list_all is_op os)
+
+-- A statement makes these operations, which change so many rows, and ends the rows in these places; after them the table's stages are these.
+pub record IsWork (e : Held) (session : ℕ) (st : Statement) (n : ℕ) (hits : List (ℕ × Place)) (os : List Op) (rows : ℕ) (after : ℕ → Staged → Staged) : Type 0 where
+  pub changes_rows : (p : Plain) → effect_of p session st ≡ changed p session st
+  pub operations : (p : Plain) → StandsFor e p → made (view p session).tables (view p session).rows (view p session).next_id st ≡ os
+  pub count : (p : Plain) → StandsFor e p → changes (view p session).tables (view p session).rows st ≡ rows
+  -- rows are changed just where something is done
+  pub none : os ≡ [] → rows ≡ 0
+  pub some : (op : Op) (rest : List Op) → os ≡ op ∷ rest → 0 < rows
+  pub limits : (v : View) → has_room v st ≡ has_ops_room v (made v.tables v.rows v.next_id st)
+  pub clash : (p : Plain) → StandsFor e p → conflict (view p session) st ≡ first_taken_of e session n hits
+  pub fits_inside : (o : Opened) (p : Plain) (s : StandsFor e p) → first_taken_of e session n hits ≡ None → opened_at e.seats session ≡ Some o → Fits e.fates o.snapshot o.number e.next_id s.rows.held os
+  pub fits_alone : (p : Plain) (s : StandsFor e p) → first_taken_of e session n hits ≡ None → opened_at e.seats session ≡ None → Fits (e.fates ++ Running ∷ []) e.entries (length e.fates) e.next_id s.rows.held os
+  pub staging : (t : ℕ) (s : Staged) → slice_get e.staged n ≡ Some s → t ≢ dead_number → Staging e.staged (slice_set e.staged n (after t s)) t (is_bulk st) e.next_id os

@@ -1,0 +1,41 @@
+//! Insert: one row enters the first stage of its table.
+ghost use Rattle.std.specs.Prelude.{◌≡◌, ◌∷◌, [], IfOk};
+ghost use Rattle.ut_store.specs.Answers.{Answers};
+ghost use Rattle.ut_store.specs.Changes.{MayChange};
+
+use crate::change::place_in;
+use crate::finish::no_memory;
+use crate::{Store, Turn};
+use std::alloc::{AllocError, Global};
+use ut_plain::Statement;
+use ut_value::{Duplicate, Name, Op, Seq, Value};
+
+impl Store {
+    pub(crate) fn insert(
+        &mut self,
+        alloc: Global,
+        session: u8,
+        st: &Statement,
+        table: &Name,
+        values: &Seq<Value>,
+    ) -> Turn
+        requires may { MayChange self.old session st.now }
+        requires is { st.now ≡ Statement.Insert table.now values.now }
+        ensures { Answers self.old session st.now result self.new }
+    {
+        let place = place_in(&self.tables, table.as_slice());
+        match insert_ops(alloc, place as u16, self.next_id, values) {
+            Ok(ops) => self.finish(alloc, session, st, place, &[], ops, 1),
+            Err(_) => no_memory(),
+        }
+    }
+}
+
+fn insert_ops(alloc: Global, table: u16, id: u32, values: &Seq<Value>) -> Result<Vec<Op>, AllocError>
+    ensures { IfOk result (λ ops. ops.items ≡ Op.Insert table id values.now ∷ []) }
+{
+    let values = values.duplicate(alloc)?;
+    let mut ops = Vec::new(alloc);
+    ops.push(Op::Insert { table, id, values })?;
+    Ok(ops)
+}
