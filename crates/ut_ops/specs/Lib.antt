@@ -1,0 +1,2 @@
+pub mod ValueOrder
+pub mod Fit
