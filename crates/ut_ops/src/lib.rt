@@ -1,5 +1,12 @@
 //! The operators of questions, over a table and the rows that a scan found.
 #![tactic(auto)]
 
+mod best;
 mod cell;
+mod columns;
 mod ranked;
+mod sums;
+
+pub use best::{greatest, least};
+pub use columns::select;
+pub use sums::sum;
