@@ -68,6 +68,19 @@ numbers_at columns name c h at = by (find (λ (x : Column). same_bytes x.name na
         ∙ ap (option_map (λ (x : Column). x.kind)) (found_at (λ (x : Column). same_bytes x.name name) columns x e)
         ∙ int_kind x.kind (sym (ap (λ o. is_int (option_map (λ (x : Column). x.kind) o)) e) ∙ h)
 
+-- a column of numbers is there
+pub column_there : {A : Type 0} (columns : List Column) (name : List ℕ) → IsTrue (is_int (kind_in columns name)) → column_of columns name ≡ None → A
+column_there {A} columns name h at = by (find (λ (x : Column). same_bytes x.name name) columns) refl
+  where
+    nothing : (n : ℕ) → None ≡ Some n → ⊥
+    nothing n e = cc
+
+    by : (o : Option Column) → find (λ (x : Column). same_bytes x.name name) columns ≡ o → A
+    by None e = absurd (true≢false (sym h ∙ ap (λ o. is_int (option_map (λ (x : Column). x.kind) o)) e))
+    by (Some x) e =
+        absurd (nothing (position_or_len (λ (x : Column). same_bytes x.name name) columns)
+        (sym at ∙ ap (λ b. cond b (Some (position_or_len (λ (x : Column). same_bytes x.name name) columns)) None) (lt-ltb _ _ (found_below (λ (x : Column). same_bytes x.name name) columns x e))))
+
 -- ---- the values of a column
 
 pub stored_values : (n : ℕ) (o : Option StagedRow) → (stored_in n o).values ≡ values_in o

@@ -1,3 +1,4 @@
 pub mod CellLemmas
 pub mod ColumnLemmas
 pub mod SumLemmas
+pub mod TallyLemmas

@@ -1,2 +1,3 @@
 pub mod ValueOrder
 pub mod Fit
+pub mod Tally

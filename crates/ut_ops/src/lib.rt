@@ -4,9 +4,11 @@
 mod best;
 mod cell;
 mod columns;
+mod groups;
 mod ranked;
 mod sums;
 
 pub use best::{greatest, least};
 pub use columns::select;
+pub use groups::group;
 pub use sums::sum;
