@@ -1,16 +1,14 @@
 -- What a row that fits has in a column.
-use Rattle.std.proofs.Common.{ℕ, zero, suc, ◌+◌, ◌<◌, ◌≡◌, ◌≢◌, Bool, true, false, ◌&&◌, List, [], ◌∷◌, length, Option, None, Some, refl, sym, ap, ◌∙◌, arith, slice_get, unwrap_or, IsTrue, ℤ, pos, IfSome, IfNone, T, true≢false}
+use Rattle.std.proofs.Common.{ℕ, zero, suc, ◌<◌, ◌≡◌, ◌≢◌, List, [], ◌∷◌, length, Option, None, Some, refl, sym, ap, ◌∙◌, arith, slice_get, unwrap_or, IsTrue, ℤ, pos, IfSome, IfNone, true≢false}
 use Rattle.std.specs.Option.{option_map}
 use Rattle.std.specs.List.{list_all}
-use Rattle.std.specs.declared.cmp.Ordering.{Ordering}
-use Rattle.std.specs.Int.{w64, to_be_bytes}
 use Rattle.ut_key.specs.Keys.{key_cmp}
 use Rattle.ut_value.specs.declared.value.Value.{Value}
 use Rattle.ut_value.specs.declared.value.Value.TheVariants.{Int, Text}
 use Rattle.ut_value.specs.declared.value.Kind.{Kind}
 use Rattle.ut_value.specs.declared.value.Kind.TheVariants as kinds
 use Rattle.ut_value.specs.declared.value.Column.{Column}
-use Rattle.ut_value.specs.KeyBytes.{is_value, is_of_kind, is_int, int_key, key_of, sign_flipped}
+use Rattle.ut_value.specs.KeyBytes.{is_value, is_of_kind, is_int, int_key, key_of}
 use Rattle.ut_value.specs.KeyOrder.{value_cmp}
 use Rattle.ut_value.proofs.KeyLemmas.{keys_in_order, one_number}
 use Rattle.ut_plain.specs.Tables.{fits_columns}
@@ -18,7 +16,7 @@ use Rattle.ut_plain.proofs.BoolLemmas.{and_left, and_right}
 use Rattle.ut_scan.specs.declared.place.Found.{Found}
 use Rattle.ut_exact.specs.Places.{StagedRow}
 use Rattle.ut_table.specs.Staged.{Staged, row_at}
-use Rattle.ut_ops.specs.Fit.{is_row, values_in, values_at, cell}
+use Rattle.ut_ops.specs.Fit.{is_row, values_in, cell}
 
 kind_at : List Column → ℕ → Option Kind
 kind_at columns c = option_map (λ (x : Column). x.kind) (slice_get columns c)

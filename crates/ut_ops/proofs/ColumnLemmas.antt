@@ -1,5 +1,5 @@
 -- The values of a column, of rows that were found.
-use Rattle.std.proofs.Common.{ℕ, zero, suc, ◌+◌, ◌<◌, ◌≤◌, ◌≡◌, Bool, true, false, not, cond, if◌then◌else◌, List, [], ◌∷◌, length, map, drop, get_or, Option, None, Some, refl, sym, ap, ◌∙◌, arith, slice_get, slice_index_or, unwrap_or, IsTrue, true≢false, lt-ltb}
+use Rattle.std.proofs.Common.{ℕ, zero, suc, ◌+◌, ◌<◌, ◌≡◌, Bool, true, false, not, cond, if◌then◌else◌, List, [], ◌∷◌, length, map, drop, get_or, Option, None, Some, refl, sym, ap, ◌∙◌, arith, slice_get, unwrap_or, IsTrue, true≢false, lt-ltb}
 use Rattle.std.specs.Option.{option_map, option_and_then}
 use Rattle.std.specs.List.{filter_map, find, position_or_len, All, cons_option}
 use Rattle.std.specs.declared.cmp.Ordering.{Ordering}
@@ -62,7 +62,7 @@ numbers_at columns name c h at = by (find (λ (x : Column). same_bytes x.name na
     by None e = absurd (true≢false (sym h ∙ ap (λ o. is_int (option_map (λ (x : Column). x.kind) o)) e))
     by (Some x) e =
         let place : column_of columns name ≡ Some (position_or_len (λ (x : Column). same_bytes x.name name) columns)
-            = ap (λ b. cond b (Some (position_or_len (λ (x : Column). same_bytes x.name name) columns)) None) (lt-ltb _ _ (found_below (λ (x : Column). same_bytes x.name name) columns x e)) in
+        = ap (λ b. cond b (Some (position_or_len (λ (x : Column). same_bytes x.name name) columns)) None) (lt-ltb _ _ (found_below (λ (x : Column). same_bytes x.name name) columns x e)) in
         let same : position_or_len (λ (x : Column). same_bytes x.name name) columns ≡ c = ap (λ o. unwrap_or o c) (sym place ∙ at) in
         ap (λ n. option_map (λ (x : Column). x.kind) (slice_get columns n)) (sym same)
         ∙ ap (option_map (λ (x : Column). x.kind)) (found_at (λ (x : Column). same_bytes x.name name) columns x e)

@@ -2,3 +2,4 @@ pub mod CellLemmas
 pub mod ColumnLemmas
 pub mod SumLemmas
 pub mod TallyLemmas
+pub mod JoinLemmas

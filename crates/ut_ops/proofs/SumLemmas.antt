@@ -1,5 +1,5 @@
 -- Sums of a column, so far and of the rows that are left.
-use Rattle.std.proofs.Common.{◌≡◌, ℤ, ◌+ℤ◌, ℕ, zero, suc, ◌+◌, ◌<◌, List, [], ◌∷◌, length, map, drop, get_or, refl, sym, ap, ◌∙◌, arith}
+use Rattle.std.proofs.Common.{◌≡◌, ℤ, ◌+ℤ◌, ℕ, zero, suc, ◌+◌, ◌<◌, List, [], ◌∷◌, length, map, drop, get_or, sym, ap, ◌∙◌, arith}
 use Rattle.std.proofs.lemmas.Int.{ints}
 use Rattle.ut_value.specs.declared.value.Value.TheVariants.{Int}
 use Rattle.ut_plain.specs.Query.{number_of, total}

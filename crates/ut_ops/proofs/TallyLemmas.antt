@@ -1,12 +1,12 @@
 -- The sums by key are those of the distinct keys.
-use Rattle.std.proofs.Common.{◌≡◌, ℤ, pos, ◌+ℤ◌, neg_ℤ, ◌≤ℤ◌, ℕ, zero, suc, ◌+◌, ◌*◌, ◌<◌, ◌≤◌, Bool, T, true, false, ◌&&◌, cond, List, [], ◌∷◌, length, map, filter, Option, None, Some, refl, sym, ap, ◌∙◌, subst, arith, unwrap_or, IsTrue, true≢false, slice_get, negsuc, ltb-true, ◌^◌, drop, length-drop}
+use Rattle.std.proofs.Common.{◌≡◌, ℤ, pos, ◌+ℤ◌, neg_ℤ, ◌≤ℤ◌, ℕ, zero, suc, ◌*◌, ◌<◌, ◌≤◌, Bool, T, true, false, ◌&&◌, cond, List, [], ◌∷◌, length, map, None, Some, refl, sym, ap, ◌∙◌, subst, arith, unwrap_or, IsTrue, true≢false, slice_get, negsuc, ltb-true, ◌^◌, drop, length-drop}
 use Rattle.std.proofs.lemmas.Int.{ints}
-use Rattle.std.specs.Option.{option_map, option_and_then}
+use Rattle.std.specs.Option.{option_and_then}
 use Rattle.std.specs.List.{filter_map, cons_option}
 use Rattle.std.specs.declared.cmp.Ordering.{Ordering}
 use Rattle.std.specs.declared.cmp.Ordering.TheVariants.{Less, Equal, Greater}
-use Rattle.std.specs.Ordering.{is_eq, is_lt, eq_by_cmp, ordering_reverse, match_ordering}
-use Rattle.std.specs.Cmp.{tied_itself, tied_back}
+use Rattle.std.specs.Ordering.{is_eq, is_lt, ordering_reverse, match_ordering}
+use Rattle.std.specs.Cmp.{tied_itself}
 use Rattle.std.specs.FinMap.{find, put, is_sorted}
 use Rattle.std.specs.FinMap.Entries.{by_order, below_all, is_sorted-put, find-put}
 use Rattle.std.specs.BTreeMap.{insert_entry, is_at}
@@ -16,7 +16,6 @@ use Rattle.ut_value.specs.declared.value.Value.TheVariants.{Int, Text}
 use Rattle.ut_value.specs.declared.value.Column.{Column}
 use Rattle.ut_value.specs.KeyBytes.{is_value}
 use Rattle.ut_value.specs.KeyOrder.{value_cmp}
-use Rattle.ut_plain.specs.declared.reply.Group as group
 use Rattle.ut_plain.specs.declared.table.Stored.{Stored}
 use Rattle.ut_plain.specs.Tables.{column_of}
 use Rattle.ut_plain.specs.Condition.{value_in}
@@ -26,11 +25,10 @@ use Rattle.ut_exact.specs.Scan.{stored_in}
 use Rattle.ut_table.specs.Staged.{Staged, row_at}
 use Rattle.ut_table.specs.Finds.{rows_at}
 use Rattle.ut_ops.specs.ValueOrder.{value_cmp_total, equal_values}
-use Rattle.ut_ops.specs.Fit.{Fit, is_row, cell}
+use Rattle.ut_ops.specs.Fit.{Fit, cell}
 use Rattle.ut_ops.specs.Tally.{sum_of, added, tallies, entry_of, as_group}
 use Rattle.ut_ops.proofs.CellLemmas.{is_cell}
 use Rattle.ut_ops.proofs.ColumnLemmas.{fit_first, fit_rest, stored_cell, values_none, values_some, column_below}
-use Rattle.ut_ops.proofs.SumLemmas.{grouped}
 
 -- ---- a map of std, as this one
 
@@ -55,7 +53,7 @@ abbrev tot : Value → List (Value × ℤ) → ℤ
 tot k [] = pos 0
 tot k (x ∷ xs) = cond (is_eq (value_cmp x.0 k)) (x.1 +ℤ tot k xs) (tot k xs)
 
-equal : (o : Ordering) → is_eq o ≡ true → o ≡ Equal
+pub equal : (o : Ordering) → is_eq o ≡ true → o ≡ Equal
 equal Less h = absurd (true≢false (sym h))
 equal Equal h = refl
 equal Greater h = absurd (true≢false (sym h))
@@ -66,7 +64,7 @@ turn_level Equal = refl
 turn_level Greater = refl
 
 -- it is all one in which order two values are compared
-eq_turned : (v w : Value) → is_eq (value_cmp v w) ≡ is_eq (value_cmp w v)
+pub eq_turned : (v w : Value) → is_eq (value_cmp v w) ≡ is_eq (value_cmp w v)
 eq_turned v w = ap is_eq (value_cmp_total.antisymm v w) ∙ turn_level (value_cmp w v)
 
 sum_of-added : (q k : Value) (n : ℤ) (es : List (Value × ℤ)) → sum_of q (added k n es) ≡ cond (is_eq (value_cmp q k)) (n +ℤ sum_of k es) (sum_of q es)

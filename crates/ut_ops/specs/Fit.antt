@@ -1,12 +1,11 @@
 -- Found rows that are there and fit the columns of their table.
-use Rattle.std.specs.Prelude.{ℕ, ◌≡◌, Bool, true, false, ◌&&◌, ℤ, pos, List, [], length, slice_get, unwrap_or, Option, None, Some, IsTrue, All}
+use Rattle.std.specs.Prelude.{ℕ, Bool, false, ◌&&◌, pos, List, [], slice_get, unwrap_or, Option, None, Some, IsTrue, All}
 use Rattle.std.specs.List.{list_all}
 use Rattle.ut_value.specs.declared.value.Value.{Value}
-use Rattle.ut_value.specs.declared.value.Value.TheVariants.{Int, Text}
+use Rattle.ut_value.specs.declared.value.Value.TheVariants.{Int}
 use Rattle.ut_value.specs.declared.value.Column.{Column}
 use Rattle.ut_value.specs.KeyBytes.{is_value}
 use Rattle.ut_plain.specs.Tables.{fits_columns}
-use Rattle.ut_scan.specs.declared.place.Place.{Place}
 use Rattle.ut_scan.specs.declared.place.Found.{Found}
 use Rattle.ut_exact.specs.Places.{StagedRow}
 use Rattle.ut_table.specs.Staged.{Staged, row_at}

@@ -37,11 +37,7 @@ pub fn select(
     }
 }
 
-fn all_columns(
-    alloc: Global,
-    table: &Table,
-    hits: &[Found],
-) -> Result<Seq<Seq<Value>>, AllocError>
+fn all_columns(alloc: Global, table: &Table, hits: &[Found]) -> Result<Seq<Seq<Value>>, AllocError>
     requires { Fit table.now.stages hits.now }
     ensures { IfOk result (λ rows. rows ≡ map (values_at table.now.stages) hits.now) }
 {

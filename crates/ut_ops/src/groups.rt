@@ -64,11 +64,7 @@ fn sums_by_key(
     Ok(sums)
 }
 
-fn add(
-    sums: &mut BTreeMap<Ranked, i128>,
-    key: Ranked,
-    number: i64,
-) -> Result<(), AllocError>
+fn add(sums: &mut BTreeMap<Ranked, i128>, key: Ranked, number: i64) -> Result<(), AllocError>
     requires low { neg_ℤ (pos 19807040628566084398385987584) ≤ℤ sum_of key sums.old.entries }
     requires high { sum_of key sums.old.entries ≤ℤ pos 19807040628566084398385987584 }
     ensures { OnOk result (sums.new.entries ≡ added key number sums.old.entries) }

@@ -5,10 +5,12 @@ mod best;
 mod cell;
 mod columns;
 mod groups;
+mod joins;
 mod ranked;
 mod sums;
 
 pub use best::{greatest, least};
 pub use columns::select;
 pub use groups::group;
+pub use joins::join;
 pub use sums::sum;
