@@ -10,3 +10,10 @@ pub mod TableLemmas
 pub mod HitLemmas
 pub mod MadeLemmas
 pub mod EarlyLemmas
+pub mod NumberLemmas
+pub mod TransactionLemmas
+pub mod NamedLemmas
+pub mod CreateLemmas
+pub mod PlaceTurnLemmas
+pub mod RestoredLemmas
+pub mod AskLemmas

@@ -58,7 +58,7 @@ staging-then a b c t bulk next os ps x y = record {
 
 -- ---- stages of one table among all
 
-map-set : {X Y : Type 0} (f : X → Y) (xs : List X) (n : ℕ) (x : X) → map f (slice_set xs n x) ≡ slice_set (map f xs) n (f x)
+pub map-set : {X Y : Type 0} (f : X → Y) (xs : List X) (n : ℕ) (x : X) → map f (slice_set xs n x) ≡ slice_set (map f xs) n (f x)
 map-set f [] n x = refl
 map-set f (y ∷ xs) zero x = refl
 map-set f (y ∷ xs) (suc n) x = ap (λ ys. f y ∷ ys) (map-set f xs n x)

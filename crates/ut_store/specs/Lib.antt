@@ -7,3 +7,4 @@ pub mod Allowed
 pub mod Hits
 pub mod Early
 pub mod Standing
+pub mod Created

@@ -37,6 +37,14 @@ abbrev pub suits_session : ℕ → Statement → Bool
 suits_session zero st = is_of_store st
 suits_session (suc session) st = true
 
+-- whether a statement changes rows
+abbrev pub changes_rows : Statement → Bool
+changes_rows (statements.Insert name values) = true
+changes_rows (statements.Bulk name values) = true
+changes_rows (statements.Update name column value preds) = true
+changes_rows (statements.Delete name preds) = true
+changes_rows _ = false
+
 -- The store has these tables, their rows, and these counts. Nobody has a transaction: a row was committed before all else, or is nobody's.
 pub record Restored (tables : List Table) (staged : List Staged) (next_id rows_limit commits entries : ℕ) (e : Held) : Type 0 where
   pub has_tables : e.tables ≡ tables

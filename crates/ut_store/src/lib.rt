@@ -1,7 +1,11 @@
 //! The store in memory.
 #![tactic(auto)]
 
+mod awaited;
+mod statement;
 mod store;
+mod tables;
+mod transactions;
 mod turn;
 
 pub use store::Store;

@@ -12,6 +12,9 @@ use ut_stamps::Fates;
 use ut_table::Table as Stages;
 use ut_txn::Sessions;
 
+/// The id of the first row.
+const FIRST_ID: u32 = 1;
+
 /// A store in memory. Sessions 1 to 16 have transactions; session 0 has the statements of the store.
 #[derive(Drop)]
 pub struct Store {
@@ -47,6 +50,22 @@ impl Model for Store {
 }
 
 impl Store {
+    /// A store without tables, which gives at most so many ids.
+    pub fn new(alloc: Global, rows_limit: u32) -> Result<Store, AllocError>
+        requires { rows_limit ≤ 2 ^ 31 }
+        ensures { IfOk result (λ s. StandsFor s (new_store rows_limit)) }
+    {
+        Store::restored(
+            alloc,
+            Vec::new(alloc),
+            Vec::new(alloc),
+            FIRST_ID,
+            rows_limit,
+            0,
+            0,
+        )
+    }
+
     /// A store with these tables and their rows, in which nobody has a transaction. The ids from `next_id` on are free.
     pub fn restored(
         alloc: Global,

@@ -1,0 +1,49 @@
+-- What follows where a statement names tables that are there.
+use Rattle.std.proofs.Common.{ℕ, ◌<◌, ◌≡◌, Bool, true, false, List, length, map, Option, None, Some, refl, sym, ap, ◌∙◌, arith, unwrap_or, IsTrue, slice_get, get_or}
+use Rattle.std.proofs.lemmas.List.{length-map}
+use Rattle.std.proofs.lemmas.Option.{slice_get_read}
+use Rattle.ut_value.specs.Text.{same_bytes}
+use Rattle.ut_value.specs.declared.value.Column.{Column}
+use Rattle.ut_plain.specs.declared.table.Table.{Table}
+use Rattle.ut_plain.specs.declared.statement.Statement.{Statement}
+use Rattle.ut_plain.specs.declared.reply.Refusal.{Refusal}
+use Rattle.ut_plain.specs.declared.reply.Refusal.TheVariants.{Syntax, Name}
+use Rattle.ut_plain.specs.Names.{names_known}
+use Rattle.ut_plain.specs.Refusals.{is_supported, unless, or_else}
+use Rattle.ut_plain.specs.Plain.{Plain}
+use Rattle.ut_plain.specs.View.{view}
+use Rattle.ut_plain.specs.Tables.{place_of, place_in}
+use Rattle.ut_plain.proofs.ListLemmas.{position_below}
+use Rattle.ut_table.specs.Staged.{Staged, TableValue}
+use Rattle.ut_store.specs.Held.{Held}
+use Rattle.ut_store.specs.Stands.{StandsFor}
+use Rattle.ut_store.specs.Standing.{Stands}
+use Rattle.ut_store.specs.Early.{early_refusal}
+
+-- a statement that passes has names that are known
+pub named : (e : Held) (session : ℕ) (st : Statement) → early_refusal e session st ≡ None → IsTrue (names_known e.tables st)
+named e session st h = by (is_supported st) (names_known e.tables st) _ h
+  where
+    by : (a b : Bool) (r : Option Refusal) → or_else (unless a Syntax) (or_else (unless b Name) r) ≡ None → IsTrue b
+    by true true r h = refl
+    by true false r h = cc
+    by false b r h = cc
+
+-- each table has its stages
+pub staged_count : (e : Held) → Stands e → length e.staged ≡ length e.tables
+staged_count e st = sym (length-map e.staged (λ (s : Staged). s.columns)) ∙ ap (λ (cs : List (List Column)). length cs) st.stands.rows.columns ∙ length-map e.tables (λ (t : Table). t.columns)
+
+-- the place of a name is the plain one
+pub place-is : (e : Held) (session : ℕ) (name : List ℕ) (place : ℕ) → place_of e.tables name ≡ Some place → (p : Plain) → StandsFor e p → place_in (view p session).tables name ≡ place
+place-is e session name place is p s = ap (λ (ts : List Table). place_in ts name) (sym s.counts.tables) ∙ ap (λ (o : Option ℕ). unwrap_or o 0) is
+
+-- the place of a name is that of some stages
+pub place_within : (e : Held) (items : List TableValue) (name : List ℕ) (place : ℕ) → Stands e → e.staged ≡ map (λ (t : TableValue). t.stages) items → place_of e.tables name ≡ Some place → place < length items
+place_within e items name place st are is =
+    let below = position_below (λ (table : Table). same_bytes table.name name) e.tables place is in
+    omega (arith, below, staged_count e st, ap (λ (x : List Staged). length x) are, length-map items (λ (t : TableValue). t.stages))
+
+-- so the table that is read there is one of them
+pub table_read : (e : Held) (items : List TableValue) (name : List ℕ) (place : ℕ) (t : TableValue) → Stands e → e.staged ≡ map (λ (x : TableValue). x.stages) items → place_of e.tables name ≡ Some place
+    → t ≡ get_or items place t → slice_get items place ≡ Some t
+table_read e items name place t st are at is = slice_get_read items (length items) place t refl (place_within e items name place st are at) is

@@ -1,0 +1,33 @@
+-- The numbers of a store are far from the end of their types.
+use Rattle.std.proofs.Common.{ℕ, ◌+◌, ◌<◌, ◌≤◌, ◌≡◌, length, arith, sym, ap, ◌∙◌}
+use Rattle.ut_plain.specs.State.{IsState}
+use Rattle.ut_plain.specs.Journal.{current, journal_len}
+use Rattle.ut_plain.specs.Plain.{Plain}
+use Rattle.ut_plain.proofs.JournalLaws.{length-current}
+use Rattle.ut_plain.proofs.StateLaws.{IsState-current}
+use Rattle.ut_store.specs.Held.{Held}
+use Rattle.ut_store.specs.Stands.{StandsFor}
+use Rattle.ut_store.specs.Standing.{Stands}
+
+-- bounds of the numbers that a store counts
+pub record AreSmall (e : Held) : Type 0 where
+  pub entries : e.entries ≤ 1073741824
+  pub commits : e.commits ≤ e.entries
+  pub next_id : e.next_id ≤ 2147483649
+  pub rows_limit : e.rows_limit ≤ 2147483648
+  pub tables : length e.tables ≤ 256
+
+pub are_small : (e : Held) → Stands e → AreSmall e
+are_small e st =
+    let p = st.plain in
+    let s = st.stands in
+    let now : IsState (current p.journal) = IsState-current p.journal s.plain.base s.plain.journal in
+    let sums = now.counts in
+    let count = length-current p.journal in
+    record {
+      entries = omega (arith, s.counts.entries, s.plain.short);
+      commits = omega (arith, s.counts.entries, s.counts.commits, sums, count);
+      next_id = omega (arith, s.counts.next_id, s.plain.last);
+      rows_limit = omega (arith, s.counts.rows_limit, s.plain.limit);
+      tables = omega (arith, now.few, ap length s.counts.tables);
+    }

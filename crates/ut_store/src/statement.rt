@@ -1,0 +1,110 @@
+//! Statements: what refuses one before any row is looked at, and what answers it.
+ghost use Rattle.std.specs.Prelude.{◌≡◌, ◌<◌, None, is_some, option_map, IsTrue};
+ghost use Rattle.ut_plain.specs.declared.statement.Statement.TheVariants as statements;
+ghost use Rattle.ut_plain.specs.Refusals.{state_why};
+ghost use Rattle.ut_plain.specs.Spelled.{is_spelled};
+ghost use Rattle.ut_txn.specs.Seats.{opened_at};
+ghost use Rattle.ut_store.specs.Early.{early_refusal};
+ghost use Rattle.ut_store.specs.Standing.{Stands, suits_session, changes_rows};
+ghost use Rattle.ut_store.specs.Answers.{Answers};
+
+use crate::store::Store;
+use crate::turn::Turn;
+use std::alloc::Global;
+use ut_plain::{Query, Refusal, Reply, Statement, is_supported, kinds_fit, names_known, state_why};
+
+impl Store {
+    /// Answers a statement of a session. Where the answer says so, the log has to append the store's frame before the reply
+    /// is handed out. A commit and an abort take no memory.
+    pub fn statement(&mut self, alloc: Global, session: u8, st: &Statement) -> Turn
+        requires seat { session < 17 }
+        requires suits { IsTrue (suits_session session st.now) }
+        requires spelled { IsTrue (is_spelled st.now) }
+        requires stands { Stands self.old }
+        ensures { Answers self.old session st.now result self.new }
+    {
+        match self.early_refusal(session, st) {
+            Some(why) => Turn::Answered(Reply::Refused(why)),
+            None => self.carry_out(alloc, session, st),
+        }
+    }
+
+    // A statement that no early refusal stops.
+    fn carry_out(&mut self, alloc: Global, session: u8, st: &Statement) -> Turn
+        requires seat { session < 17 }
+        requires suits { IsTrue (suits_session session st.now) }
+        requires spelled { IsTrue (is_spelled st.now) }
+        requires stands { Stands self.old }
+        requires early { early_refusal self.old session st.now ≡ None }
+        ensures { Answers self.old session st.now result self.new }
+    {
+        if changes_rows(st) {
+            return self.change(alloc, session, st);
+        }
+        match st {
+            Statement::Create { table, columns } => self.create(alloc, session, table, columns),
+            Statement::Ask(query) => self.tell(alloc, session, query),
+            Statement::Begin => self.begin(session),
+            Statement::Commit => self.commit(session),
+            Statement::Abort => self.abort(session),
+            Statement::MergeL1 { table, n } => self.merge_l1(session, table, *n),
+            Statement::Shape { table } => self.shape(alloc, session, table),
+            _ => Turn::Answered(Reply::Refused(Refusal::Syntax)),
+        }
+    }
+
+    // What is asked, or that memory ran out.
+    fn tell(&self, alloc: Global, session: u8, query: &Query) -> Turn
+        requires seat { session < 17 }
+        requires spelled { IsTrue (is_spelled (statements.Ask query.now)) }
+        requires stands { Stands self.now }
+        requires early { early_refusal self.now session (statements.Ask query.now) ≡ None }
+        ensures { Answers self.now session (statements.Ask query.now) result self.now }
+    {
+        match self.ask(alloc, session, query) {
+            Ok(reply) => Turn::Answered(reply),
+            Err(_) => Turn::Answered(Reply::Refused(Refusal::Memory)),
+        }
+    }
+
+    /// The refusal of names, of kinds or of the session's state that a statement gets before any row is looked at.
+    pub(crate) fn early_refusal(&self, session: u8, st: &Statement) -> Option<Refusal>
+        requires { session < 17 }
+        ensures { result ≡ early_refusal self.now session st.now }
+    {
+        if !is_supported(st) {
+            return Some(Refusal::Syntax);
+        }
+        if !names_known(&self.tables, st) {
+            return Some(Refusal::Name);
+        }
+        if !kinds_fit(&self.tables, st) {
+            return Some(Refusal::Kind);
+        }
+        self.state_refusal(session, st)
+    }
+
+    // The refusal of a statement that the session's transaction, or its lack of one, gives.
+    fn state_refusal(&self, session: u8, st: &Statement) -> Option<Refusal>
+        requires { session < 17 }
+        ensures { result ≡ option_map Refusal.State (state_why (is_some (opened_at self.now.seats session)) st.now) }
+    {
+        match state_why(self.sessions.opened(session).is_some(), st) {
+            Some(why) => Some(Refusal::State(why)),
+            None => None,
+        }
+    }
+}
+
+// Whether a statement changes rows.
+fn changes_rows(st: &Statement) -> bool
+    ensures { result ≡ changes_rows st.now }
+{
+    match st {
+        Statement::Insert { .. } => true,
+        Statement::Bulk { .. } => true,
+        Statement::Update { .. } => true,
+        Statement::Delete { .. } => true,
+        _ => false,
+    }
+}
