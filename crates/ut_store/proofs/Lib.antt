@@ -17,3 +17,6 @@ pub mod CreateLemmas
 pub mod PlaceTurnLemmas
 pub mod RestoredLemmas
 pub mod AskLemmas
+pub mod SeenRowLemmas
+pub mod ShownLemmas
+pub mod QuestionLemmas

@@ -1,6 +1,7 @@
 //! The store in memory.
 #![tactic(auto)]
 
+mod ask;
 mod awaited;
 mod statement;
 mod store;
