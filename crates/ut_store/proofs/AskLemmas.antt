@@ -6,7 +6,6 @@ use Rattle.ut_plain.specs.declared.reply.Reply.{Reply}
 use Rattle.ut_plain.specs.Plain.{Plain}
 use Rattle.ut_plain.specs.View.{view}
 use Rattle.ut_plain.specs.Query.{told}
-use Rattle.ut_plain.specs.Step.{Stepped}
 use Rattle.ut_plain.specs.Spelled.{is_spelled}
 use Rattle.ut_store.specs.declared.turn.Turn.TheVariants.{Answered}
 use Rattle.ut_store.specs.Held.{Held}

@@ -20,3 +20,5 @@ pub mod AskLemmas
 pub mod SeenRowLemmas
 pub mod ShownLemmas
 pub mod QuestionLemmas
+pub mod ScanLemmas
+pub mod ListedLemmas

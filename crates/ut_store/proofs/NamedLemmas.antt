@@ -1,7 +1,8 @@
 -- What follows where a statement names tables that are there.
 use Rattle.std.proofs.Common.{ℕ, ◌<◌, ◌≡◌, Bool, true, false, List, length, map, Option, None, Some, refl, sym, ap, ◌∙◌, arith, unwrap_or, IsTrue, slice_get, get_or}
 use Rattle.std.proofs.lemmas.List.{length-map}
-use Rattle.std.proofs.lemmas.Option.{slice_get_read}
+use Rattle.std.proofs.lemmas.Option.{slice_get_read, slice_get-map}
+use Rattle.std.specs.Option.{option_map}
 use Rattle.ut_value.specs.Text.{same_bytes}
 use Rattle.ut_value.specs.declared.value.Column.{Column}
 use Rattle.ut_plain.specs.declared.table.Table.{Table}
@@ -47,3 +48,15 @@ place_within e items name place st are is =
 pub table_read : (e : Held) (items : List TableValue) (name : List ℕ) (place : ℕ) (t : TableValue) → Stands e → e.staged ≡ map (λ (x : TableValue). x.stages) items → place_of e.tables name ≡ Some place
     → t ≡ get_or items place t → slice_get items place ≡ Some t
 table_read e items name place t st are at is = slice_get_read items (length items) place t refl (place_within e items name place st are at) is
+
+-- the place of a name, as it was looked up
+pub looked_up : (e now : Held) (tables : List Table) (name : List ℕ) (found : Option ℕ) (place : ℕ) → e ≡ now → tables ≡ e.tables → found ≡ place_of tables name → found ≡ Some place → place_of now.tables name ≡ Some place
+looked_up e now tables name found place same are is some =
+    ap (λ (x : Held). place_of x.tables name) (sym same) ∙ ap (λ (ts : List Table). place_of ts name) (sym are) ∙ sym is ∙ some
+
+-- the stages of the table that is read there
+pub staged_read : (e now : Held) (items : List TableValue) (name : List ℕ) (place : ℕ) (t : TableValue) → e ≡ now → Stands now → e.staged ≡ map (λ (x : TableValue). x.stages) items → place_of now.tables name ≡ Some place
+    → t ≡ get_or items place t → slice_get now.staged place ≡ Some t.stages
+staged_read e now items name place t same st are at is =
+    let all : now.staged ≡ map (λ (x : TableValue). x.stages) items = ap (λ (x : Held). x.staged) (sym same) ∙ are in
+    ap (λ (s : List Staged). slice_get s place) all ∙ slice_get-map (λ (x : TableValue). x.stages) items place ∙ ap (option_map (λ (x : TableValue). x.stages)) (table_read now items name place t st all at is)

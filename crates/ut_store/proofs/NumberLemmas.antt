@@ -1,12 +1,10 @@
 -- The numbers of a store are far from the end of their types.
-use Rattle.std.proofs.Common.{ℕ, ◌+◌, ◌<◌, ◌≤◌, ◌≡◌, length, arith, sym, ap, ◌∙◌}
+use Rattle.std.proofs.Common.{◌≤◌, length, arith, ap}
 use Rattle.ut_plain.specs.State.{IsState}
-use Rattle.ut_plain.specs.Journal.{current, journal_len}
-use Rattle.ut_plain.specs.Plain.{Plain}
+use Rattle.ut_plain.specs.Journal.{current}
 use Rattle.ut_plain.proofs.JournalLaws.{length-current}
 use Rattle.ut_plain.proofs.StateLaws.{IsState-current}
 use Rattle.ut_store.specs.Held.{Held}
-use Rattle.ut_store.specs.Stands.{StandsFor}
 use Rattle.ut_store.specs.Standing.{Stands}
 
 -- bounds of the numbers that a store counts

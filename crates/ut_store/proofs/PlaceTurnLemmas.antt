@@ -1,23 +1,22 @@
 -- What merge_l1 and shape answer, from what their steps promise.
-use Rattle.std.proofs.Common.{ℕ, ◌<◌, ◌≡◌, List, [], length, map, min, Option, None, Some, refl, sym, ap, ◌∙◌, subst, arith, IsTrue, slice_get, slice_set}
+use Rattle.std.proofs.Common.{ℕ, ◌<◌, ◌≡◌, List, [], length, map, min, None, Some, refl, sym, ap, ◌∙◌, subst, IsTrue, slice_get, slice_set}
 use Rattle.std.proofs.lemmas.List.{length-map}
 use Rattle.std.proofs.lemmas.Option.{slice_get-map}
 use Rattle.std.specs.Option.{option_map}
-use Rattle.ut_plain.specs.declared.statement.Statement.{Statement}
 use Rattle.ut_plain.specs.declared.statement.Statement.TheVariants.{MergeL1, Shape}
 use Rattle.ut_plain.specs.declared.reply.Reply.TheVariants as replies
 use Rattle.ut_plain.specs.declared.reply.Refusal.TheVariants as refusals
 use Rattle.ut_plain.specs.Spelled.{is_spelled}
 use Rattle.ut_plain.specs.Plain.{Plain}
 use Rattle.ut_plain.specs.Stages.{Stages, stages_at, shape_of}
-use Rattle.ut_plain.specs.Tables.{place_of, place_in}
-use Rattle.ut_plain.specs.Step.{Stepped, effect_of}
+use Rattle.ut_plain.specs.Tables.{place_of}
+use Rattle.ut_plain.specs.Step.{effect_of}
 use Rattle.ut_table.specs.Staged.{Staged, TableValue, merged_l1}
 use Rattle.ut_store.specs.declared.turn.Turn.TheVariants.{Answered}
 use Rattle.ut_store.specs.Held.{Held}
 use Rattle.ut_store.specs.Stands.{StandsFor, placed_of, stages_of}
 use Rattle.ut_store.specs.Early.{early_refusal}
-use Rattle.ut_store.specs.Answers.{Answers, Same}
+use Rattle.ut_store.specs.Answers.{Answers}
 use Rattle.ut_store.proofs.EarlyLemmas.{allowed}
 use Rattle.ut_store.proofs.ListLemmas.{set-same}
 use Rattle.ut_store.proofs.NamedLemmas.{place-is}

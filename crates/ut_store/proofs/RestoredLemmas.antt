@@ -1,25 +1,22 @@
 -- A store that was just made stands for the plain state without tables.
-use Rattle.std.proofs.Common.{ℕ, zero, suc, ◌+◌, ◌<◌, ◌≤◌, ◌≡◌, List, [], ◌∷◌, length, map, replicate, max, Option, None, Some, refl, sym, ap, ◌∙◌, subst, arith, slice_get}
+use Rattle.std.proofs.Common.{ℕ, zero, suc, ◌+◌, ◌≤◌, ◌≡◌, List, [], length, map, replicate, max, None, Some, refl, sym, ap, ◌∙◌, subst, arith}
 use Rattle.std.specs.Ordering.{nat_cmp}
-use Rattle.std.specs.Option.{option_map, option_and_then}
 use Rattle.std.specs.FinMap as finmap
-use Rattle.ut_value.specs.declared.value.Column.{Column}
 use Rattle.ut_value.specs.declared.entry.Entry.TheVariants.{Txn}
 use Rattle.ut_value.specs.Spelling.{spelling}
 use Rattle.ut_plain.specs.declared.table.Table.{Table}
 use Rattle.ut_plain.specs.declared.table.Stored.{Stored}
 use Rattle.ut_plain.specs.Journal.{empty_journal, load_of}
-use Rattle.ut_plain.specs.Plain.{Plain, Sessions, no_sessions, open_at, new_store}
+use Rattle.ut_plain.specs.Plain.{no_sessions, open_at, new_store}
 use Rattle.ut_plain.specs.View.{own_ops}
 use Rattle.ut_plain.proofs.OpenedLaws.{IsPlain-new}
 use Rattle.ut_scan.specs.declared.place.Place.{Place}
 use Rattle.ut_stamps.specs.declared.fates.Fate.{Fate}
-use Rattle.ut_stamps.specs.declared.fates.Fate.TheVariants.{Committed, Aborted}
 use Rattle.ut_stamps.specs.Stamps.{fate_at}
 use Rattle.ut_exact.specs.Exact.{IsExact, AreOpen}
 use Rattle.ut_exact.specs.Places.{StagedRow, AreHeld, dead_number}
 use Rattle.ut_exact.proofs.OpenLemmas.{IsExact-opened, AreOpen-opened}
-use Rattle.ut_table.specs.Staged.{Staged, row_at}
+use Rattle.ut_table.specs.Staged.{Staged}
 use Rattle.ut_txn.specs.Seats.{AreEmpty, number_at}
 use Rattle.ut_store.specs.Held.{Held, place_at}
 use Rattle.ut_store.specs.Stands.{StandsFor, AreSeats, opened_snapshot, snapshot_of, stages_of}

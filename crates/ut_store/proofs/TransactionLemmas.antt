@@ -1,11 +1,10 @@
 -- What begin, abort and commit answer, from what their steps promise of the parts.
-use Rattle.std.proofs.Common.{ℕ, ◌+◌, ◌<◌, ◌≤◌, ◌≡◌, ◌≢◌, Bool, true, false, List, [], ◌∷◌, ◌++◌, length, Option, None, Some, refl, sym, ap, ◌∙◌, subst, arith, IsTrue, slice_set, nat_lt, is_some}
+use Rattle.std.proofs.Common.{ℕ, ◌+◌, ◌<◌, ◌≤◌, ◌≡◌, ◌≢◌, Bool, true, false, List, [], ◌∷◌, ◌++◌, length, Option, None, Some, refl, sym, ap, ◌∙◌, subst, IsTrue, slice_set, nat_lt, is_some}
 use Rattle.std.proofs.lemmas.Bool.{lt-ltb, le-ltb}
 use Rattle.std.specs.Option.{option_map}
 use Rattle.ut_value.specs.declared.entry.Op.{Op}
 use Rattle.ut_value.specs.declared.entry.Entry.TheVariants as entries
 use Rattle.ut_value.specs.Spelling.{spelling}
-use Rattle.ut_plain.specs.declared.statement.Statement.{Statement}
 use Rattle.ut_plain.specs.declared.statement.Statement.TheVariants.{Begin, Commit, Abort}
 use Rattle.ut_plain.specs.declared.reply.Reply.TheVariants as replies
 use Rattle.ut_plain.specs.declared.reply.Refusal.TheVariants as refusals
@@ -26,7 +25,7 @@ use Rattle.ut_store.specs.Standing.{Stands}
 use Rattle.ut_store.specs.Early.{early_refusal}
 use Rattle.ut_store.specs.Answers.{Answers, Same}
 use Rattle.ut_store.proofs.EarlyLemmas.{allowed, full}
-use Rattle.ut_store.proofs.StandsLemmas.{began, gave_up, committed_nothing, no_memory, refused, itself_same, open_on, IsOpenOn, By, number_is, no_payload}
+use Rattle.ut_store.proofs.StandsLemmas.{began, gave_up, committed_nothing, refused, itself_same, open_on, IsOpenOn, By, number_is, no_payload}
 use Rattle.ut_store.proofs.ChangeLemmas.{committed_something}
 
 -- ---- whether the session is in a transaction

@@ -8,3 +8,4 @@ pub mod Hits
 pub mod Early
 pub mod Standing
 pub mod Created
+pub mod Listed

@@ -3,6 +3,8 @@
 
 mod ask;
 mod awaited;
+mod readers;
+mod scan;
 mod statement;
 mod store;
 mod tables;

@@ -38,15 +38,16 @@ impl Model for Store {
     ghost Value = { Held };
 
     ghost view = { λ s. record {
-        tables = s.tables.items;
-        staged = map (λ (t : TableValue). t.stages) s.stages.items;
-        fates = s.fates;
-        seats = s.sessions;
-        next_id = s.next_id;
-        rows_limit = s.rows_limit;
-        commits = s.commits;
-        entries = s.entries;
-        frame = s.frame.payload } };
+      tables = s.tables.items;
+      staged = map (λ (t : TableValue). t.stages) s.stages.items;
+      fates = s.fates;
+      seats = s.sessions;
+      next_id = s.next_id;
+      rows_limit = s.rows_limit;
+      commits = s.commits;
+      entries = s.entries;
+      frame = s.frame.payload;
+    } };
 }
 
 impl Store {

@@ -40,8 +40,8 @@ impl Store {
         requires early { early_refusal self.old session Abort ≡ None }
         ensures { Answers self.old session Abort result self.new }
     {
-        let opened = self.sessions.opened(session).unwrap();
-        self.fates.abort(opened.number);
+        let given_up = self.sessions.opened(session).unwrap();
+        self.fates.abort(given_up.number);
         self.sessions.close(session);
         Turn::Answered(Reply::Done)
     }

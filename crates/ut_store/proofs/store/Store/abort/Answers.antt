@@ -11,10 +11,10 @@ use Rattle.ut_store.proofs.TransactionLemmas.{runs, gave_up_now}
 use Rattle.ut_store.proofs.store.Store.abort.Goals as goal
 
 pub abort-requires : goal.abort-requires
-abort-requires c = runs (the_view c.self.inside) c.args.session c.unwrap-opened.result (subst Stands (sym c.self.view_is) c.requires.stands) (sym c.opened.ensures ∙ c.unwrap-opened.ensures)
+abort-requires c = runs (the_view c.self.inside) c.args.session c.unwrap-given_up.result (subst Stands (sym c.self.view_is) c.requires.stands) (sym c.opened.ensures ∙ c.unwrap-given_up.ensures)
 
 pub returns : goal.returns
 returns c =
     subst (λ (e : Held). Answers e c.args.session Abort (Answered Done) (record (the_view c.self.inside) { fates = c.abort.new.self; seats = c.close.new.self })) c.self.view_is
-    (gave_up_now (the_view c.self.inside) c.abort.new.self c.close.new.self c.args.session c.unwrap-opened.result c.requires.inside c.requires.seat
-    (subst (λ (e : Held). early_refusal e c.args.session Abort ≡ None) (sym c.self.view_is) c.requires.early) (sym c.opened.ensures ∙ c.unwrap-opened.ensures) c.abort.ensures c.close.ensures)
+    (gave_up_now (the_view c.self.inside) c.abort.new.self c.close.new.self c.args.session c.unwrap-given_up.result c.requires.inside c.requires.seat
+    (subst (λ (e : Held). early_refusal e c.args.session Abort ≡ None) (sym c.self.view_is) c.requires.early) (sym c.opened.ensures ∙ c.unwrap-given_up.ensures) c.abort.ensures c.close.ensures)

@@ -1,8 +1,7 @@
-use Rattle.std.proofs.Common.{◌≡◌, ◌≤◌, None, true, length, nat_lt, sym, ◌∙◌, subst}
+use Rattle.std.proofs.Common.{◌≡◌, None, sym, ◌∙◌, subst}
 use Rattle.ut_plain.specs.declared.statement.Statement.TheVariants.{Commit}
 use Rattle.ut_plain.specs.declared.reply.Reply.TheVariants.{Refused}
 use Rattle.ut_plain.specs.declared.reply.Refusal.TheVariants.{Full}
-use Rattle.ut_txn.specs.Seats.{payload_at}
 use Rattle.ut_store.specs.Answers.{Answers}
 use Rattle.ut_store.specs.Early.{early_refusal}
 use Rattle.ut_store.specs.Held.{Held}

@@ -1,4 +1,4 @@
-use Rattle.std.proofs.Common.{◌≡◌, ◌<◌, ◌≤◌, ◌+◌, None, true, length, nat_lt, sym, ◌∙◌, subst, arith}
+use Rattle.std.proofs.Common.{◌≡◌, ◌<◌, ◌+◌, None, true, length, nat_lt, sym, ◌∙◌, subst, arith}
 use Rattle.ut_plain.specs.declared.statement.Statement.TheVariants.{Commit}
 use Rattle.ut_plain.specs.declared.reply.Reply.TheVariants.{Committed}
 use Rattle.ut_txn.specs.Seats.{payload_at}

@@ -16,11 +16,11 @@ pub returns-then-len-ge-TABLES_LIMIT : goal.returns-then-len-ge-TABLES_LIMIT
 returns-then-len-ge-TABLES_LIMIT c =
     elim c.then-len-ge-TABLES_LIMIT.branch [
       | then-len-ge-TABLES_LIMIT-via-then-len-ge-TABLES_LIMIT w ↦
-        create_full c.args.self.now c.args.session c.args.table.now c.args.columns.now c.requires.seat c.requires.early
-        (inl (subst (λ (e : Held). 256 ≤ length e.tables) c.self.view_is (omega (arith, c.len.ensures, w.if-len-ge-TABLES_LIMIT.true))))
+          create_full c.args.self.now c.args.session c.args.table.now c.args.columns.now c.requires.seat c.requires.early
+          (inl (subst (λ (e : Held). 256 ≤ length e.tables) c.self.view_is (omega (arith, c.len.ensures, w.if-len-ge-TABLES_LIMIT.true))))
       | then-len-ge-TABLES_LIMIT-via-else-len-ge-TABLES_LIMIT+then-self-ge-ENTRIES_LIMIT w ↦
-        create_full c.args.self.now c.args.session c.args.table.now c.args.columns.now c.requires.seat c.requires.early
-        (inr (subst (λ (e : Held). 1073741823 ≤ e.entries) c.self.view_is w.if-self-ge-ENTRIES_LIMIT.true))
+          create_full c.args.self.now c.args.session c.args.table.now c.args.columns.now c.requires.seat c.requires.early
+          (inr (subst (λ (e : Held). 1073741823 ≤ e.entries) c.self.view_is w.if-self-ge-ENTRIES_LIMIT.true))
     ]
 
 pub add_table-requires-clause-spelled : goal.add_table-requires-clause-spelled
@@ -46,10 +46,10 @@ returns c =
     let short = subst (λ (e : Held). e.entries < 1073741823) c.self.view_is c.if-self-ge-ENTRIES_LIMIT.false in
     elim c.match-add_table.branch [
       | in-Err w ↦
-        subst (λ (turn : Turn). Answers c.args.self.now c.args.session (Create c.args.table.now c.args.columns.now) turn c.add_table.new.self) (sym w.result-is)
-        (no_memory c.args.self.now c.add_table.new.self c.args.session (Create c.args.table.now c.args.columns.now) refl w.in-Err.ensures.err)
+          subst (λ (turn : Turn). Answers c.args.self.now c.args.session (Create c.args.table.now c.args.columns.now) turn c.add_table.new.self) (sym w.result-is)
+          (no_memory c.args.self.now c.add_table.new.self c.args.session (Create c.args.table.now c.args.columns.now) refl w.in-Err.ensures.err)
       | in-Ok w ↦
-        subst (λ (turn : Turn). Answers c.args.self.now c.args.session (Create c.args.table.now c.args.columns.now) turn c.add_table.new.self)
-        (sym (w.result-is ∙ ap (λ (e : Held). Append (Committed e.commits)) c.self-2.view_is))
-        (created_now c.args.self.now c.add_table.new.self c.args.session c.args.table.now c.args.columns.now c.requires.seat c.requires.spelled c.requires.early few short w.in-Ok.ensures.ok)
+          subst (λ (turn : Turn). Answers c.args.self.now c.args.session (Create c.args.table.now c.args.columns.now) turn c.add_table.new.self)
+          (sym (w.result-is ∙ ap (λ (e : Held). Append (Committed e.commits)) c.self-2.view_is))
+          (created_now c.args.self.now c.add_table.new.self c.args.session c.args.table.now c.args.columns.now c.requires.seat c.requires.spelled c.requires.early few short w.in-Ok.ensures.ok)
     ]

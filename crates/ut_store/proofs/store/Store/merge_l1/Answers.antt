@@ -1,6 +1,5 @@
-use Rattle.std.proofs.Common.{ℕ, ◌≡◌, ◌<◌, List, None, Some, refl, sym, ap, ◌∙◌, subst, slice_get, slice_set, length, map, arith}
+use Rattle.std.proofs.Common.{◌≡◌, None, Some, refl, sym, ◌∙◌, subst, slice_get, slice_set, map, arith}
 use Rattle.ut_plain.specs.declared.statement.Statement.TheVariants.{MergeL1}
-use Rattle.ut_plain.specs.declared.table.Table.{Table}
 use Rattle.ut_plain.specs.Tables.{place_of}
 use Rattle.ut_table.specs.Staged.{TableValue}
 use Rattle.ut_plain.specs.declared.reply.Reply.TheVariants.{Moved, Refused}
@@ -34,12 +33,12 @@ returns c =
     let new : Held = record e { staged = map (λ (t : TableValue). t.stages) (slice_set items place c.merge_l1.new.self) } in
     elim c.match-merge_l1.branch [
       | in-Err w ↦
-        subst (λ (turn : Turn). Answers c.args.self.now c.args.session (MergeL1 c.args.table.now c.args.n) turn new) (sym w.result-is)
-        (subst (λ (x : Held). Answers x c.args.session (MergeL1 c.args.table.now c.args.n) (Answered (Refused Memory)) new) c.self.view_is
-        (unmoved_now e items place c.args.n c.index_mut.result.now c.merge_l1.new.self c.args.session c.args.table.now refl is w.in-Err.ensures.err))
+          subst (λ (turn : Turn). Answers c.args.self.now c.args.session (MergeL1 c.args.table.now c.args.n) turn new) (sym w.result-is)
+          (subst (λ (x : Held). Answers x c.args.session (MergeL1 c.args.table.now c.args.n) (Answered (Refused Memory)) new) c.self.view_is
+          (unmoved_now e items place c.args.n c.index_mut.result.now c.merge_l1.new.self c.args.session c.args.table.now refl is w.in-Err.ensures.err))
       | in-Ok w ↦
-        subst (λ (turn : Turn). Answers c.args.self.now c.args.session (MergeL1 c.args.table.now c.args.n) turn new) (sym w.result-is)
-        (subst (λ (x : Held). Answers x c.args.session (MergeL1 c.args.table.now c.args.n) (Answered (Moved w.in-Ok.moved)) new) c.self.view_is
-        (moved_now e items place c.args.n w.in-Ok.moved c.index_mut.result.now c.merge_l1.new.self c.args.session c.args.table.now c.requires.seat c.requires.spelled
-        (subst (λ (x : Held). early_refusal x c.args.session (MergeL1 c.args.table.now c.args.n) ≡ None) (sym c.self.view_is) c.requires.early) at refl is w.in-Ok.ensures.count w.in-Ok.ensures.ok))
+          subst (λ (turn : Turn). Answers c.args.self.now c.args.session (MergeL1 c.args.table.now c.args.n) turn new) (sym w.result-is)
+          (subst (λ (x : Held). Answers x c.args.session (MergeL1 c.args.table.now c.args.n) (Answered (Moved w.in-Ok.moved)) new) c.self.view_is
+          (moved_now e items place c.args.n w.in-Ok.moved c.index_mut.result.now c.merge_l1.new.self c.args.session c.args.table.now c.requires.seat c.requires.spelled
+          (subst (λ (x : Held). early_refusal x c.args.session (MergeL1 c.args.table.now c.args.n) ≡ None) (sym c.self.view_is) c.requires.early) at refl is w.in-Ok.ensures.count w.in-Ok.ensures.ok))
     ]

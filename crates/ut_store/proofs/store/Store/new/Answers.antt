@@ -1,9 +1,8 @@
-use Rattle.std.proofs.Common.{ℕ, ◌≡◌, List, [], map, ap, subst}
+use Rattle.std.proofs.Common.{◌≡◌, List, [], map, ap, subst}
 use Rattle.std.proofs.lemmas.Result.{IfOk-weaker}
 use Rattle.ut_plain.specs.declared.table.Table.{Table}
 use Rattle.ut_plain.specs.Plain.{new_store}
 use Rattle.ut_table.specs.Staged.{Staged, TableValue}
-use Rattle.ut_store.specs.Held.{Held}
 use Rattle.ut_store.specs.Stands.{StandsFor}
 use Rattle.ut_store.specs.Standing.{Restored}
 use Rattle.ut_store.proofs.RestoredLemmas.{restored_new}

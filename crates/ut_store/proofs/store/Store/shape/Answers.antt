@@ -1,4 +1,4 @@
-use Rattle.std.proofs.Common.{ℕ, ◌≡◌, ◌<◌, None, Some, refl, sym, ap, ◌∙◌, subst, slice_get, arith}
+use Rattle.std.proofs.Common.{◌≡◌, None, Some, refl, sym, ◌∙◌, subst, slice_get, arith}
 use Rattle.ut_plain.specs.declared.statement.Statement.TheVariants.{Shape}
 use Rattle.ut_plain.specs.Tables.{place_of}
 use Rattle.ut_plain.specs.declared.reply.Reply.TheVariants as replies

@@ -1,0 +1,100 @@
+-- The rows that are listed are those of the journal.
+use Rattle.std.proofs.Common.{ℕ, ◌+◌, ◌<◌, ◌≡◌, Bool, true, cond, List, [], ◌∷◌, ◌++◌, filter, length, map, take, get_or, Option, None, Some, refl, sym, ap, ◌∙◌, subst, arith, slice_get, unwrap_or}
+use Rattle.std.proofs.lemmas.List.{take_more, map-append}
+use Rattle.std.proofs.lemmas.List.Elements.{All-cons}
+use Rattle.std.specs.Option.{option_map, IsSome}
+use Rattle.std.specs.FinMap as finmap
+use Rattle.ut_value.specs.declared.value.Value.{Value}
+use Rattle.ut_value.specs.declared.value.Row.{Row}
+use Rattle.ut_plain.specs.declared.table.Table.{Table}
+use Rattle.ut_plain.specs.declared.table.Stored.{Stored}
+use Rattle.ut_plain.specs.declared.transaction.OpenTransaction.{OpenTransaction}
+use Rattle.ut_plain.specs.Condition.{meets, found}
+use Rattle.ut_plain.specs.Journal.{current}
+use Rattle.ut_plain.specs.Plain.{Plain, seen_by}
+use Rattle.ut_plain.specs.Rows.{table_rows}
+use Rattle.ut_plain.specs.Tables.{place_of, place_in, columns_in}
+use Rattle.ut_plain.specs.View.{view}
+use Rattle.ut_scan.specs.declared.place.Found.{Found}
+use Rattle.ut_exact.specs.Places.{StagedRow}
+use Rattle.ut_exact.specs.Scan.{stored_in}
+use Rattle.ut_table.specs.Staged.{Staged, row_at}
+use Rattle.ut_table.specs.Finds.{AreThere, hits_of}
+use Rattle.ut_store.specs.Held.{Held, place_at}
+use Rattle.ut_store.specs.Hits.{Hits, plain_rows}
+use Rattle.ut_store.specs.Listed.{row_of, row_in, listed, Lists}
+use Rattle.ut_store.specs.Staging.{AreFound}
+use Rattle.ut_store.specs.Stands.{StandsFor}
+use Rattle.ut_store.specs.Standing.{Stands}
+use Rattle.ut_store.proofs.HitLemmas.{found-is, AreFound-hits}
+use Rattle.ut_store.proofs.StageLemmas.{here}
+
+-- ---- rows are copied one by one
+
+copied_row : (o : Option StagedRow) (id : ℕ) (values : List Value) → IsSome o → ((row : StagedRow) → o ≡ Some row → values ≡ row.values) → row_of (id, stored_in 0 o) ≡ record { id = id; values = values }
+copied_row None id values there is = cc
+copied_row (Some row) id values there is = ap (λ (vs : List Value). record { id = id; values = vs }) (sym (is row refl))
+
+pub row_more : (s : Staged) (found : List Found) (i : ℕ) (d : Found) (rows new : List Row) (values : List Value) → IsSome (row_at s (get_or found i d).place) → ((row : StagedRow) → row_at s (get_or found i d).place ≡ Some row → values ≡ row.values)
+    → i < length found → rows ≡ map (row_in s) (take i found) → new ≡ rows ++ record { id = (get_or found i d).id; values = values } ∷ [] → new ≡ map (row_in s) (take (i + 1) found)
+row_more s found i d rows new values there is small so_far more =
+    more ∙ (λ k. so_far k ++ sym (copied_row (row_at s (get_or found i d).place) (get_or found i d).id values there is) k ∷ [])
+    ∙ sym (map-append (row_in s) (take i found) (get_or found i d ∷ []))
+    ∙ ap (map (row_in s)) (sym (take_more found i d small))
+
+-- ---- what was found is there
+
+pub are_there : (e : Held) (session n : ℕ) (test : List Value → Bool) (found : List Found) (s : Staged) → session < 17 → Stands e → slice_get e.staged n ≡ Some s → Hits e session n test (hits_of found) → AreThere s found
+are_there e session n test found s small st is h = by found (AreFound-hits e st.plain session n test (hits_of found) s small st.stands is h)
+  where
+    some : (f : Found) (row : StagedRow) → row_at s f.place ≡ Some row → IsSome (row_at s f.place)
+    some f row g = subst IsSome (sym g) refl
+
+    by : (fs : List Found) → AreFound s (hits_of fs) → AreThere s fs
+    by [] a = λ k d h. absurd (omega arith)
+    by (f ∷ fs) a = All-cons (λ (x : Found). IsSome (row_at s x.place)) f fs (some f a.0 a.1) (by fs a.4)
+
+-- ---- what is listed
+
+rows_same : (e : Held) (n : ℕ) (s : Staged) (found : List Found) → slice_get e.staged n ≡ Some s → map (row_in s) found ≡ map row_of (plain_rows e n (hits_of found))
+rows_same e n s [] is = refl
+rows_same e n s (f ∷ fs) is = (λ i. row_same (row_at s f.place) (place_at e.staged n f.place) (sym (here e.staged n s f.place is)) i ∷ rows_same e n s fs is i)
+  where
+    alike : (o : Option StagedRow) → row_of (f.id, stored_in 0 o) ≡ row_of (f.id, stored_in n o)
+    alike None = refl
+    alike (Some row) = refl
+
+    row_same : (o q : Option StagedRow) → o ≡ q → row_of (f.id, stored_in 0 o) ≡ row_of (f.id, stored_in n q)
+    row_same o q same = alike o ∙ ap (λ x. row_of (f.id, stored_in n x)) same
+
+-- no comparison: all rows
+all_pass : (test : ℕ × Stored → Bool) (rows : List (ℕ × Stored)) → ((e : ℕ × Stored) → test e ≡ true) → filter test rows ≡ rows
+all_pass test [] h = refl
+all_pass test (e ∷ es) h = (λ i. cond (h e i) (e ∷ filter test es) (filter test es)) ∙ ap (λ (xs : List (ℕ × Stored)). e ∷ xs) (all_pass test es h)
+
+pub hits_in : (e : Held) (name : List ℕ) (n : ℕ) (found : List Found) → place_of e.tables name ≡ Some n → Hits e 0 (place_in e.tables name) (meets (columns_in e.tables name) []) (hits_of found) → Hits e 0 n (meets (columns_in e.tables name) []) (hits_of found)
+hits_in e name n found at h = subst (λ (k : ℕ). Hits e 0 k (meets (columns_in e.tables name) []) (hits_of found)) (ap (λ (o : Option ℕ). unwrap_or o 0) at) h
+
+pub lists_some : (e : Held) (name : List ℕ) (n : ℕ) (s : Staged) (found : List Found) → Stands e → place_of e.tables name ≡ Some n → slice_get e.staged n ≡ Some s
+    → Hits e 0 (place_in e.tables name) (meets (columns_in e.tables name) []) (hits_of found) → Lists e name (Some (map (row_in s) found))
+lists_some e name n s rows st at is h = record { each = λ p stands. by p stands }
+  where
+    by : (p : Plain) → StandsFor e p → Some (map (row_in s) rows) ≡ listed (current p.journal) name
+    by p stands =
+        let tables : e.tables ≡ (current p.journal).tables = stands.counts.tables in
+        let placed : place_of (current p.journal).tables name ≡ Some n = ap (λ (ts : List Table). place_of ts name) (sym tables) ∙ at in
+        let seen : (view p 0).rows ≡ finmap.entries (current p.journal).rows = ap (λ (t : Option OpenTransaction). finmap.entries (seen_by p.journal t)) stands.seats.nobody in
+        let hits : Hits e 0 n (meets (columns_in (current p.journal).tables name) []) (hits_of rows) = subst (λ (ts : List Table). Hits e 0 n (meets (columns_in ts name) []) (hits_of rows)) tables (hits_in e name n rows at h) in
+        let is_found = found-is e p 0 n name [] (hits_of rows) (omega arith) stands (ap (λ (o : Option ℕ). unwrap_or o 0) placed) hits in
+        let all : found (view p 0).tables (view p 0).rows name [] ≡ table_rows n (finmap.entries (current p.journal).rows) =
+        all_pass (λ (x : ℕ × Stored). meets (columns_in (current p.journal).tables name) [] x.1.values) (table_rows (place_in (current p.journal).tables name) (view p 0).rows) (λ x. refl)
+        ∙ (λ i. table_rows (unwrap_or (placed i) 0) (seen i)) in
+        (λ i. Some (rows_same e n s rows is i)) ∙ (λ i. Some (map row_of (sym is_found i))) ∙ (λ i. Some (map row_of (all i)))
+        ∙ ap (option_map (λ (k : ℕ). map row_of (table_rows k (finmap.entries (current p.journal).rows)))) (sym placed)
+
+pub lists_none : (e : Held) (name : List ℕ) → place_of e.tables name ≡ None → Lists e name None
+lists_none e name at = record { each = λ p s. ap (option_map (λ n. map row_of (table_rows n (finmap.entries (current p.journal).rows)))) (sym (ap (λ (ts : List Table). place_of ts name) (sym s.counts.tables) ∙ at)) }
+
+pub lists_rows : (e : Held) (name : List ℕ) (n : ℕ) (s : Staged) (found : List Found) (rows : List Row) → Stands e → place_of e.tables name ≡ Some n → slice_get e.staged n ≡ Some s
+    → Hits e 0 (place_in e.tables name) (meets (columns_in e.tables name) []) (hits_of found) → rows ≡ map (row_in s) found → Lists e name (Some rows)
+lists_rows e name n s found rows st at is h are = subst (λ (x : List Row). Lists e name (Some x)) (sym are) (lists_some e name n s found st at is h)

@@ -1,0 +1,60 @@
+//! The rows of a table that a session sees.
+ghost use Rattle.std.specs.Prelude.{◌≡◌, ◌<◌, IsTrue, IfOk};
+ghost use Rattle.ut_plain.specs.Condition.{meets};
+ghost use Rattle.ut_plain.specs.Kinds.{preds_fit};
+ghost use Rattle.ut_plain.specs.Names.{known, preds_known};
+ghost use Rattle.ut_plain.specs.Tables.{columns_of, columns_in, place_in};
+ghost use Rattle.ut_table.specs.Finds.{hits_of};
+ghost use Rattle.ut_store.specs.Hits.{Hits};
+ghost use Rattle.ut_store.specs.Reads.{looks_at, own_at};
+ghost use Rattle.ut_store.specs.Standing.{Stands};
+
+use crate::store::Store;
+use std::alloc::{AllocError, Global};
+use ut_plain::{Pred, place_of};
+use ut_scan::Found;
+
+impl Store {
+    /// The rows of a table that the session sees and that meet each comparison, by ascending id.
+    pub(crate) fn scan(
+        &self,
+        alloc: Global,
+        session: u8,
+        name: &[u8],
+        preds: &[Pred],
+    ) -> Result<Vec<Found>, AllocError>
+        requires seat { session < 17 }
+        requires stands { Stands self.now }
+        requires known { IsTrue (known (preds_known preds.now) (columns_of self.now.tables name.now)) }
+        requires fit { IsTrue (preds_fit (columns_in self.now.tables name.now) preds.now) }
+        ensures { IfOk result (λ found. Hits self.now session (place_in self.now.tables name.now) (meets (columns_in self.now.tables name.now) preds.now) (hits_of found.items)) }
+    {
+        let place = place_of(&self.tables, name).unwrap();
+        let table = &self.stages[place];
+        let snapshot = self.looks_at(session);
+        let own = self.own(session);
+        table.scan(alloc, &self.fates, snapshot, own, preds)
+    }
+
+    /// The length of the journal at which a session looks.
+    pub(crate) fn looks_at(&self, session: u8) -> u32
+        requires { session < 17 }
+        ensures { result ≡ looks_at self.now session }
+    {
+        match self.sessions.opened(session) {
+            Some(opened) => opened.snapshot,
+            None => self.entries,
+        }
+    }
+
+    /// The number of a session's own transaction.
+    pub(crate) fn own(&self, session: u8) -> Option<u64>
+        requires { session < 17 }
+        ensures { result ≡ own_at self.now session }
+    {
+        match self.sessions.opened(session) {
+            Some(opened) => Some(opened.number),
+            None => None,
+        }
+    }
+}
