@@ -1,10 +1,11 @@
 -- What a question is answered from what was found.
-use Rattle.std.proofs.Common.{ℕ, suc, ◌<◌, ◌≡◌, Bool, true, false, ◌&&◌, List, [], ◌∷◌, length, map, Option, None, Some, ℤ, refl, sym, ap, ◌∙◌, subst, IsTrue, is_some, slice_get}
+use Rattle.std.proofs.Common.{ℕ, zero, suc, arith, unwrap_or, true≢false, ◌<◌, ◌≡◌, Bool, true, false, ◌&&◌, List, [], ◌∷◌, length, map, Option, None, Some, ℤ, refl, sym, ap, ◌∙◌, subst, IsTrue, is_some, slice_get}
 use Rattle.std.specs.Option.{option_and_then}
 use Rattle.std.specs.Ordering.{is_lt, is_gt}
 use Rattle.ut_value.specs.declared.value.Value.{Value}
 use Rattle.ut_value.specs.declared.value.Column.{Column}
 use Rattle.ut_value.specs.Spelling.{has_column}
+use Rattle.ut_value.specs.Text.{same_bytes}
 use Rattle.ut_plain.specs.declared.table.Table.{Table}
 use Rattle.ut_plain.specs.declared.table.Stored.{Stored}
 use Rattle.ut_plain.specs.declared.statement.Pred.{Pred}
@@ -25,6 +26,7 @@ use Rattle.ut_plain.specs.View.{view}
 use Rattle.ut_plain.specs.Query.{picked, column_values, total, best, groups, joined, told}
 use Rattle.ut_plain.specs.Refusals.{is_supported, unless, or_else}
 use Rattle.ut_plain.proofs.BoolLemmas.{and_left, and_right}
+use Rattle.ut_plain.proofs.ListLemmas.{position_below}
 use Rattle.ut_scan.specs.declared.place.Found.{Found}
 use Rattle.ut_table.specs.Staged.{Staged}
 use Rattle.ut_table.specs.Finds.{hits_of, rows_at}
@@ -33,7 +35,7 @@ use Rattle.ut_store.specs.Stands.{StandsFor}
 use Rattle.ut_store.specs.Standing.{Stands}
 use Rattle.ut_store.specs.Hits.{Hits}
 use Rattle.ut_store.specs.Early.{early_refusal}
-use Rattle.ut_store.proofs.NamedLemmas.{named}
+use Rattle.ut_store.proofs.NamedLemmas.{named, staged_count}
 use Rattle.ut_store.proofs.ShownLemmas.{Shows, shows_here}
 
 -- ---- a question that passes
@@ -157,3 +159,29 @@ pub told_join : (e : Held) (session : ℕ) (left c right d asked other : List �
     → rows ≡ joined l.columns asked (rows_at (place_in e.tables left) l lefts) r.columns other (rows_at (place_in e.tables right) r rights) → replies.Rows rows ≡ told (view p session).tables (view p session).rows (Join left c right d)
 told_join e session left c right d asked other l r lefts rights one two p t rows this that is =
     ap replies.Rows (is ∙ (λ i. joined (sym (one.columns p t) i) (this i) (sym (one.found p t) i) (sym (two.columns p t) i) (that i) (sym (two.found p t) i)))
+
+-- ---- a count, which looks at no row
+
+get_there : {X : Type 0} (xs : List X) (i : ℕ) → i < length xs → (x : X) × (slice_get xs i ≡ Some x)
+get_there [] i h = absurd (omega arith)
+get_there (x ∷ xs) zero h = (x, refl)
+get_there (x ∷ xs) (suc i) h = get_there xs i (omega arith)
+
+-- a table that is there has its stages
+stages_there : (e : Held) (name : List ℕ) → Stands e → IsTrue (has_table e.tables name) → (s : Staged) × (slice_get e.staged (place_in e.tables name) ≡ Some s)
+stages_there e name st there = get_there e.staged (place_in e.tables name) (below (place_of e.tables name) refl there)
+  where
+    below : (o : Option ℕ) → place_of e.tables name ≡ o → IsTrue (is_some o) → place_in e.tables name < length e.staged
+    below None is h = absurd (true≢false (sym h))
+    below (Some n) is h =
+        let small : n < length e.tables = position_below (λ (table : Table). same_bytes table.name name) e.tables n is in
+        let place : place_in e.tables name ≡ n = ap (λ o. unwrap_or o 0) is in
+        let count = staged_count e st in
+        omega (arith, small, place, count)
+
+pub asked_count : (e : Held) (session : ℕ) (name scanned : List ℕ) (preds : List Pred) (hits items : List Found) → session < 17 → Stands e → early_refusal e session (Ask (Count name preds)) ≡ None → scanned ≡ name → hits ≡ items
+    → Hits e session (place_in e.tables scanned) (meets (columns_in e.tables scanned) preds) (hits_of items) → (s : Staged) × Shows e session name preds s hits
+asked_count e session name scanned preds hits items small st h one are found =
+    let there = asked_there e.tables (Count name preds) (named e session (Ask (Count name preds)) h) in
+    let s = stages_there e name st there in
+    (s.0, shows_here e session name scanned name preds s.0 hits items small st there one refl are s.1 found)
