@@ -17,6 +17,9 @@ pub mod CreateLemmas
 pub mod PlaceTurnLemmas
 pub mod RestoredLemmas
 pub mod AskLemmas
+pub mod SeenRowLemmas
+pub mod ShownLemmas
+pub mod QuestionLemmas
 pub mod ScanLemmas
 pub mod ListedLemmas
 pub mod WriteLemmas

@@ -1,7 +1,7 @@
 //! The store in memory.
 #![tactic(auto)]
 
-mod awaited;
+mod ask;
 mod change;
 mod delete;
 mod finish;

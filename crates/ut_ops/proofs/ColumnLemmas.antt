@@ -1,0 +1,161 @@
+-- The values of a column, of rows that were found.
+use Rattle.std.proofs.Common.{ℕ, zero, suc, ◌+◌, ◌<◌, ◌≡◌, Bool, true, false, not, cond, if◌then◌else◌, List, [], ◌∷◌, length, map, drop, get_or, Option, None, Some, refl, sym, ap, ◌∙◌, arith, slice_get, unwrap_or, IsTrue, true≢false, lt-ltb}
+use Rattle.std.specs.Option.{option_map, option_and_then}
+use Rattle.std.specs.List.{filter_map, find, position_or_len, All, cons_option}
+use Rattle.std.specs.declared.cmp.Ordering.{Ordering}
+use Rattle.ut_value.specs.declared.value.Value.{Value}
+use Rattle.ut_value.specs.declared.value.Kind.{Kind}
+use Rattle.ut_value.specs.declared.value.Kind.TheVariants as kinds
+use Rattle.ut_value.specs.declared.value.Column.{Column}
+use Rattle.ut_value.specs.KeyOrder.{value_cmp}
+use Rattle.ut_value.specs.Text.{same_bytes}
+use Rattle.ut_plain.specs.declared.table.Stored.{Stored}
+use Rattle.ut_plain.specs.Tables.{column_of}
+use Rattle.ut_plain.specs.Kinds.{kind_in, is_int}
+use Rattle.ut_plain.specs.Condition.{value_in}
+use Rattle.ut_plain.specs.Query.{column_values, picked, best_from}
+use Rattle.ut_plain.proofs.ListLemmas.{found_below, position_below}
+use Rattle.ut_scan.specs.declared.place.Found.{Found}
+use Rattle.ut_exact.specs.Places.{StagedRow}
+use Rattle.ut_exact.specs.Scan.{stored_in}
+use Rattle.ut_table.specs.Staged.{Staged, row_at}
+use Rattle.ut_table.specs.Finds.{rows_at}
+use Rattle.ut_ops.specs.Fit.{Fit, is_row, values_in, values_at, cell}
+use Rattle.ut_ops.proofs.CellLemmas.{is_cell}
+
+-- ---- rows that fit
+
+pub fit_first : (s : Staged) (f : Found) (fs : List Found) → Fit s (f ∷ fs) → IsTrue (is_row s.columns (row_at s f.place))
+fit_first s f fs fit = let some : 0 < length (f ∷ fs) = omega arith in fit.each 0 f some
+
+pub fit_rest : (s : Staged) (f : Found) (fs : List Found) → Fit s (f ∷ fs) → Fit s fs
+fit_rest s f fs fit = record { each = λ k d h. let more : suc k < length (f ∷ fs) = omega arith in fit.each (suc k) d more }
+
+-- the row at a place of the list
+pub fit_at : (s : Staged) (fs : List Found) (k : ℕ) (f : Found) → Fit s fs → k < length fs → IsTrue (is_row s.columns (row_at s (get_or fs k f).place))
+fit_at s fs k f fit h = fit.each k f h
+
+-- ---- the place of a column
+
+pub column_below : (columns : List Column) (name : List ℕ) (c : ℕ) → column_of columns name ≡ Some c → c < length columns
+column_below columns name c h = position_below (λ (x : Column). same_bytes x.name name) columns c h
+
+found_at : {X : Type 0} (test : X → Bool) (xs : List X) (x : X) → find test xs ≡ Some x → slice_get xs (position_or_len test xs) ≡ Some x
+found_at test [] x h = cc
+found_at test (y ∷ xs) x h = by (test y) refl (found_at test xs x)
+  where
+    by : (b : Bool) → test y ≡ b → (find test xs ≡ Some x → slice_get xs (position_or_len test xs) ≡ Some x) → slice_get (y ∷ xs) (cond (not (test y)) (1 + position_or_len test xs) 0) ≡ Some x
+    by true e more = ap (λ b. slice_get (y ∷ xs) (cond (not b) (1 + position_or_len test xs) 0)) e ∙ (sym (ap (λ b. cond b (Some y) (find test xs)) e) ∙ h)
+    by false e more =
+        let next : 1 + position_or_len test xs ≡ suc (position_or_len test xs) = omega arith in
+        ap (λ b. slice_get (y ∷ xs) (cond (not b) (1 + position_or_len test xs) 0)) e ∙ ap (slice_get (y ∷ xs)) next ∙ more (sym (ap (λ b. cond b (Some y) (find test xs)) e) ∙ h)
+
+int_kind : (k : Kind) → IsTrue (is_int (Some k)) → Some k ≡ Some kinds.Int
+int_kind kinds.Int h = refl
+int_kind kinds.Text h = absurd (true≢false (sym h))
+
+-- a column that is found by its name has its kind
+pub numbers_at : (columns : List Column) (name : List ℕ) (c : ℕ) → IsTrue (is_int (kind_in columns name)) → column_of columns name ≡ Some c → option_map (λ (x : Column). x.kind) (slice_get columns c) ≡ Some kinds.Int
+numbers_at columns name c h at = by (find (λ (x : Column). same_bytes x.name name) columns) refl
+  where
+    by : (o : Option Column) → find (λ (x : Column). same_bytes x.name name) columns ≡ o → option_map (λ (x : Column). x.kind) (slice_get columns c) ≡ Some kinds.Int
+    by None e = absurd (true≢false (sym h ∙ ap (λ o. is_int (option_map (λ (x : Column). x.kind) o)) e))
+    by (Some x) e =
+        let place : column_of columns name ≡ Some (position_or_len (λ (x : Column). same_bytes x.name name) columns)
+        = ap (λ b. cond b (Some (position_or_len (λ (x : Column). same_bytes x.name name) columns)) None) (lt-ltb _ _ (found_below (λ (x : Column). same_bytes x.name name) columns x e)) in
+        let same : position_or_len (λ (x : Column). same_bytes x.name name) columns ≡ c = ap (λ o. unwrap_or o c) (sym place ∙ at) in
+        ap (λ n. option_map (λ (x : Column). x.kind) (slice_get columns n)) (sym same)
+        ∙ ap (option_map (λ (x : Column). x.kind)) (found_at (λ (x : Column). same_bytes x.name name) columns x e)
+        ∙ int_kind x.kind (sym (ap (λ o. is_int (option_map (λ (x : Column). x.kind) o)) e) ∙ h)
+
+-- a column of numbers is there
+pub column_there : {A : Type 0} (columns : List Column) (name : List ℕ) → IsTrue (is_int (kind_in columns name)) → column_of columns name ≡ None → A
+column_there {A} columns name h at = by (find (λ (x : Column). same_bytes x.name name) columns) refl
+  where
+    nothing : (n : ℕ) → None ≡ Some n → ⊥
+    nothing n e = cc
+
+    by : (o : Option Column) → find (λ (x : Column). same_bytes x.name name) columns ≡ o → A
+    by None e = absurd (true≢false (sym h ∙ ap (λ o. is_int (option_map (λ (x : Column). x.kind) o)) e))
+    by (Some x) e =
+        absurd (nothing (position_or_len (λ (x : Column). same_bytes x.name name) columns)
+        (sym at ∙ ap (λ b. cond b (Some (position_or_len (λ (x : Column). same_bytes x.name name) columns)) None) (lt-ltb _ _ (found_below (λ (x : Column). same_bytes x.name name) columns x e))))
+
+-- ---- the values of a column
+
+pub stored_values : (n : ℕ) (o : Option StagedRow) → (stored_in n o).values ≡ values_in o
+stored_values n None = refl
+stored_values n (Some row) = refl
+
+-- a row's value in a column
+pub stored_cell : (n : ℕ) (s : Staged) (c : ℕ) (f : Found) → IsTrue (is_row s.columns (row_at s f.place)) → c < length s.columns → slice_get (stored_in n (row_at s f.place)).values c ≡ Some (cell s c f)
+stored_cell n s c f fit small = let x = is_cell s c f fit small in ap (λ o. slice_get (stored_in n o).values c) x.there ∙ x.is
+
+no_values : (rows : List (ℕ × Stored)) → filter_map (λ (e : ℕ × Stored). option_and_then (slice_get e.1.values) None) rows ≡ []
+no_values [] = refl
+no_values (e ∷ es) = no_values es
+
+-- no column, no values
+pub values_none : (columns : List Column) (name : List ℕ) (rows : List (ℕ × Stored)) → column_of columns name ≡ None → column_values columns name rows ≡ []
+values_none columns name rows at = ap (λ o. filter_map (λ (e : ℕ × Stored). option_and_then (slice_get e.1.values) o) rows) at ∙ no_values rows
+
+cells : (n : ℕ) (s : Staged) (c : ℕ) (found : List Found) → Fit s found → c < length s.columns → filter_map (λ (e : ℕ × Stored). slice_get e.1.values c) (rows_at n s found) ≡ map (cell s c) found
+cells n s c [] fit small = refl
+cells n s c (f ∷ fs) fit small =
+    (λ i. cons_option (stored_cell n s c f (fit_first s f fs fit) small i) (cells n s c fs (fit_rest s f fs fit) small i))
+
+pub values_some : (n : ℕ) (s : Staged) (name : List ℕ) (c : ℕ) (found : List Found) → Fit s found → column_of s.columns name ≡ Some c → column_values s.columns name (rows_at n s found) ≡ map (cell s c) found
+values_some n s name c found fit at =
+    ap (λ o. filter_map (λ (e : ℕ × Stored). option_and_then (slice_get e.1.values) o) (rows_at n s found)) at ∙ cells n s c found fit (column_below s.columns name c at)
+
+-- ---- the columns that are picked
+
+pub all_values : (n : ℕ) (s : Staged) (found : List Found) → map (λ (e : ℕ × Stored). e.1.values) (rows_at n s found) ≡ map (values_at s) found
+all_values n s [] = refl
+all_values n s (f ∷ fs) = λ i. stored_values n (row_at s f.place) i ∷ all_values n s fs i
+
+-- what is so of one and of the others
+pub all_cons : {X : Type 0} (P : X → Type 0) (x : X) (xs : List X) → P x → All P xs → All P (x ∷ xs)
+all_cons P x xs p ps zero d h = p
+all_cons P x xs p ps (suc k) d h = let less : k < length xs = omega arith in ps k d less
+
+pub places_below : (columns : List Column) (names : List (List ℕ)) → All (λ place. place < length columns) (filter_map (column_of columns) names)
+places_below columns [] = λ k d h. absurd (omega arith)
+places_below columns (name ∷ names) = by (column_of columns name) refl (places_below columns names)
+  where
+    by : (o : Option ℕ) → column_of columns name ≡ o → All (λ place. place < length columns) (filter_map (column_of columns) names) → All (λ place. place < length columns) (cons_option o (filter_map (column_of columns) names))
+    by None e rest = rest
+    by (Some c) e rest = all_cons (λ place. place < length columns) c (filter_map (column_of columns) names) (column_below columns name c e) rest
+
+picked_cells : (n : ℕ) (s : Staged) (names : List (List ℕ)) (f : Found) → IsTrue (is_row s.columns (row_at s f.place))
+    → filter_map (value_in s.columns (stored_in n (row_at s f.place)).values) names ≡ map (λ place. cell s place f) (filter_map (column_of s.columns) names)
+picked_cells n s [] f fit = refl
+picked_cells n s (name ∷ names) f fit = by (column_of s.columns name) refl (picked_cells n s names f fit)
+  where
+    by : (o : Option ℕ) → column_of s.columns name ≡ o
+        → filter_map (value_in s.columns (stored_in n (row_at s f.place)).values) names ≡ map (λ place. cell s place f) (filter_map (column_of s.columns) names)
+        → cons_option (option_and_then (slice_get (stored_in n (row_at s f.place)).values) o) (filter_map (value_in s.columns (stored_in n (row_at s f.place)).values) names) ≡ map (λ place. cell s place f) (cons_option o (filter_map (column_of s.columns) names))
+    by None e rest = rest
+    by (Some c) e rest = λ i. cons_option (stored_cell n s c f fit (column_below s.columns name c e) i) (rest i)
+
+pub picked_rows : (n : ℕ) (s : Staged) (names : List (List ℕ)) (found : List Found) → Fit s found
+    → map (λ (e : ℕ × Stored). picked s.columns (Some names) e.1.values) (rows_at n s found) ≡ map (λ f. map (λ place. cell s place f) (filter_map (column_of s.columns) names)) found
+picked_rows n s names [] fit = refl
+picked_rows n s names (f ∷ fs) fit = λ i. picked_cells n s names f (fit_first s f fs fit) i ∷ picked_rows n s names fs (fit_rest s f fs fit) i
+
+-- ---- the best so far
+
+better : (beats : Ordering → Bool) (v w : Value) (vs : List Value) (b : Bool) → beats (value_cmp w v) ≡ b → best_from beats v (w ∷ vs) ≡ best_from beats (if b then w else v) vs
+better beats v w vs b e = ap (λ t. best_from beats (if t then w else v) vs) e
+
+pub best_taken : (beats : Ordering → Bool) (s : Staged) (c : ℕ) (fs : List Found) (k : ℕ) (best : Found) → k < length fs → beats (value_cmp (cell s c (get_or fs k best)) (cell s c best)) ≡ true
+    → best_from beats (cell s c best) (map (cell s c) (drop k fs)) ≡ best_from beats (cell s c (get_or fs k best)) (map (cell s c) (drop (k + 1) fs))
+best_taken beats s c [] k best h e = absurd (omega arith)
+best_taken beats s c (f ∷ fs) zero best h e = better beats (cell s c best) (cell s c f) (map (cell s c) fs) true e
+best_taken beats s c (f ∷ fs) (suc k) best h e = let next : suc k + 1 ≡ suc (k + 1) = omega arith in best_taken beats s c fs k best (omega arith) e ∙ ap (λ j. best_from beats (cell s c (get_or fs k best)) (map (cell s c) (drop j (f ∷ fs)))) (sym next)
+
+pub best_kept : (beats : Ordering → Bool) (s : Staged) (c : ℕ) (fs : List Found) (k : ℕ) (best : Found) → k < length fs → beats (value_cmp (cell s c (get_or fs k best)) (cell s c best)) ≡ false
+    → best_from beats (cell s c best) (map (cell s c) (drop k fs)) ≡ best_from beats (cell s c best) (map (cell s c) (drop (k + 1) fs))
+best_kept beats s c [] k best h e = absurd (omega arith)
+best_kept beats s c (f ∷ fs) zero best h e = better beats (cell s c best) (cell s c f) (map (cell s c) fs) false e
+best_kept beats s c (f ∷ fs) (suc k) best h e = let next : suc k + 1 ≡ suc (k + 1) = omega arith in best_kept beats s c fs k best (omega arith) e ∙ ap (λ j. best_from beats (cell s c best) (map (cell s c) (drop j (f ∷ fs)))) (sym next)

@@ -1,0 +1,5 @@
+pub mod CellLemmas
+pub mod ColumnLemmas
+pub mod SumLemmas
+pub mod TallyLemmas
+pub mod JoinLemmas

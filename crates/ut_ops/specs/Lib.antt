@@ -1,0 +1,4 @@
+pub mod ValueOrder
+pub mod Fit
+pub mod Tally
+pub mod Index

@@ -1,0 +1,100 @@
+//! The values of the columns that are named.
+ghost use Rattle.std.specs.Prelude.{◌≡◌, ◌<◌, ℕ, length, map, IfOk, IsTrue, All};
+ghost use Rattle.std.specs.List.{filter_map};
+ghost use Rattle.ut_plain.specs.Tables.{column_of};
+ghost use Rattle.ut_plain.specs.Query.{picked};
+ghost use Rattle.ut_table.specs.Staged.{row_at};
+ghost use Rattle.ut_table.specs.Finds.{rows_at};
+ghost use Rattle.ut_ops.specs.Fit.{is_row, Fit, cell, values_at};
+
+use crate::cell::{value_at, values_at};
+use std::alloc::{AllocError, Global};
+use ut_plain::column_of;
+use ut_scan::Found;
+use ut_table::Table;
+use ut_value::{Column, Name, Seq, Value};
+
+/// The columns that are named, or all, of each row.
+pub fn select(
+    alloc: Global,
+    table: &Table,
+    names: &Option<Seq<Name>>,
+    hits: &[Found],
+) -> Result<Seq<Seq<Value>>, AllocError>
+    requires { Fit table.now.stages hits.now }
+    ensures { IfOk result (λ rows. (n : ℕ) → rows ≡ map (λ e. picked table.now.stages.columns names.now e.1.values) (rows_at n table.now.stages hits.now)) }
+{
+    match names {
+        None => {
+            let rows = all_columns(alloc, table, hits)?;
+            Ok(rows)
+        }
+        Some(names) => {
+            let places = places_of(alloc, table.columns(), names.as_slice())?;
+            let rows = some_columns(alloc, table, places.as_slice(), hits)?;
+            Ok(rows)
+        }
+    }
+}
+
+fn all_columns(alloc: Global, table: &Table, hits: &[Found]) -> Result<Seq<Seq<Value>>, AllocError>
+    requires { Fit table.now.stages hits.now }
+    ensures { IfOk result (λ rows. rows ≡ map (values_at table.now.stages) hits.now) }
+{
+    let mut rows = Seq::new(alloc);
+    for hit in hits {
+        let row = values_at(alloc, table, *hit)?;
+        rows.push(row)?;
+    }
+    Ok(rows)
+}
+
+/// Where the columns of these names stand.
+fn places_of(alloc: Global, columns: &[Column], names: &[Name]) -> Result<Vec<usize>, AllocError>
+    ensures { IfOk result (λ places. places.items ≡ filter_map (column_of columns.now) names.now) }
+{
+    let mut places = Vec::new(alloc);
+    for name in names {
+        let Some(place) = column_of(columns, name.as_slice()) else {
+            continue;
+        };
+        places.push(place)?;
+    }
+    Ok(places)
+}
+
+fn some_columns(
+    alloc: Global,
+    table: &Table,
+    places: &[usize],
+    hits: &[Found],
+) -> Result<Seq<Seq<Value>>, AllocError>
+    requires fit { Fit table.now.stages hits.now }
+    requires places { All (λ place. place < length table.now.stages.columns) places.now }
+    ensures { IfOk result (λ rows. rows ≡ map (λ f. map (λ place. cell table.now.stages place f) places.now) hits.now) }
+{
+    let mut rows = Seq::new(alloc);
+    for hit in hits {
+        let row = picked_row(alloc, table, places, *hit)?;
+        rows.push(row)?;
+    }
+    Ok(rows)
+}
+
+fn picked_row(
+    alloc: Global,
+    table: &Table,
+    places: &[usize],
+    hit: Found,
+) -> Result<Seq<Value>, AllocError>
+    requires row { IsTrue (is_row table.now.stages.columns (row_at table.now.stages hit.place)) }
+    requires places { All (λ place. place < length table.now.stages.columns) places.now }
+    ensures { IfOk result (λ values. values ≡ map (λ place. cell table.now.stages place hit) places.now) }
+{
+    let mut values = Seq::new(alloc);
+    for place in places {
+        let value = value_at(alloc, table, hit, *place)?;
+        values.push(value)?;
+    }
+    Ok(values)
+}

@@ -1,0 +1,16 @@
+//! The operators of questions, over a table and the rows that a scan found.
+#![tactic(auto)]
+
+mod best;
+mod cell;
+mod columns;
+mod groups;
+mod joins;
+mod ranked;
+mod sums;
+
+pub use best::{greatest, least};
+pub use columns::select;
+pub use groups::group;
+pub use joins::join;
+pub use sums::sum;
