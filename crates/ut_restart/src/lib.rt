@@ -1,0 +1,7 @@
+//! A store from the entries of its log.
+#![tactic(auto)]
+
+mod error;
+mod slots;
+
+pub use error::RestartError;
