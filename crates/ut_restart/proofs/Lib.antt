@@ -1,1 +1,4 @@
-
+pub mod StageLemmas
+pub mod AddedLemmas
+pub mod DeadLemmas
+pub mod AppliedLemmas
