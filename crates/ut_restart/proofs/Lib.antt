@@ -2,3 +2,4 @@ pub mod StageLemmas
 pub mod AddedLemmas
 pub mod DeadLemmas
 pub mod AppliedLemmas
+pub mod TakenLemmas
