@@ -3,3 +3,5 @@ pub mod AddedLemmas
 pub mod DeadLemmas
 pub mod AppliedLemmas
 pub mod TakenLemmas
+pub mod EntryLemmas
+pub mod JournalLemmas

@@ -2,6 +2,7 @@
 #![tactic(auto)]
 
 mod error;
+mod replay;
 mod slots;
 
 pub use error::RestartError;
