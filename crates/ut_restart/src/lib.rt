@@ -3,6 +3,9 @@
 
 mod error;
 mod replay;
+mod restart;
 mod slots;
+mod stages;
 
 pub use error::RestartError;
+pub use restart::reopen;
