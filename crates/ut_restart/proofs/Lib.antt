@@ -5,3 +5,6 @@ pub mod AppliedLemmas
 pub mod TakenLemmas
 pub mod EntryLemmas
 pub mod JournalLemmas
+pub mod StandLemmas
+pub mod HeldLemmas
+pub mod RestoredLemmas
