@@ -76,20 +76,6 @@ inserted tables old new table row sound test added = record {
 held : (tables : List Table) (s : Slots) (rows : Rows) (stages : Stages) → AreRows tables s rows stages → (id place : ℕ) (x : Slot) → place_in s.places id ≡ Some place → slice_get s.list.items place ≡ Some x → finmap.get rows id ≡ Some (stored_of x)
 held tables s rows stages k id place x at is = k.row id ∙ ap (row_in s.list.items) at ∙ ap (option_map stored_of) is
 
-pub not_inserted : (tables : List Table) (old : Slots) (table : ℕ) (row : Row) → AreSlots tables old → may_insert tables old table row ≡ false → Refused tables old (ops.Insert table row.id row.values ∷ [])
-not_inserted tables old table row sound test = record { never = λ rows stages k can few. not_both (may_insert tables old table row) (passes rows stages k (and_left _ true can) few) test }
-  where
-    passes : (rows : Rows) (stages : Stages) → AreRows tables old rows stages → IsTrue (can_apply tables rows (ops.Insert table row.id row.values)) → length old.list.items + inserts_of (ops.Insert table row.id row.values ∷ []) ≤ 2147483648 → may_insert tables old table row ≡ true
-    passes rows stages k can few =
-        let front = and_left (fits_table (columns_at tables table) row.values && nat_le 1 row.id && nat_le row.id 2147483648) (is_none (finmap.get rows row.id)) can in
-        let absent = and_right (fits_table (columns_at tables table) row.values && nat_le 1 row.id && nat_le row.id 2147483648) (is_none (finmap.get rows row.id)) can in
-        let one = sum_by-cons op_inserts (ops.Insert table row.id row.values) [] in
-        and_both _ (nat_lt (length old.list.items) 2147483648) (and_both _ (is_none (place_in old.places row.id)) front (free absent (place_in old.places row.id) refl)) (lt-ltb (length old.list.items) 2147483648 (omega (arith, one)))
-      where
-        free : IsTrue (is_none (finmap.get rows row.id)) → (o : Option ℕ) → place_in old.places row.id ≡ o → IsTrue (is_none o)
-        free absent None e = refl
-        free absent (Some i) e = let f = sound.there row.id i e in some_is_not_none (finmap.get rows row.id) (stored_of f.0) (held tables old rows stages k row.id i f.0 e f.1) absent
-
 pub deleted : (tables : List Table) (old new : Slots) (table id place : ℕ) (x : Slot) → AreSlots tables old → place_in old.places id ≡ Some place → slice_get old.list.items place ≡ Some x → x.table ≡ table
     → new.list.items ≡ slice_set old.list.items place (record x { dead = true }) → IsSet (place_in old.places) (place_in new.places) id None → new.next ≡ old.next → Applied tables old (ops.Delete table id ∷ []) new
 deleted tables old new table id place x sound at is of_table list set next = record {
@@ -101,15 +87,6 @@ deleted tables old new table id place x sound at is of_table list set next = rec
       (subst (λ t. Keeps tables (slice_set old.list.items place (record x { dead = true })) (place_in new.places) (with_op rows (ops.Delete t id)) (with_stages (with_dead id) t stages)) of_table
         (Keeps-dead tables old.list.items (place_in old.places) (place_in new.places) id place x sound at is set rows stages k));
 }
-
-pub not_there : (tables : List Table) (old : Slots) (table id : ℕ) → place_in old.places id ≡ None → Refused tables old (ops.Delete table id ∷ [])
-not_there tables old table id absent = record { never = λ rows stages k can few. wrong (ap (is_in_table table) (k.row id ∙ ap (row_in old.list.items) absent)) (and_left (is_in_table table (finmap.get rows id)) true can) }
-  where
-    wrong : {b : Bool} → b ≡ false → b ≡ true → ⊥
-    wrong e f = cc
-
-pub not_of_table : (tables : List Table) (old : Slots) (table id place : ℕ) (x : Slot) → place_in old.places id ≡ Some place → slice_get old.list.items place ≡ Some x → x.table ≢ table → Refused tables old (ops.Delete table id ∷ [])
-not_of_table tables old table id place x at is other = record { never = λ rows stages k can few. other (eqb-true x.table table (sym (ap (is_in_table table) (held tables old rows stages k id place x at is)) ∙ and_left (is_in_table table (finmap.get rows id)) true can)) }
 
 -- ---- one after the other
 

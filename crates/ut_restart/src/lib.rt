@@ -6,6 +6,8 @@ mod replay;
 mod restart;
 mod slots;
 mod stages;
+#[cfg(test)]
+mod tests;
 
 pub use error::RestartError;
 pub use restart::reopen;
