@@ -1,25 +1,24 @@
 -- What operations, one after the other, make of the rows.
-use Rattle.std.proofs.Common.{ℕ, ◌+◌, ◌<◌, ◌≤◌, ◌≡◌, ◌≢◌, max, Bool, true, false, ◌&&◌, List, [], ◌∷◌, ◌++◌, length, Option, None, Some, refl, sym, ap, ◌∙◌, subst, arith, slice_get, slice_set, length-append, length-set, IsTrue, nat_eq, nat_le, nat_lt, eq-eqb, eqb-true, leb-true, ltb-true, lt-ltb}
+use Rattle.std.proofs.Common.{ℕ, ◌+◌, ◌<◌, ◌≡◌, max, Bool, true, false, ◌&&◌, List, [], ◌∷◌, ◌++◌, length, Option, None, Some, refl, sym, ap, ◌∙◌, subst, arith, slice_get, slice_set, length-append, length-set, IsTrue, nat_le, nat_lt, eq-eqb, ltb-true}
 use Rattle.std.proofs.lemmas.List.Sums.{sum_by-append, sum_by-cons}
 use Rattle.std.specs.Option.{is_none, option_map}
-use Rattle.std.specs.List.{sum_by}
 use Rattle.std.specs.FinMap as finmap
 use Rattle.ut_value.specs.declared.value.Row.{Row}
 use Rattle.ut_value.specs.declared.entry.Op.{Op}
 use Rattle.ut_value.specs.declared.entry.Op.TheVariants as ops
 use Rattle.ut_plain.specs.declared.table.Table.{Table}
 use Rattle.ut_plain.specs.Tables.{columns_at, fits_table}
-use Rattle.ut_plain.specs.Rows.{Rows, with_op, with_ops, can_apply, can_apply_all, next_after, op_inserts, inserts_of, is_in_table}
+use Rattle.ut_plain.specs.Rows.{Rows, with_op, with_ops, can_apply_all, next_after, op_inserts, is_in_table}
 use Rattle.ut_plain.specs.Stages.{Stages, with_stages, entered, placed}
 use Rattle.ut_plain.specs.Restart.{replayed_ops, with_dead}
-use Rattle.ut_plain.proofs.BoolLemmas.{and_left, and_right, and_both, not_both, some_is_not_none}
+use Rattle.ut_plain.proofs.BoolLemmas.{and_left, and_right, and_both}
 use Rattle.ut_plain.proofs.RowLaws.{with_ops-append, can_apply_all-append}
 use Rattle.ut_restart.specs.declared.slots.Slot.{Slot}
 use Rattle.ut_restart.specs.declared.slots.Slots.{Slots}
 use Rattle.ut_restart.specs.Slots.{IsSet, IsSound, Keeps, place_in, row_in, stored_of}
 use Rattle.ut_restart.specs.Applied.{AreSlots, AreRows, Added, Applied, Refused, may_insert}
 use Rattle.ut_restart.proofs.AddedLemmas.{IsSound-added, Keeps-added}
-use Rattle.ut_restart.proofs.DeadLemmas.{IsSound-dead, Keeps-dead, row_id}
+use Rattle.ut_restart.proofs.DeadLemmas.{IsSound-dead, Keeps-dead}
 
 -- ---- one row
 
@@ -55,7 +54,7 @@ inserted tables old new table row sound test added = record {
   load = omega (arith, ap length added.list, length-append old.list.items (x ∷ []), sum_by-cons op_inserts (ops.Insert table row.id row.values) []);
   can = λ rows stages k.
       and_both _ true (and_both _ (is_none (finmap.get rows row.id)) (and_both _ (nat_le row.id 2147483648) (and_both (fits_table (columns_at tables table) row.values) _ m.fits m.some) m.small)
-        (ap is_none (k.row row.id ∙ ap (row_in old.list.items) free))) refl;
+      (ap is_none (k.row row.id ∙ ap (row_in old.list.items) free))) refl;
   rows = λ rows stages k. subst (λ xs. Keeps tables xs (place_in new.places) (with_op rows (ops.Insert table row.id row.values)) (with_stages (entered false (placed row.id row.values)) table stages)) (sym added.list)
       (Keeps-added tables old.list.items (place_in old.places) (place_in new.places) x sound refl m.fits free few added.places rows stages k);
 }
@@ -85,7 +84,7 @@ deleted tables old new table id place x sound at is of_table list set next = rec
   can = λ rows stages k. and_both _ true (ap (is_in_table table) (held tables old rows stages k id place x at is) ∙ eq-eqb x.table table of_table) refl;
   rows = λ rows stages k. subst (λ xs. Keeps tables xs (place_in new.places) (with_op rows (ops.Delete table id)) (with_stages (with_dead id) table stages)) (sym list)
       (subst (λ t. Keeps tables (slice_set old.list.items place (record x { dead = true })) (place_in new.places) (with_op rows (ops.Delete t id)) (with_stages (with_dead id) t stages)) of_table
-        (Keeps-dead tables old.list.items (place_in old.places) (place_in new.places) id place x sound at is set rows stages k));
+      (Keeps-dead tables old.list.items (place_in old.places) (place_in new.places) id place x sound at is set rows stages k));
 }
 
 -- ---- one after the other
@@ -112,14 +111,18 @@ applied-then tables a b c os ps first second = record {
   rows = λ rows stages k.
       subst (λ rs. Keeps tables c.list.items (place_in c.places) rs (replayed_ops stages (os ++ ps))) (sym (with_ops-append rows os ps))
       (subst (λ st. Keeps tables c.list.items (place_in c.places) (with_ops (with_ops rows os) ps) st) (sym (replayed_ops-append stages os ps))
-        (second.rows (with_ops rows os) (replayed_ops stages os) (first.rows rows stages k)));
+      (second.rows (with_ops rows os) (replayed_ops stages os) (first.rows rows stages k)));
 }
 
 pub refused-then : (tables : List Table) (a b : Slots) (os ps : List Op) → Applied tables a os b → Refused tables b ps → Refused tables a (os ++ ps)
-refused-then tables a b os ps first second = record { never = λ rows stages k can few.
-    second.never (with_ops rows os) (replayed_ops stages os) (first.rows rows stages k) (and_right (can_apply_all tables rows os) _ (sym (can_apply_all-append tables rows os ps) ∙ can))
-      (omega (arith, first.load, sum_by-append op_inserts os ps)) }
+refused-then tables a b os ps first second = record {
+  never = λ rows stages k can few.
+      second.never (with_ops rows os) (replayed_ops stages os) (first.rows rows stages k) (and_right (can_apply_all tables rows os) _ (sym (can_apply_all-append tables rows os ps) ∙ can))
+      (omega (arith, first.load, sum_by-append op_inserts os ps));
+}
 
 pub refused-front : (tables : List Table) (a : Slots) (os ps : List Op) → Refused tables a os → Refused tables a (os ++ ps)
-refused-front tables a os ps refused = record { never = λ rows stages k can few.
-    refused.never rows stages k (and_left _ (can_apply_all tables (with_ops rows os) ps) (sym (can_apply_all-append tables rows os ps) ∙ can)) (omega (arith, sum_by-append op_inserts os ps)) }
+refused-front tables a os ps refused = record {
+  never = λ rows stages k can few.
+      refused.never rows stages k (and_left _ (can_apply_all tables (with_ops rows os) ps) (sym (can_apply_all-append tables rows os ps) ∙ can)) (omega (arith, sum_by-append op_inserts os ps));
+}

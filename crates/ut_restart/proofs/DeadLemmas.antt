@@ -1,24 +1,22 @@
 -- A row that is nobody's any more keeps the places.
-use Rattle.std.proofs.Common.{ℕ, ◌+◌, ◌<◌, ◌≤◌, ◌≡◌, ◌≢◌, inl, inr, Bool, true, false, cond, List, [], ◌∷◌, ◌++◌, length, map, Option, None, Some, refl, sym, ap, ◌∙◌, subst, arith, slice_get, slice_set, length-set, IsTrue, nat_eq, eq-eqb}
+use Rattle.std.proofs.Common.{ℕ, ◌<◌, ◌≡◌, ◌≢◌, inl, inr, true, false, cond, List, length, Option, None, Some, refl, sym, ap, ◌∙◌, subst, arith, slice_get, slice_set, length-set, IsTrue, eq-eqb}
 use Rattle.std.proofs.lemmas.Bool.{cases_eq}
 use Rattle.std.proofs.lemmas.List.{length-map}
-use Rattle.std.specs.Option.{option_map, option_and_then}
+use Rattle.std.specs.Option.{option_map}
 use Rattle.std.specs.FinMap as finmap
 use Rattle.ut_value.specs.declared.entry.Op.TheVariants as ops
-use Rattle.ut_value.specs.declared.value.Column.{Column}
 use Rattle.ut_value.specs.declared.value.Value.{Value}
 use Rattle.ut_plain.specs.declared.table.Table.{Table}
-use Rattle.ut_plain.specs.declared.table.Stored.{Stored}
 use Rattle.ut_plain.specs.Tables.{columns_at, fits_table}
-use Rattle.ut_plain.specs.Rows.{Rows, with_op, op_at}
+use Rattle.ut_plain.specs.Rows.{Rows, with_op}
 use Rattle.ut_plain.specs.Stages.{Stages, no_stages, with_stages}
 use Rattle.ut_plain.specs.Restart.{with_dead}
 use Rattle.ut_plain.proofs.RowLaws.{get-with_op, op_at-other}
 use Rattle.ut_exact.proofs.FateLemmas.{other_number}
 use Rattle.ut_store.proofs.ListLemmas.{get-set_same, get-set_other, get-within}
 use Rattle.ut_restart.specs.declared.slots.Slot.{Slot}
-use Rattle.ut_restart.specs.Slots.{Places, IsSet, IsSound, Keeps, stored_of, row_in, placed_of, entered_at, stages_from, empty_stages}
-use Rattle.ut_restart.proofs.StageLemmas.{buried_at, buried-set, dead-stages, dead-empty}
+use Rattle.ut_restart.specs.Slots.{Places, IsSet, IsSound, Keeps, row_in, stages_from, empty_stages}
+use Rattle.ut_restart.proofs.StageLemmas.{buried-set, dead-stages, dead-empty}
 use Rattle.ut_restart.proofs.AddedLemmas.{row_in-same}
 
 nothing : {X : Type 0} (x : X) → None ≡ Some x → ⊥

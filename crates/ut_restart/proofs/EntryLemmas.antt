@@ -1,15 +1,13 @@
 -- What an entry makes of the tables and their rows.
-use Rattle.std.proofs.Common.{ℕ, ◌+◌, ◌<◌, ◌≤◌, ◌≡◌, Bool, true, false, ◌&&◌, List, [], ◌∷◌, ◌++◌, length, Option, None, Some, refl, sym, ap, ◌∙◌, subst, arith, slice_get, length-append, IsTrue, nat_lt, lt-ltb, Vec, Global}
+use Rattle.std.proofs.Common.{ℕ, ◌+◌, ◌<◌, ◌≤◌, ◌≡◌, List, [], ◌∷◌, ◌++◌, length, Some, refl, sym, ap, ◌∙◌, subst, arith, slice_get, IsTrue, nat_lt, lt-ltb, Vec, Global}
 use Rattle.std.proofs.lemmas.List.{length-map}
 use Rattle.std.specs.Option.{is_none}
-use Rattle.ut_value.specs.declared.value.Column.{Column}
 use Rattle.ut_value.specs.declared.entry.Op.{Op}
 use Rattle.ut_value.specs.declared.entry.Entry.TheVariants as entries
 use Rattle.ut_plain.specs.declared.table.Table.{Table}
-use Rattle.ut_plain.specs.Tables.{columns_at, fits_table, place_of}
+use Rattle.ut_plain.specs.Tables.{place_of}
 use Rattle.ut_plain.specs.Rows.{Rows, can_apply_all, next_after}
 use Rattle.ut_plain.specs.Stages.{Stages, no_stages}
-use Rattle.ut_plain.specs.State.{State, suits}
 use Rattle.ut_plain.proofs.BoolLemmas.{and_both}
 use Rattle.ut_plain.proofs.TableLemmas.{fits_table-more}
 use Rattle.ut_store.proofs.ListLemmas.{InPushed, Last, Before, in_pushed}
@@ -17,8 +15,8 @@ use Rattle.ut_restart.specs.declared.slots.Slot.{Slot}
 use Rattle.ut_restart.specs.declared.slots.Slots.{Slots}
 use Rattle.ut_restart.specs.declared.replay.Replay.{Replay}
 use Rattle.ut_restart.specs.Slots.{Places, IsSound, Keeps, place_in, stages_from, empty_stages}
-use Rattle.ut_restart.specs.Applied.{AreSlots, AreRows, Applied}
-use Rattle.ut_restart.specs.Replayed.{IsReplay, Agrees, Followed}
+use Rattle.ut_restart.specs.Applied.{Applied}
+use Rattle.ut_restart.specs.Replayed.{IsReplay, Followed}
 use Rattle.ut_restart.proofs.StageLemmas.{stages_from-more, empty_stages-more}
 use Rattle.ut_restart.proofs.DeadLemmas.{fits-below}
 

@@ -1,6 +1,6 @@
 -- The one place that is somebody's and holds the row of an id.
-use Rattle.std.proofs.Common.{ℕ, zero, suc, ◌+◌, ◌<◌, ◌≤◌, ◌≡◌, ◌≢◌, inl, inr, Bool, true, false, cond, List, [], ◌∷◌, length, Option, None, Some, refl, sym, ap, ◌∙◌, subst, arith, slice_get, slice_set, length-set, nat_eq, eq-eqb}
-use Rattle.std.specs.Option.{option_map, option_and_then, unwrap_or}
+use Rattle.std.proofs.Common.{ℕ, zero, suc, ◌<◌, ◌≡◌, ◌≢◌, Bool, true, false, cond, List, [], ◌∷◌, length, Option, None, Some, refl, sym, ap, ◌∙◌, subst, arith, slice_get, length-set, eq-eqb}
+use Rattle.std.specs.Option.{option_map}
 use Rattle.ut_plain.specs.declared.table.Table.{Table}
 use Rattle.ut_plain.specs.declared.table.Stored.{Stored}
 use Rattle.ut_exact.specs.Stamped.{Stamped}
@@ -10,7 +10,7 @@ use Rattle.ut_exact.proofs.PlaceLemmas.{AreHeld-pushed, AreHeld-dead}
 use Rattle.ut_exact.proofs.FateLemmas.{other_number}
 use Rattle.ut_scan.specs.declared.place.Place.{Place}
 use Rattle.ut_scan.specs.declared.place.Place.TheVariants.{L1, L2}
-use Rattle.ut_table.specs.Staged.{Staged, no_rows, entered_l1}
+use Rattle.ut_table.specs.Staged.{Staged, entered_l1}
 use Rattle.ut_store.specs.Held.{place_at}
 use Rattle.ut_store.proofs.StageLemmas.{pushed_l1}
 use Rattle.ut_restart.specs.declared.slots.Slot.{Slot}
@@ -71,9 +71,9 @@ AreHeld-from : (staged : List Staged) (held : ℕ → Option Stamped) (xs : List
 AreHeld-from staged held [] below free o a = a
 AreHeld-from staged held (x ∷ xs) below free o a =
     AreHeld-from (entered_in staged x) (held_with x.dead held x) xs
-      (λ i y at. subst (λ n. y.table < n) (sym (length-set staged x.table (entered_l1 (staged_row x) (staged_at staged x.table)))) (below (suc i) y at))
-      (free_behind held x xs x.dead refl o free) (AreOnce-rest x xs o)
-      (AreHeld-entered staged held x x.dead refl (below 0 x refl) (free 0 x refl) a)
+    (λ i y at. subst (λ n. y.table < n) (sym (length-set staged x.table (entered_l1 (staged_row x) (staged_at staged x.table)))) (below (suc i) y at))
+    (free_behind held x xs x.dead refl o free) (AreOnce-rest x xs o)
+    (AreHeld-entered staged held x x.dead refl (below 0 x refl) (free 0 x refl) a)
 
 -- nobody stands in tables without rows
 nobody : (tables : List Table) (n : ℕ) (p : Place) (row : StagedRow) → place_at (no_staged tables) n p ≡ Some row → ⊥

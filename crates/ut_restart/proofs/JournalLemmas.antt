@@ -1,20 +1,20 @@
 -- Entries, one after the other, against the state before each.
-use Rattle.std.proofs.Common.{ℕ, ◌+◌, ◌≤◌, ◌≡◌, true, ◌&&◌, List, [], ◌∷◌, ◌++◌, length, None, Some, refl, sym, ap, ◌∙◌, subst, arith, slice_get, length-append, IsTrue}
+use Rattle.std.proofs.Common.{ℕ, ◌≡◌, List, [], ◌∷◌, ◌++◌, length, None, Some, refl, sym, ap, ◌∙◌, subst, arith, slice_get, length-append, IsTrue}
 use Rattle.std.proofs.lemmas.List.Sums.{sum_by-append, sum_by-cons}
-use Rattle.std.specs.List.{AllByRecursion, sum_by}
+use Rattle.std.specs.List.{AllByRecursion}
 use Rattle.std.specs.FinMap as finmap
 use Rattle.std.specs.Ordering.{nat_cmp}
 use Rattle.ut_value.specs.declared.entry.Entry.{Entry}
 use Rattle.ut_value.specs.Spelling.{has_spelling}
-use Rattle.ut_plain.specs.State.{State, empty_state, can, suits, after, entry_inserts}
+use Rattle.ut_plain.specs.State.{State, empty_state, can, after, entry_inserts}
 use Rattle.ut_plain.specs.Journal.{after_all, can_all}
 use Rattle.ut_plain.specs.Stages.{Stages}
 use Rattle.ut_plain.specs.Restart.{replayed_entry, replayed}
 use Rattle.ut_plain.proofs.BoolLemmas.{and_left, and_right, and_both}
 use Rattle.ut_plain.proofs.JournalLaws.{after_all-append, can_all-append}
 use Rattle.ut_restart.specs.declared.replay.Replay.{Replay}
-use Rattle.ut_restart.specs.Slots.{Places, IsSound, Keeps, place_in, row_in, stages_from, empty_stages}
-use Rattle.ut_restart.specs.Replayed.{IsReplay, Agrees, Followed, Strange, Replayed, NoJournal}
+use Rattle.ut_restart.specs.Slots.{place_in, row_in, stages_from, empty_stages}
+use Rattle.ut_restart.specs.Replayed.{Agrees, Followed, Strange, Replayed, NoJournal}
 
 nothing : {X A : Type 0} (x : X) → None ≡ Some x → A
 nothing x h = cc
@@ -69,10 +69,12 @@ can_behind s (e ∷ es) fs h = can_behind (after s e) es fs (and_right (can s e)
 
 -- an entry that does not suit what stood before it
 pub no_journal : (es : List Entry) (e : Entry) (rest : List Entry) (a : Replay) → Replayed es a → Strange a e → NoJournal (es ++ e ∷ rest)
-no_journal es e rest a r strange = record { never = λ can few.
-    let here = and_left _ (can_all (after (after_all empty_state es) e) rest) (can_behind empty_state es (e ∷ rest) can) in
-    strange.never (after_all empty_state es) (replayed [] es) r.agrees (and_right (has_spelling e) _ here)
-      (omega (arith, r.load, sum_by-append entry_inserts es (e ∷ rest), sum_by-cons entry_inserts e rest)) }
+no_journal es e rest a r strange = record {
+  never = λ can few.
+      let here = and_left _ (can_all (after (after_all empty_state es) e) rest) (can_behind empty_state es (e ∷ rest) can) in
+      strange.never (after_all empty_state es) (replayed [] es) r.agrees (and_right (has_spelling e) _ here)
+      (omega (arith, r.load, sum_by-append entry_inserts es (e ∷ rest), sum_by-cons entry_inserts e rest));
+}
 
 pub within : {X : Type 0} (P : X → Type 0) (xs : List X) (y : X) (ys : List X) → AllByRecursion P (xs ++ y ∷ ys) → P y
 within P [] y ys h = h.0

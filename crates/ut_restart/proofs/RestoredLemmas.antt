@@ -1,19 +1,16 @@
 -- The store that is restored stands for the plain store that is opened.
-use Rattle.std.proofs.Common.{ℕ, zero, suc, ◌+◌, ◌<◌, ◌≤◌, ◌≡◌, max, Bool, true, false, ◌&&◌, not, cond, List, [], ◌∷◌, length, map, replicate, Option, None, Some, refl, sym, ap, ◌∙◌, subst, arith, slice_get, le-leb}
+use Rattle.std.proofs.Common.{ℕ, zero, suc, ◌+◌, ◌<◌, ◌≤◌, ◌≡◌, max, Bool, true, false, ◌&&◌, cond, List, [], ◌∷◌, length, map, replicate, Option, None, Some, refl, sym, ap, ◌∙◌, subst, arith, slice_get, le-leb}
 use Rattle.std.proofs.lemmas.List.{length-map}
 use Rattle.std.specs.Option.{option_map, unwrap_or}
-use Rattle.std.specs.List.{sum_by}
 use Rattle.std.specs.FinMap as finmap
 use Rattle.std.specs.Ordering.{nat_cmp}
 use Rattle.ut_value.specs.declared.entry.Entry.{Entry}
 use Rattle.ut_plain.specs.declared.table.Table.{Table}
 use Rattle.ut_plain.specs.declared.table.Stored.{Stored}
 use Rattle.ut_plain.specs.declared.transaction.OpenTransaction.{OpenTransaction}
-use Rattle.ut_plain.specs.Rows.{Rows}
-use Rattle.ut_plain.specs.State.{State, empty_state, entry_inserts}
-use Rattle.ut_plain.specs.Journal.{Journal, journal_len, current, state_at, deleted_after, load_of, after_all}
-use Rattle.ut_plain.specs.Restart.{replayed}
-use Rattle.ut_plain.specs.Plain.{Plain, opened_store, no_sessions, open_at}
+use Rattle.ut_plain.specs.State.{State}
+use Rattle.ut_plain.specs.Journal.{Journal, journal_len, current, load_of}
+use Rattle.ut_plain.specs.Plain.{opened_store, no_sessions, open_at}
 use Rattle.ut_plain.specs.Reached.{MayOpen, IsPlain}
 use Rattle.ut_plain.proofs.JournalLaws.{state_at-last, deleted_after-last}
 use Rattle.ut_plain.proofs.StateLaws.{IsState-empty, IsState-current}
@@ -25,19 +22,19 @@ use Rattle.ut_exact.specs.Stamped.{Stamped}
 use Rattle.ut_exact.specs.Exact.{IsExact, AreOpen, shown_by, ended_by, is_later}
 use Rattle.ut_exact.specs.Work.{AreFree}
 use Rattle.ut_exact.specs.Places.{dead_number, AreHeld}
-use Rattle.ut_table.specs.Staged.{Staged, no_rows}
-use Rattle.ut_txn.specs.Seats.{Seat, AreEmpty, opened_at, payload_at, number_at}
+use Rattle.ut_table.specs.Staged.{no_rows}
+use Rattle.ut_txn.specs.Seats.{Seat, AreEmpty, number_at}
 use Rattle.ut_store.specs.Held.{Held, place_at}
-use Rattle.ut_store.specs.Stands.{StandsFor, AreCounts, AreSeats, AreRows, stages_of, opened_snapshot, snapshot_of}
-use Rattle.ut_store.specs.Standing.{Restored, Reopened, journal_of}
+use Rattle.ut_store.specs.Stands.{AreSeats, AreRows, stages_of, opened_snapshot, snapshot_of}
+use Rattle.ut_store.specs.Standing.{Reopened, journal_of}
 use Rattle.ut_plain.specs.View.{own_ops}
 use Rattle.ut_value.specs.declared.entry.Entry.TheVariants.{Txn}
 use Rattle.ut_value.specs.Spelling.{spelling}
 use Rattle.ut_restart.specs.declared.slots.Slot.{Slot}
 use Rattle.ut_restart.specs.declared.replay.Replay.{Replay}
-use Rattle.ut_restart.specs.Slots.{stages_from, empty_stages, place_in}
-use Rattle.ut_restart.specs.Replayed.{IsReplay, Agrees, Replayed}
-use Rattle.ut_restart.specs.Standing.{staged_from, no_staged, Rebuilt}
+use Rattle.ut_restart.specs.Slots.{place_in}
+use Rattle.ut_restart.specs.Replayed.{Replayed}
+use Rattle.ut_restart.specs.Standing.{no_staged, Rebuilt}
 use Rattle.ut_restart.proofs.DeadLemmas.{fits-below}
 use Rattle.ut_restart.proofs.StandLemmas.{stages-are, columns-are}
 use Rattle.ut_restart.proofs.HeldLemmas.{before_all, AreHeld-sound}

@@ -1,12 +1,12 @@
 -- What a row more, and a row that is nobody's any more, make of the stages.
-use Rattle.std.proofs.Common.{ℕ, zero, suc, ◌<◌, ◌≡◌, ◌≢◌, inl, inr, Bool, true, false, cond, ◌&&◌, List, [], ◌∷◌, ◌++◌, length, map, Option, None, Some, refl, sym, ap, ◌∙◌, subst, arith, slice_get, slice_set, length-set, nat_eq, eqb-true, eq-eqb}
+use Rattle.std.proofs.Common.{ℕ, zero, suc, ◌<◌, ◌≡◌, ◌≢◌, inl, inr, Bool, true, false, cond, ◌&&◌, List, [], ◌∷◌, ◌++◌, length, map, Some, refl, sym, ap, ◌∙◌, subst, arith, slice_get, slice_set, length-set, nat_eq, eqb-true, eq-eqb}
 use Rattle.std.proofs.lemmas.List.{map-append}
 use Rattle.std.proofs.lemmas.Bool.{cases_eq}
 use Rattle.std.specs.Option.{unwrap_or}
 use Rattle.ut_plain.specs.declared.table.Table.{Table}
 use Rattle.ut_plain.specs.declared.stage.TableStages.{TableStages}
 use Rattle.ut_plain.specs.declared.stage.Placed.{Placed}
-use Rattle.ut_plain.specs.Stages.{Stages, no_stages, stages_at, with_stages, entered, placed}
+use Rattle.ut_plain.specs.Stages.{Stages, no_stages, stages_at, with_stages, entered}
 use Rattle.ut_plain.specs.Restart.{buried, with_dead}
 use Rattle.ut_plain.proofs.BoolLemmas.{and_right, and_both}
 use Rattle.ut_store.proofs.ListLemmas.{get-set_same, get-set_other, set-again}
@@ -94,8 +94,8 @@ dead-here id stages x h =
     ∙ set-again stages t (entered false (placed_of x) s) (with_dead id (entered false (placed_of x) s))
     ∙ ap (slice_set stages t) (dead-entered id (placed_of x) s ∙ ap (λ p. entered false p (with_dead id s)) (buried-placed t id x refl))
     ∙ sym (ap (λ k. slice_set dead k (entered false (placed_of b) (stages_at dead k))) (table-kept t id x)
-        ∙ ap (λ a. slice_set dead t (entered false (placed_of b) a)) (at-same stages t (with_dead id s) h)
-        ∙ set-again stages t (with_dead id s) (entered false (placed_of b) (with_dead id s)))
+    ∙ ap (λ a. slice_set dead t (entered false (placed_of b) a)) (at-same stages t (with_dead id s) h)
+    ∙ set-again stages t (with_dead id s) (entered false (placed_of b) (with_dead id s)))
   where
     t : ℕ
     t = x.table

@@ -1,21 +1,16 @@
 -- Rows that enter the first stages of their tables.
-use Rattle.std.proofs.Common.{ℕ, zero, suc, ◌+◌, ◌<◌, ◌≤◌, ◌≡◌, ◌≢◌, inl, inr, Bool, true, false, List, [], ◌∷◌, ◌++◌, length, map, take, Option, None, Some, refl, sym, ap, ◌∙◌, subst, arith, slice_get, slice_set, get_or, length-append, length-set, IsTrue}
+use Rattle.std.proofs.Common.{ℕ, zero, suc, ◌+◌, ◌<◌, ◌≤◌, ◌≡◌, Bool, true, false, List, [], ◌∷◌, ◌++◌, length, map, Some, refl, sym, ap, ◌∙◌, arith, slice_get, slice_set, get_or, length-append, length-set, IsTrue}
 use Rattle.std.proofs.lemmas.List.{length-map, map-append, map-set}
-use Rattle.std.proofs.lemmas.Bool.{cases_eq}
-use Rattle.std.specs.Option.{option_map, unwrap_or}
-use Rattle.ut_value.specs.declared.value.Column.{Column}
 use Rattle.ut_value.specs.declared.value.Value.{Value}
 use Rattle.ut_plain.specs.declared.table.Table.{Table}
-use Rattle.ut_plain.specs.declared.stage.TableStages.{TableStages}
 use Rattle.ut_plain.specs.Tables.{columns_at, fits_table, fits_columns}
-use Rattle.ut_plain.specs.Stages.{Stages, no_stages, stages_at, with_stages, entered}
+use Rattle.ut_plain.specs.Stages.{no_stages, stages_at, entered}
 use Rattle.ut_table.specs.Staged.{Staged, TableValue, no_rows, count_of, entered_l1}
 use Rattle.ut_store.specs.Stands.{stages_of}
 use Rattle.ut_store.specs.Stands as stands
-use Rattle.ut_store.proofs.ListLemmas.{get-set_same, get-set_other, get-pushed_last}
 use Rattle.ut_restart.specs.declared.slots.Slot.{Slot}
 use Rattle.ut_restart.specs.Slots.{placed_of, entered_at, stages_from, empty_stages}
-use Rattle.ut_restart.specs.Standing.{staged_row, stamp_of, staged_at, entered_in, staged_from, no_staged, shown, CanEnter, AreFitting}
+use Rattle.ut_restart.specs.Standing.{staged_row, staged_at, entered_in, staged_from, no_staged, shown, CanEnter, AreFitting}
 use Rattle.ut_restart.proofs.DeadLemmas.{fits-below}
 
 -- ---- one row

@@ -1,5 +1,5 @@
 -- What operations make of the rows.
-use Rattle.std.specs.Prelude.{ℕ, ◌+◌, ◌≡◌, ◌≤◌, max, List, [], ◌∷◌, ◌++◌, length, Some, IsTrue, nat_lt, nat_le, Bool, ◌&&◌, Option, is_none}
+use Rattle.std.specs.Prelude.{ℕ, ◌+◌, ◌≡◌, ◌≤◌, max, List, [], ◌∷◌, ◌++◌, length, Some, IsTrue, nat_lt, nat_le, Bool, ◌&&◌, is_none}
 use Rattle.ut_value.specs.declared.value.Row.{Row}
 use Rattle.ut_value.specs.declared.entry.Op.{Op}
 use Rattle.ut_plain.specs.declared.table.Table.{Table}

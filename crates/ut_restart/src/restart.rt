@@ -20,11 +20,7 @@ use ut_value::{Entry, Seq};
 const ENTRIES_LIMIT: usize = 1 << 30;
 
 /// The store of a log's entries. Each row stands in the first stage, in the order of its insert; a deleted one is nobody's.
-pub fn reopen(
-    alloc: Global,
-    entries: Seq<Entry>,
-    rows_limit: u32,
-) -> Result<Store, RestartError>
+pub fn reopen(alloc: Global, entries: Seq<Entry>, rows_limit: u32) -> Result<Store, RestartError>
     requires spelled { AllByRecursion IsEntry entries }
     requires limit { rows_limit ≤ 2 ^ 31 }
     ensures ok { IfOk result (Reopened entries rows_limit) }
@@ -57,7 +53,5 @@ fn rebuild(alloc: Global, replay: Replay, rows_limit: u32) -> Result<Store, Allo
     let load = list.len() as u32;
     let next_id = if next <= load { load + 1 } else { next };
     let stages = with_rows(alloc, &tables, list)?;
-    Store::restored(
-        alloc, tables, stages, next_id, rows_limit, commits, entries,
-    )
+    Store::restored(alloc, tables, stages, next_id, rows_limit, commits, entries)
 }

@@ -21,6 +21,7 @@ const DELETE: &[u8] = b"\x02\x01\0\0\0\x02\0\0\x01\0\0\0";
 
 /// The first merge, of the first table, and the second.
 const BEGUN: &[u8] = b"\x03\x01\0\0\0\0\0\x01";
+
 const BEGUN_SECOND: &[u8] = b"\x03\x02\0\0\0\0\0\x01";
 
 const ENDED: &[u8] = b"\x04\x01\0\0\0";
@@ -66,11 +67,20 @@ fn an_entry_that_does_not_suit_is_damage(rt: HostRuntime) -> Result<(), AllocErr
     assert!(rt; is_damaged(alloc, &[CREATE, CREATE])?, "a name twice");
     assert!(rt; is_damaged(alloc, &[INSERT])?, "no table");
     assert!(rt; is_damaged(alloc, &[CREATE, INSERT_TEXT])?, "another kind");
-    assert!(rt; is_damaged(alloc, &[CREATE, INSERT, INSERT])?, "an id twice");
+    assert!(rt;
+        is_damaged(alloc, &[CREATE, INSERT, INSERT])?,
+        "an id twice"
+    );
     assert!(rt; is_damaged(alloc, &[CREATE, DELETE])?, "no row");
-    assert!(rt; is_damaged(alloc, &[CREATE, INSERT, DELETE, DELETE])?, "no row any more");
+    assert!(rt;
+        is_damaged(alloc, &[CREATE, INSERT, DELETE, DELETE])?,
+        "no row any more"
+    );
     assert!(rt; is_damaged(alloc, &[BEGUN])?, "a merge of no table");
-    assert!(rt; is_damaged(alloc, &[CREATE, BEGUN_SECOND])?, "the second merge first");
+    assert!(rt;
+        is_damaged(alloc, &[CREATE, BEGUN_SECOND])?,
+        "the second merge first"
+    );
     assert!(rt; is_damaged(alloc, &[CREATE, ENDED])?, "the end of no merge");
     Ok(())
 }

@@ -1,4 +1,3 @@
-use Rattle.std.proofs.Common.{◌≡◌, ◌<◌, ◌≤◌, ◌^◌, ◌∷◌, [], length}
 use Rattle.ut_restart.specs.Replayed.{Replayed}
 use Rattle.ut_restart.proofs.replay.follow_all.Given as goal
 

@@ -13,7 +13,7 @@ enter-requires c =
     let all : c.args.slots.items ≡ c.loop-slot.yielded ++ (c.in-Some.slot ∷ rest) = sym (ap (λ xs. c.loop-slot.yielded ++ xs) (sym c.in-Some.ensures.steps.0) ∙ sym front ∙ c.into_iter-slot-iterator.ensures.into_iter_gives.0) in
     let few : length (c.loop-slot.yielded ++ (c.in-Some.slot ∷ rest)) ≤ 2147483648 = omega (arith, ap length all, c.args.slots.ok.0, c.requires.few) in
     subst (λ v. CanEnter v c.in-Some.slot) (sym (ap shown c.deref_mut.ensures.value ∙ c.loop-slot.invariant))
-      (can_enter c.args.tables.now c.loop-slot.yielded c.in-Some.slot rest (subst (AreFitting c.args.tables.now) all c.requires.fits) few)
+    (can_enter c.args.tables.now c.loop-slot.yielded c.in-Some.slot rest (subst (AreFitting c.args.tables.now) all c.requires.fits) few)
 
 pub loop-slot-preserved : goal.loop-slot-preserved
 loop-slot-preserved c =

@@ -1,4 +1,4 @@
-use Rattle.std.proofs.Common.{sym, ap, subst, ◌∙◌}
+use Rattle.std.proofs.Common.{subst}
 use Rattle.ut_restart.specs.Applied.{Applied}
 use Rattle.ut_restart.proofs.EntryLemmas.{committed}
 use Rattle.ut_restart.proofs.replay.Replay.commit.Goals as goal

@@ -18,4 +18,4 @@ returns-in_err-apply_one-clause-damaged c = λ e.
     let front = taken_front c.into_iter-op-iterator.result c.loop-op.yielded c.loop-op.op-iterator c.loop-op.yielded_by in
     let all : c.loop-op.yielded ++ (c.in-Some.op ∷ rest) ≡ c.args.ops = ap (λ xs. c.loop-op.yielded ++ xs) (sym c.in-Some.ensures.steps.0) ∙ sym front ∙ c.into_iter-op-iterator.ensures.into_iter_gives.0 ∙ c.into_vec-op-items.ensures in
     subst (Refused c.args.tables.now c.args.self.now) all
-      (refused-then c.args.tables.now c.args.self.now c.loop-op.self c.loop-op.yielded (c.in-Some.op ∷ rest) c.loop-op.invariant.2 (refused-front c.args.tables.now c.loop-op.self (c.in-Some.op ∷ []) rest here))
+    (refused-then c.args.tables.now c.args.self.now c.loop-op.self c.loop-op.yielded (c.in-Some.op ∷ rest) c.loop-op.invariant.2 (refused-front c.args.tables.now c.loop-op.self (c.in-Some.op ∷ []) rest here))

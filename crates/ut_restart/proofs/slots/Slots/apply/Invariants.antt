@@ -1,4 +1,3 @@
-use Rattle.std.proofs.Common.{◌≡◌, ◌<◌, ◌≤◌, ◌^◌, ◌∷◌, [], length}
 use Rattle.ut_restart.specs.Applied.{Applied}
 use Rattle.ut_restart.proofs.slots.Slots.apply.Given as goal
 

@@ -1,4 +1,4 @@
-use Rattle.std.proofs.Common.{◌≡◌, ap, refl, sym, ◌∙◌, Some, ◌<◌, length, slice_get, slice_set, arith, true}
+use Rattle.std.proofs.Common.{◌≡◌, ap, refl, sym, ◌∙◌, Some, ◌<◌, length, slice_set, arith, true}
 use Rattle.std.proofs.lemmas.Option.{slice_get_read}
 use Rattle.std.proofs.lemmas.Grind.{common_steps}
 use Rattle.ut_store.proofs.ListLemmas.{get-within}
@@ -16,6 +16,6 @@ returns-clause-ok c =
     let write = slice_get_read xs (length xs) c.in-Some.place c.index_mut.result.now refl within c.index_mut.ensures.value in
     let same : c.index_mut.result.now ≡ c.index.result.now = cc in
     deleted c.args.tables.now c.args.self.now _ c.args.table c.args.id c.in-Some.place c.index.result.now c.requires at read c.if-index-table.false
-      (ap (λ x. slice_set xs c.in-Some.place (record x { dead = true })) same)
-      (record { here = grind (arith, common_steps); others = λ q ne. grind (arith, common_steps) })
-      refl
+    (ap (λ x. slice_set xs c.in-Some.place (record x { dead = true })) same)
+    (record { here = grind (arith, common_steps); others = λ q ne. grind (arith, common_steps) })
+    refl
