@@ -1,0 +1,10 @@
+pub mod StageLemmas
+pub mod AddedLemmas
+pub mod DeadLemmas
+pub mod AppliedLemmas
+pub mod TakenLemmas
+pub mod EntryLemmas
+pub mod JournalLemmas
+pub mod StandLemmas
+pub mod HeldLemmas
+pub mod RestoredLemmas

@@ -1,0 +1,4 @@
+pub mod Slots
+pub mod Applied
+pub mod Replayed
+pub mod Standing

@@ -1,0 +1,86 @@
+//! Logs, as the bytes of their entries, and whether they are stores.
+ghost use Rattle.std.specs.Prelude.{IfOk};
+ghost use Rattle.std.specs.List.{AllByRecursion};
+ghost use Rattle.ut_redo.specs.Frames.{IsEntry};
+
+use crate::{RestartError, reopen};
+use std::alloc::{AllocError, Global};
+use ut_entry::entry_from;
+use ut_value::{Entry, Seq};
+
+/// The table T with a column k of numbers.
+const CREATE: &[u8] = b"\x01\x01\x54\x01\x00\x01\x6b";
+
+/// The row 1 of the first table: 5.
+const INSERT: &[u8] = b"\x02\x01\0\0\0\x01\0\0\x01\0\0\0\x01\x00\x80\0\0\0\0\0\0\x05";
+
+/// The row 1 of the first table, but a text.
+const INSERT_TEXT: &[u8] = b"\x02\x01\0\0\0\x01\0\0\x01\0\0\0\x01\x01\x01\x61";
+
+const DELETE: &[u8] = b"\x02\x01\0\0\0\x02\0\0\x01\0\0\0";
+
+/// The first merge, of the first table, and the second.
+const BEGUN: &[u8] = b"\x03\x01\0\0\0\0\0\x01";
+
+const BEGUN_SECOND: &[u8] = b"\x03\x02\0\0\0\0\0\x01";
+
+const ENDED: &[u8] = b"\x04\x01\0\0\0";
+
+// The entries that each have their bytes.
+fn entries_of(alloc: Global, log: &[&[u8]]) -> Result<Seq<Entry>, AllocError>
+    ensures { IfOk result (λ entries. AllByRecursion IsEntry entries) }
+{
+    let mut entries = Vec::new(alloc);
+    for bytes in log {
+        if let Some((entry, _)) = entry_from(alloc, *bytes)? {
+            entries.push(entry)?;
+        }
+    }
+    Ok(Seq::from_vec(entries))
+}
+
+#[test]
+fn a_log_is_a_store(rt: HostRuntime) -> Result<(), RestartError> {
+    let alloc = rt.alloc();
+    let log = [CREATE, INSERT, BEGUN, DELETE, ENDED, INSERT, BEGUN_SECOND];
+    let entries = entries_of(alloc, &log)?;
+    assert_eq!(rt; entries.len(), 7);
+    let store = reopen(alloc, entries, 100)?;
+    assert_eq!(rt; store.entries(), 7);
+    assert_eq!(rt; store.commits(), 4);
+    Ok(())
+}
+
+fn is_damaged(alloc: Global, log: &[&[u8]]) -> Result<bool, AllocError> {
+    let entries = entries_of(alloc, log)?;
+    match reopen(alloc, entries, 100) {
+        Err(RestartError::Damaged) => Ok(true),
+        Err(RestartError::Memory) => Err(AllocError),
+        Ok(_) => Ok(false),
+    }
+}
+
+#[test]
+fn an_entry_that_does_not_suit_is_damage(rt: HostRuntime) -> Result<(), AllocError> {
+    let alloc = rt.alloc();
+    assert!(rt; !is_damaged(alloc, &[])?);
+    assert!(rt; is_damaged(alloc, &[CREATE, CREATE])?, "a name twice");
+    assert!(rt; is_damaged(alloc, &[INSERT])?, "no table");
+    assert!(rt; is_damaged(alloc, &[CREATE, INSERT_TEXT])?, "another kind");
+    assert!(rt;
+        is_damaged(alloc, &[CREATE, INSERT, INSERT])?,
+        "an id twice"
+    );
+    assert!(rt; is_damaged(alloc, &[CREATE, DELETE])?, "no row");
+    assert!(rt;
+        is_damaged(alloc, &[CREATE, INSERT, DELETE, DELETE])?,
+        "no row any more"
+    );
+    assert!(rt; is_damaged(alloc, &[BEGUN])?, "a merge of no table");
+    assert!(rt;
+        is_damaged(alloc, &[CREATE, BEGUN_SECOND])?,
+        "the second merge first"
+    );
+    assert!(rt; is_damaged(alloc, &[CREATE, ENDED])?, "the end of no merge");
+    Ok(())
+}
