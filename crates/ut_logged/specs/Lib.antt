@@ -1,0 +1,4 @@
+pub mod Logged
+pub mod Readings
+pub mod Runs
+pub mod Serves
