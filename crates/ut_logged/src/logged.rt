@@ -1,8 +1,9 @@
 //! The store and its log.
-ghost use Rattle.std.specs.Prelude.{◌≡◌, ◌<◌, ◌≤◌, ◌^◌, ◌↔◌, ℕ, true, IsTrue, IfOk, IsErrOf};
-ghost use Rattle.ut_outside.specs.Disk.{IsTold};
-ghost use Rattle.ut_outside.specs.Faults.{Rose};
-ghost use Rattle.ut_outside.specs.Run.{Always, LeavesOnly};
+ghost use Rattle.std.specs.Prelude.{◌≡◌, ◌<◌, ◌≤◌, ◌^◌, ◌↔◌, ℕ, true, IsTrue, IfOk, OnOk, IsErrOf};
+ghost use Rattle.ut_outside.specs.declared.disk.Which.{Which};
+ghost use Rattle.ut_outside.specs.Disk.{IsTold, content};
+ghost use Rattle.ut_outside.specs.Faults.{Rose, HasCause};
+ghost use Rattle.ut_outside.specs.Run.{Always, LeavesOnly, ReadsOnly};
 ghost use Rattle.ut_pages.specs.Layout.{IsMade};
 ghost use Rattle.ut_plain.specs.Journal.{Journal};
 ghost use Rattle.ut_plain.specs.Plain.{Plain, new_store};
@@ -15,10 +16,12 @@ ghost use Rattle.ut_logged.specs.Serves.{Serves};
 use crate::error::OpenError;
 use std::alloc::Global;
 use std::marker::Model;
-use ut_outside::Disk;
-use ut_plain::{Refusal, Reply, Statement};
+use ut_outside::{Disk, Failed, Which};
+use ut_pages::Pages;
+use ut_plain::{Reply, Statement};
 use ut_redo::Redo;
-use ut_store::Store;
+use ut_restart::reopen;
+use ut_store::{Store, Turn};
 
 /// A store in memory behind its log. Each call that may write is lent the disk.
 #[derive(Drop)]
@@ -34,8 +37,6 @@ impl Model for LoggedStore {
     ghost Value = { Logged };
 
     ghost view = { λ e. record { store = e.store; log = e.redo; down = e.down } };
-
-    ghost invariant = { λ e. ⊥ };
 }
 
 impl LoggedStore {
@@ -53,7 +54,17 @@ impl LoggedStore {
         ensures told { (D.view disk.new).told ≡ (D.view disk.old).told }
         ensures later { (D.view disk.old).faults ≤ (D.view disk.new).faults }
     {
-        Err(OpenError::Memory)
+        if Pages::made(disk)? {
+            return Err(OpenError::Made);
+        }
+        let store = Store::new(alloc, rows)?; // before a file is touched
+        let redo = Redo::make(disk)?; // before the page file is made
+        Pages::make(disk)?;
+        Ok(LoggedStore {
+            store,
+            redo,
+            down: false,
+        })
     }
 
     /// Opens a store with what its files say. It writes nothing.
@@ -70,7 +81,17 @@ impl LoggedStore {
         ensures told { (D.view disk.new).told ≡ (D.view disk.old).told }
         ensures later { (D.view disk.old).faults ≤ (D.view disk.new).faults }
     {
-        Err(OpenError::Memory)
+        settle(disk)?;
+        if !Pages::made(disk)? {
+            return Err(OpenError::NotMade);
+        }
+        let (redo, entries) = Redo::read_all(alloc, disk, 0)?;
+        let store = reopen(alloc, entries, rows)?;
+        Ok(LoggedStore {
+            store,
+            redo,
+            down: false,
+        })
     }
 
     /// Answers a statement of a session: a change only once its entry is on the disk. A commit and an abort take no memory.
@@ -87,24 +108,31 @@ impl LoggedStore {
         requires runs { (p : Plain) × Runs self.old (D.view disk.old) p }
         ensures { Serves self.old (D.view disk.old) session st.now result self.new (D.view disk.new) }
     {
-        let _read = self.down;
-        Reply::Refused(Refusal::Memory)
+        match self.store.statement(alloc, session, st) {
+            Turn::Answered(reply) => reply,
+            Turn::Append(reply) => match self.redo.append(disk, self.store.frame()) {
+                Ok(()) => reply,
+                Err(_) => {
+                    drop(reply); // it is not handed out
+                    self.down = true;
+                    Reply::DiskFault
+                }
+            },
+        }
     }
 
     /// How many entries the journal has.
     pub fn journal_len(&self) -> u32
         ensures { result ≡ self.now.store.entries }
     {
-        let _read = self.down;
-        0
+        self.store.entries()
     }
 
     /// How many tables were made and transactions committed.
     pub fn commits(&self) -> u32
         ensures { result ≡ self.now.store.commits }
     {
-        let _read = self.down;
-        0
+        self.store.commits()
     }
 
     /// Whether the disk has failed. Then the store has to be opened again.
@@ -113,4 +141,14 @@ impl LoggedStore {
     {
         self.down
     }
+}
+
+// Syncs both files, so that a crash leaves what a read returns.
+fn settle<D: Disk>(disk: &mut D) -> Result<(), Failed>
+    ensures settled { OnOk result (IsTold (D.view disk.old) → Always (D.view disk.new) (λ c. (file : Which) → content file c ≡ content file (D.view disk.old).seen)) }
+    ensures reads { ReadsOnly (D.view disk.old) (D.view disk.new) }
+    ensures cause { HasCause (D.view disk.old).faults (D.view disk.new).faults result }
+{
+    disk.sync(Which::Redo)?;
+    disk.sync(Which::Pages)
 }
