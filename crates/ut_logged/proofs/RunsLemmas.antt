@@ -1,26 +1,25 @@
 -- What a running store's files hold, before an entry is appended, while it is and after.
-use Rattle.std.proofs.Common.{◌≡◌, ◌≢◌, ◌⊎◌, inl, inr, ⊎_elim, ℕ, ◌+◌, ◌*◌, ◌≤◌, ◌<◌, ◌^◌, false, true, List, [], ◌∷◌, ◌++◌, length, refl, sym, ◌∙◌, ap, subst, arith, IsTrue}
+use Rattle.std.proofs.Common.{◌≡◌, ◌≢◌, inl, inr, ⊎_elim, ℕ, ◌+◌, ◌≤◌, ◌<◌, ◌^◌, true, List, [], ◌∷◌, ◌++◌, length, refl, sym, ◌∙◌, ap, subst, arith, IsTrue}
 use Rattle.ut_outside.specs.declared.disk.Which.{Which}
 use Rattle.ut_outside.specs.declared.disk.Which.TheVariants.{Redo, Pages}
-use Rattle.ut_outside.specs.Disk.{Image, View, IsTold, Others, content}
+use Rattle.ut_outside.specs.Disk.{Image, View, IsTold, Others}
 use Rattle.ut_outside.specs.Faults.{Rose}
 use Rattle.ut_outside.specs.Run.{Always, LeavesOnly, ComesFrom}
 use Rattle.ut_outside.proofs.RunLemmas.{started, weaker}
 use Rattle.ut_value.specs.declared.entry.Entry.{Entry}
-use Rattle.ut_value.specs.Spelling.{spelling, has_spelling, Spells}
+use Rattle.ut_value.specs.Spelling.{spelling, Spells}
 use Rattle.ut_value.proofs.OneSpelling.{entry_rule}
 use Rattle.ut_value.proofs.SpellingLengths.{entry_length}
 use Rattle.ut_pages.specs.Layout.{IsMade}
 use Rattle.ut_redo.specs.Appends.{Place, behind, HasClosedGate, BeforeOrAfter, After}
 use Rattle.ut_redo.specs.Frames.{Holds}
-use Rattle.ut_plain.specs.State.{State, empty_state}
-use Rattle.ut_plain.specs.Journal.{Journal, journal_len, prefix, appended, IsJournal}
+use Rattle.ut_plain.specs.State.{empty_state}
+use Rattle.ut_plain.specs.Journal.{Journal, journal_len, appended, IsJournal}
 use Rattle.ut_plain.specs.Plain.{Plain}
 use Rattle.ut_plain.specs.Reached.{IsPlain, MayOpen}
 use Rattle.ut_plain.specs.declared.statement.Statement.{Statement}
 use Rattle.ut_plain.specs.declared.reply.Reply.{Reply}
 use Rattle.ut_plain.specs.declared.reply.Reply.TheVariants.{DiskFault}
-use Rattle.ut_plain.specs.Step.{step}
 use Rattle.ut_plain.proofs.JournalLaws.{journal_len-appended}
 use Rattle.ut_store.specs.declared.turn.Turn.TheVariants.{Answered, Append}
 use Rattle.ut_store.specs.Held.{Held}

@@ -1,10 +1,10 @@
 -- When a store runs, and what its files hold then.
-use Rattle.std.specs.Prelude.{ℕ, ◌+◌, ◌*◌, ◌≡◌, ◌≤◌, ◌⊎◌, false, []}
+use Rattle.std.specs.Prelude.{ℕ, ◌*◌, ◌≡◌, ◌≤◌, ◌⊎◌, false, []}
 use Rattle.ut_outside.specs.Disk.{View, Image, IsTold}
 use Rattle.ut_outside.specs.Run.{Always}
 use Rattle.ut_outside.specs.declared.disk.Which.TheVariants.{Redo}
 use Rattle.ut_pages.specs.Layout.{IsMade}
-use Rattle.ut_redo.specs.Appends.{Place, HasClosedGate}
+use Rattle.ut_redo.specs.Appends.{HasClosedGate}
 use Rattle.ut_plain.specs.State.{empty_state}
 use Rattle.ut_plain.specs.Journal.{Journal, empty_journal, journal_len}
 use Rattle.ut_plain.specs.Plain.{Plain, opened_store}
