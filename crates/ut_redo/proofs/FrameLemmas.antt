@@ -1,5 +1,5 @@
 -- Frames can be read in one way only.
-use Rattle.std.proofs.Common.{◌≡◌, ◌≢◌, ℕ, ◌+◌, ◌<◌, ◌≤◌, ◌^◌, List, [], ◌∷◌, ◌++◌, length, take, drop, refl, sym, ◌∙◌, ap, subst, arith, append_assoc}
+use Rattle.std.proofs.Common.{◌≡◌, ◌≢◌, ℕ, ◌+◌, ◌*◌, ◌<◌, ◌≤◌, ◌^◌, List, [], ◌∷◌, ◌++◌, length, take, drop, refl, sym, ◌∙◌, ap, subst, arith, append_assoc}
 use Rattle.std.specs.List.{flat_map, AllByRecursion}
 use Rattle.std.specs.Int.{w32, to_le_bytes, from_le_bytes}
 use Rattle.std.proofs.lemmas.List.{take_at, length-append, append-nil, flat_map_more}
@@ -27,6 +27,13 @@ payload_push done e bytes rest after parts front =
 pub each_push : (done : List Entry) (e : Entry) → AllByRecursion IsEntry done → IsEntry e → AllByRecursion IsEntry (done ++ e ∷ [])
 each_push [] e each here = (here, tt)
 each_push (d ∷ done) e each here = (each.0, each_push done e each.1 here)
+
+pub each_append : (done more new : List Entry) → new ≡ done ++ more → AllByRecursion IsEntry done → AllByRecursion IsEntry more → AllByRecursion IsEntry new
+each_append done more new is each rest = subst (AllByRecursion IsEntry) (sym is) (both done each)
+  where
+    both : (done : List Entry) → AllByRecursion IsEntry done → AllByRecursion IsEntry (done ++ more)
+    both [] each = rest
+    both (d ∷ done) each = (each.0, both done each.1)
 
 -- ---- frames
 
@@ -169,3 +176,8 @@ one_reading from first second end end' file a b =
 pub size_push : (frames : List (List Entry)) (items : List Entry) → size (frames ++ items ∷ []) ≡ size frames + length (frame_of items)
 size_push [] items = omega arith
 size_push (f ∷ frames) items = omega (arith, size_push frames items)
+
+-- a frame more has an entry more at least
+pub small_more : (from at after len : ℕ) (out new items : List Entry) (payload : List ℕ) → at ≤ from + length out * 1073741829 → after ≡ at + (5 + len) → len ≤ 1073741824 → new ≡ out ++ items → 1 ≤ length payload → payload ≡ payload_of items
+    → after ≤ from + length new * 1073741829
+small_more from at after len out new items payload so_far there short is some spells = omega (arith, so_far, there, short, ap length is, length-append out items, items_some items payload some spells)

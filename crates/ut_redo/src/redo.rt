@@ -1,13 +1,14 @@
 //! The log's end. Its frames stand each behind a gate byte, which is opened by a write of its own
 //! once the frame is on the disk.
-ghost use Rattle.std.specs.Prelude.{◌≡◌, ◌+◌, ◌^◌, ◌≤◌, ◌∷◌, ⊤, [], List, ℕ, length, IfOk, OnOk, MatchResult, IsErrOf};
+ghost use Rattle.std.specs.Prelude.{◌≡◌, ◌+◌, ◌*◌, ◌^◌, ◌≤◌, ◌∷◌, ⊤, [], List, ℕ, length, IfOk, OnOk, MatchResult, IsErrOf};
+ghost use Rattle.std.specs.List.{AllByRecursion};
 ghost use Rattle.ut_outside.specs.Disk.{IsTold, Others, content};
 ghost use Rattle.ut_outside.specs.Faults.{HasCause, Rose};
 ghost use Rattle.ut_outside.specs.Run.{Always, ComesFrom, LeavesOnly, ReadsOnly};
 ghost use Rattle.ut_outside.specs.declared.disk.Which.TheVariants.{Redo as RedoFile};
 ghost use Rattle.ut_value.specs.declared.entry.Entry.{Entry};
 ghost use Rattle.ut_value.specs.Spelling.{Spells};
-ghost use Rattle.ut_redo.specs.Frames.{Holds};
+ghost use Rattle.ut_redo.specs.Frames.{IsEntry, Holds};
 ghost use Rattle.ut_redo.specs.Appends.{Place, behind, HasClosedGate, BeforeOrAfter, After};
 
 use crate::EntryList;
@@ -97,6 +98,9 @@ impl Redo {
         from: u64,
     ) -> Result<(Redo, EntryList), RedoError>
         ensures found { IfOk result (λ r. (r.0.file ≡ RedoFile) × (IsTold (D.view disk.old) → Holds from r.1 r.0.end (content RedoFile (D.view disk.old).seen))) }
+        // Whatever the disk tells, each entry has a spelling, and a frame has at least one.
+        ensures spelled { IfOk result (λ r. AllByRecursion IsEntry r.1) }
+        ensures small { IfOk result (λ r. r.0.end ≤ from + length r.1 * 1073741829) }
         ensures damaged { IsErrOf result RedoError.Damaged → IsTold (D.view disk.old)
             → (items : List Entry) (end : ℕ) → Holds from items end (content RedoFile (D.view disk.old).seen) → ⊥ }
         ensures reads { ReadsOnly (D.view disk.old) (D.view disk.new) }
@@ -114,6 +118,8 @@ fn read_log<D: Disk>(
     from: u64,
 ) -> Result<(Redo, EntryList), RedoError>
     ensures found { IfOk result (λ r. (r.0.file ≡ file) × (IsTold (D.view disk.old) → Holds from r.1 r.0.end (content file (D.view disk.old).seen))) }
+    ensures spelled { IfOk result (λ r. AllByRecursion IsEntry r.1) }
+    ensures small { IfOk result (λ r. r.0.end ≤ from + length r.1 * 1073741829) }
     ensures damaged { IsErrOf result RedoError.Damaged → IsTold (D.view disk.old)
         → (items : List Entry) (end : ℕ) → Holds from items end (content file (D.view disk.old).seen) → ⊥ }
     ensures reads { ReadsOnly (D.view disk.old) (D.view disk.new) }

@@ -1,4 +1,4 @@
-use Rattle.std.proofs.Common.{◌≡◌, ◌+◌, ◌-◌, ℕ, List, [], ◌++◌, length, take, drop, Err, sym, ◌∙◌, ap, subst, arith}
+use Rattle.std.proofs.Common.{◌≡◌, ◌+◌, ◌-◌, ◌≤◌, ℕ, List, [], ◌++◌, length, take, drop, Err, sym, ◌∙◌, ap, subst, arith}
 use Rattle.std.specs.Prelude.{IsTrue}
 use Rattle.std.proofs.lemmas.Result.{err_from_is_err_and}
 use Rattle.std.proofs.lemmas.List.{length-take, length-drop}
@@ -10,6 +10,7 @@ use Rattle.ut_redo.specs.declared.window.Window.{Window}
 use Rattle.ut_redo.specs.declared.error.RedoError.TheVariants.{Damaged}
 use Rattle.ut_outside.proofs.RunLemmas.{reads_then}
 use Rattle.ut_redo.proofs.WindowLemmas.{ReadSoFar, shows_same, ahead_stays, ahead_is, split_frame, no_payload, read_more, goes_on_from, read_all_of, shows_passed}
+use Rattle.ut_redo.proofs.FrameLemmas.{each_append, small_more}
 use Rattle.ut_redo.proofs.redo.read_log.Goals as goal
 
 pub returns-in_err-len-clause-damaged : goal.returns-in_err-len-clause-damaged
@@ -89,6 +90,17 @@ loop-out-preserved g c = record {
       let there : w.at + (5 + len) ≡ c.pass.new.self.at = sym (c.pass.ensures.at ∙ ap (λ (n : ℕ). n + (5 + len)) stays.at) in
       subst (λ (n : ℕ). ReadSoFar bytes c.args.from c.add_entries.new.out.items n) there
       (read_more bytes c.args.from w.at len c.loop-out.out.items c.add_entries.new.out.items y.0 (take len (drop 5 front)) (inv.so_far told) y.1 parts long found.some found.short (y.2.0, sym slice ∙ y.2.1));
+  spelled = let y = c.in_ok-add_entries.ensures.yes c.if-not-branch.false in each_append c.loop-out.out.items y.0 c.add_entries.new.out.items y.1 c.loop-out.invariant.spelled y.2.0;
+  small =
+      let w : Window = c.loop-out.window in
+      let found = rw c.in-Some.is at c.in_ok-len.ensures.held in
+      let w' : Window = c.payload_len.new.self in
+      let len : ℕ = c.in-Some.len in
+      let payload : List ℕ = take (5 + len - 5) (drop 5 c.as_slice.result.now) in
+      let y = c.in_ok-add_entries.ensures.yes c.if-not-branch.false in
+      let there : c.pass.new.self.at ≡ w.at + (5 + len) = c.pass.ensures.at ∙ ap (λ (n : ℕ). n + (5 + len)) c.in_ok-len.ensures.stays.at in
+      let some : 1 ≤ length payload = omega (arith, length-take (5 + len - 5) (drop 5 c.as_slice.result.now), length-drop 5 c.as_slice.result.now, ap (λ (l : List ℕ). length l) c.as_slice.ensures, found.whole, found.some) in
+      small_more c.args.from w.at c.pass.new.self.at len c.loop-out.out.items c.add_entries.new.out.items y.0 payload c.loop-out.invariant.small there found.short y.1 some y.2.1;
 }
 
 pub returns-clause-found : goal.returns-clause-found

@@ -1,0 +1,10 @@
+-- A store and the disk that it is lent.
+use base.Fml.{GName}
+use Rattle.ut_logged.specs.Logged.{Logged}
+
+pub record Lent (D : Type 0) : Type 0 where
+  -- what the disk is now
+  pub disk : D
+  -- the name of the loan
+  pub loan : GName
+  pub store : Logged

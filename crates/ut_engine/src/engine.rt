@@ -1,0 +1,97 @@
+//! The store and the disk that it is lent.
+ghost use Rattle.std.specs.Prelude.{◌≡◌, ◌<◌, false, IsTrue};
+ghost use Rattle.ut_plain.specs.Plain.{Plain};
+ghost use Rattle.ut_plain.specs.Spelled.{is_spelled};
+ghost use Rattle.ut_store.specs.Standing.{suits_session};
+ghost use Rattle.ut_logged.specs.Runs.{Runs};
+ghost use Rattle.ut_logged.specs.Serves.{Serves};
+
+use std::alloc::Global;
+use std::marker::Model;
+use ut_logged::LoggedStore;
+use ut_outside::Disk;
+use ut_plain::{Reply, Statement};
+
+/// A store over a disk that it is lent for as long as it serves. While it isn't down it runs from some plain state.
+#[derive(Drop)]
+pub struct Engine<'d, D: Disk> {
+    disk: &'d mut D,
+    store: LoggedStore,
+}
+
+impl<'d, D: Disk> Model for Engine<'d, D> {
+    ghost use Rattle.std.specs.Prelude.{◌≡◌, false};
+    ghost use Rattle.ut_plain.specs.Plain.{Plain};
+    ghost use Rattle.ut_logged.specs.Runs.{Runs};
+    ghost use Rattle.ut_engine.specs.Lent.{Lent};
+
+    ghost Value = { Lent D };
+
+    ghost view = { λ e. record { disk = e.disk.now; loan = e.disk.ghost_name; store = e.store } };
+
+    ghost invariant = { λ e. e.store.down ≡ false → (p : Plain) × Runs e.store (D.view e.disk.now) p };
+}
+
+impl<'d, D: Disk> Engine<'d, D> {
+    /// The store over its disk, that of the call which made or opened it.
+    pub fn over(disk: &'d mut D, store: LoggedStore) -> Engine<'d, D>
+        requires runs { store.down ≡ false → (p : Plain) × Runs store (D.view disk.old) p }
+        ensures { result ≡ record { disk = disk.old; loan = disk.entry.ghost_name; store = store } }
+    {
+        Engine { disk, store }
+    }
+
+    /// Answers a statement of a session: a change only once its entry is on the disk. A commit and an abort take no memory.
+    pub fn statement(&mut self, alloc: Global, session: u8, st: &Statement) -> Reply
+        requires seat { session < 17 }
+        requires suits { IsTrue (suits_session session st.now) }
+        requires spelled { IsTrue (is_spelled st.now) }
+        requires up { self.old.store.down ≡ false }
+        ensures serves { Serves self.old.store (D.view self.old.disk) session st.now result self.new.store (D.view self.new.disk) }
+        ensures loan { self.new.loan ≡ self.old.loan }
+    {
+        self.store.statement(alloc, self.disk, session, st)
+    }
+
+    /// The disk's moment.
+    pub fn moment(&self) -> u64
+        ensures { result ≡ (D.view self.now.disk).moment }
+    {
+        self.disk.calls()
+    }
+
+    /// The disk.
+    pub fn disk(&self) -> &D
+        ensures { result.now ≡ self.now.disk }
+    {
+        self.disk
+    }
+
+    /// How many entries the journal has.
+    pub fn journal_len(&self) -> u32
+        ensures { result ≡ self.now.store.store.entries }
+    {
+        self.store.journal_len()
+    }
+
+    /// How many tables were made and transactions committed.
+    pub fn commits(&self) -> u32
+        ensures { result ≡ self.now.store.store.commits }
+    {
+        self.store.commits()
+    }
+
+    /// Whether the disk has failed. Then the store has to be opened again.
+    pub fn down(&self) -> bool
+        ensures { result ≡ self.now.store.down }
+    {
+        self.store.down()
+    }
+    /// Gives the disk back. A caller knows the disk's end only through this call.
+    pub fn release(self) -> &'d mut D
+        ensures loan { result.ghost_name ≡ self.entry.loan }
+        ensures disk { result.now ≡ self.entry.disk }
+    {
+        self.disk
+    }
+}

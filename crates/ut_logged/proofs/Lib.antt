@@ -1,0 +1,4 @@
+pub mod JournalLemmas
+pub mod ReplyLemmas
+pub mod RunsLemmas
+pub mod FileLemmas

@@ -1,0 +1,5 @@
+pub mod Logged
+pub mod Opening
+pub mod Readings
+pub mod Runs
+pub mod Serves

@@ -1,0 +1,16 @@
+-- Which error an opening gives for one of a layer below.
+use Rattle.ut_redo.specs.declared.error.RedoError.{RedoError}
+use Rattle.ut_redo.specs.declared.error.RedoError.TheVariants as redo
+use Rattle.ut_restart.specs.declared.error.RestartError.{RestartError}
+use Rattle.ut_restart.specs.declared.error.RestartError.TheVariants as restart
+use Rattle.ut_logged.specs.declared.error.OpenError.{OpenError}
+use Rattle.ut_logged.specs.declared.error.OpenError.TheVariants as opening
+
+abbrev pub of_redo : RedoError → OpenError
+of_redo redo.Damaged = opening.Damaged
+of_redo redo.Disk = opening.Disk
+of_redo redo.Memory = opening.Memory
+
+abbrev pub of_restart : RestartError → OpenError
+of_restart restart.Damaged = opening.Damaged
+of_restart restart.Memory = opening.Memory

@@ -1,0 +1,154 @@
+//! The store and its log.
+ghost use Rattle.std.specs.Prelude.{◌≡◌, ◌<◌, ◌≤◌, ◌^◌, ◌↔◌, ℕ, true, IsTrue, IfOk, OnOk, IsErrOf};
+ghost use Rattle.ut_outside.specs.declared.disk.Which.{Which};
+ghost use Rattle.ut_outside.specs.Disk.{IsTold, content};
+ghost use Rattle.ut_outside.specs.Faults.{Rose, HasCause};
+ghost use Rattle.ut_outside.specs.Run.{Always, LeavesOnly, ReadsOnly};
+ghost use Rattle.ut_pages.specs.Layout.{IsMade};
+ghost use Rattle.ut_plain.specs.Journal.{Journal};
+ghost use Rattle.ut_plain.specs.Plain.{Plain, new_store};
+ghost use Rattle.ut_plain.specs.Spelled.{is_spelled};
+ghost use Rattle.ut_store.specs.Standing.{suits_session};
+ghost use Rattle.ut_logged.specs.Readings.{HoldsJournal};
+ghost use Rattle.ut_logged.specs.Runs.{Runs, Opens, NotMadeOrEmpty};
+ghost use Rattle.ut_logged.specs.Serves.{Serves};
+
+use crate::error::OpenError;
+use std::alloc::Global;
+use std::marker::Model;
+use ut_outside::{Disk, Failed, Which};
+use ut_pages::Pages;
+use ut_plain::{Reply, Statement};
+use ut_redo::Redo;
+use ut_restart::reopen;
+use ut_store::{Store, Turn};
+
+/// A store in memory behind its log. Each call that may write is lent the disk.
+#[derive(Drop)]
+pub struct LoggedStore {
+    store: Store,
+    redo: Redo,
+    down: bool,
+}
+
+impl Model for LoggedStore {
+    ghost use Rattle.ut_logged.specs.Logged.{Logged};
+
+    ghost Value = { Logged };
+
+    ghost view = { λ e. record { store = e.store; log = e.redo; down = e.down } };
+}
+
+impl LoggedStore {
+    /// Makes the files of a store without tables, which gives at most so many ids.
+    pub fn make<D: Disk>(alloc: Global, disk: &mut D, rows: u32) -> Result<LoggedStore, OpenError>
+        requires { rows ≤ 2 ^ 31 }
+        ensures runs { IfOk result (λ e. Runs e (D.view disk.new) (new_store rows)) }
+        // `Made` exactly where the store is made.
+        ensures unmade { IfOk result (λ _. IsTold (D.view disk.old) → IsMade (D.view disk.old).seen.pages → ⊥) }
+        ensures made { IsErrOf result OpenError.Made → IsTold (D.view disk.old) → IsMade (D.view disk.old).seen.pages }
+        ensures cause { IsErrOf result OpenError.Disk → Rose (D.view disk.old).faults (D.view disk.new).faults }
+        ensures others { (IsErrOf result OpenError.NotMade → ⊥) × (IsErrOf result OpenError.Damaged → ⊥) }
+        // Of files that no crash leaves made, a crash at any moment leaves none that are made, or an empty store.
+        ensures any_moment { IsTold (D.view disk.old) → Always (D.view disk.old) (λ c. IsMade c.pages → ⊥) → LeavesOnly (D.view disk.old) (D.view disk.new) NotMadeOrEmpty }
+        ensures told { (D.view disk.new).told ≡ (D.view disk.old).told }
+        ensures later { (D.view disk.old).faults ≤ (D.view disk.new).faults }
+    {
+        if Pages::made(disk)? {
+            return Err(OpenError::Made);
+        }
+        let store = Store::new(alloc, rows)?; // before a file is touched
+        let redo = Redo::make(disk)?; // before the page file is made
+        Pages::make(disk)?;
+        Ok(LoggedStore {
+            store,
+            redo,
+            down: false,
+        })
+    }
+
+    /// Opens a store with what its files say. It writes nothing.
+    pub fn open<D: Disk>(alloc: Global, disk: &mut D, rows: u32) -> Result<LoggedStore, OpenError>
+        requires { rows ≤ 2 ^ 31 }
+        ensures opens { IfOk result (λ e. Opens e rows (D.view disk.old) (D.view disk.new)) }
+        // `NotMade` exactly where the store isn't made, `Damaged` exactly where it is and its files hold no journal.
+        ensures not_made { IsErrOf result OpenError.NotMade → IsTold (D.view disk.old) → IsMade (D.view disk.old).seen.pages → ⊥ }
+        ensures damaged { IsErrOf result OpenError.Damaged → IsTold (D.view disk.old) → IsMade (D.view disk.old).seen.pages × ((j : Journal) → HoldsJournal j (D.view disk.old).seen → ⊥) }
+        ensures cause { IsErrOf result OpenError.Disk → Rose (D.view disk.old).faults (D.view disk.new).faults }
+        ensures others { IsErrOf result OpenError.Made → ⊥ }
+        // A crash leaves what it might have left before.
+        ensures any_moment { LeavesOnly (D.view disk.old) (D.view disk.new) (D.view disk.old).crash_states }
+        ensures told { (D.view disk.new).told ≡ (D.view disk.old).told }
+        ensures later { (D.view disk.old).faults ≤ (D.view disk.new).faults }
+    {
+        settle(disk)?;
+        if !Pages::made(disk)? {
+            return Err(OpenError::NotMade);
+        }
+        let (redo, entries) = Redo::read_all(alloc, disk, 0)?;
+        let store = reopen(alloc, entries, rows)?;
+        Ok(LoggedStore {
+            store,
+            redo,
+            down: false,
+        })
+    }
+
+    /// Answers a statement of a session: a change only once its entry is on the disk. A commit and an abort take no memory.
+    pub fn statement<D: Disk>(
+        &mut self,
+        alloc: Global,
+        disk: &mut D,
+        session: u8,
+        st: &Statement,
+    ) -> Reply
+        requires seat { session < 17 }
+        requires suits { IsTrue (suits_session session st.now) }
+        requires spelled { IsTrue (is_spelled st.now) }
+        requires runs { (p : Plain) × Runs self.old (D.view disk.old) p }
+        ensures { Serves self.old (D.view disk.old) session st.now result self.new (D.view disk.new) }
+    {
+        match self.store.statement(alloc, session, st) {
+            Turn::Answered(reply) => reply,
+            Turn::Append(reply) => match self.redo.append(disk, self.store.frame()) {
+                Ok(()) => reply,
+                Err(_) => {
+                    drop(reply); // it is not handed out
+                    self.down = true;
+                    Reply::DiskFault
+                }
+            },
+        }
+    }
+
+    /// How many entries the journal has.
+    pub fn journal_len(&self) -> u32
+        ensures { result ≡ self.now.store.entries }
+    {
+        self.store.entries()
+    }
+
+    /// How many tables were made and transactions committed.
+    pub fn commits(&self) -> u32
+        ensures { result ≡ self.now.store.commits }
+    {
+        self.store.commits()
+    }
+
+    /// Whether the disk has failed. Then the store has to be opened again.
+    pub fn down(&self) -> bool
+        ensures { result ≡ self.now.down }
+    {
+        self.down
+    }
+}
+
+// Syncs both files, so that a crash leaves what a read returns.
+fn settle<D: Disk>(disk: &mut D) -> Result<(), Failed>
+    ensures settled { OnOk result (IsTold (D.view disk.old) → Always (D.view disk.new) (λ c. (file : Which) → content file c ≡ content file (D.view disk.old).seen)) }
+    ensures reads { ReadsOnly (D.view disk.old) (D.view disk.new) }
+    ensures cause { HasCause (D.view disk.old).faults (D.view disk.new).faults result }
+{
+    disk.sync(Which::Redo)?;
+    disk.sync(Which::Pages)
+}
