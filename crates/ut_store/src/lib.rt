@@ -1,12 +1,14 @@
 //! The store in memory.
 #![tactic(auto)]
 
+mod bulk;
 mod change;
 mod delete;
 mod finish;
 mod hits;
 mod insert;
 mod limits;
+mod load;
 mod store;
 mod turn;
 mod update;
