@@ -242,7 +242,7 @@ answers_nothing e session st n hits os rows after m w late closed none =
 
 -- ---- refusals
 
-may_lack : (st : Statement) → IsTrue (changes_rows st) → IsTrue (may_lack_memory st)
+pub may_lack : (st : Statement) → IsTrue (changes_rows st) → IsTrue (may_lack_memory st)
 may_lack (statements.Insert name values) h = refl
 may_lack (statements.Bulk name values) h = refl
 may_lack (statements.Update name column value preds) h = refl

@@ -31,3 +31,5 @@ pub mod SearchLemmas
 pub mod DeleteLemmas
 pub mod SuitLemmas
 pub mod UpdateLemmas
+pub mod LoadLemmas
+pub mod BulkLemmas

@@ -110,7 +110,7 @@ updated-are e n id column value s (x ∷ xs) at =
 
 -- ---- the ids
 
-ids_from : (e : Held) (p : Plain) (rows : ℕ) → StandsFor e p → has_ids_for e rows ≡ true → e.next_id + rows ≤ 2147483649
+pub ids_from : (e : Held) (p : Plain) (rows : ℕ) → StandsFor e p → has_ids_for e rows ≡ true → e.next_id + rows ≤ 2147483649
 ids_from e p rows s h = by (nat_eq rows 0) refl h
   where
     by : (b : Bool) → nat_eq rows 0 ≡ b → (b || nat_le (e.next_id + rows) (e.rows_limit + 1)) ≡ true → e.next_id + rows ≤ 2147483649

@@ -5,6 +5,7 @@ use Rattle.std.specs.List as lists
 use Rattle.std.specs.List.{list_all, sum_by}
 use Rattle.ut_value.specs.declared.value.Value.{Value}
 use Rattle.ut_value.specs.declared.value.Column.{Column}
+use Rattle.ut_value.specs.declared.value.Row.{Row}
 use Rattle.ut_value.specs.declared.entry.Op.{Op}
 use Rattle.ut_value.specs.declared.entry.Op.TheVariants as ops
 use Rattle.ut_value.specs.declared.entry.Entry.TheVariants.{Txn}
@@ -151,6 +152,21 @@ pub record DoneAlone (old new : Held) (n : ℕ) (os : List Op) (after : ℕ → 
   pub commits : new.commits ≡ old.commits + 1
   pub entries : new.entries ≡ old.entries + 1
   pub frame : new.frame ≡ spelling (Txn os)
+
+-- The store stands for what it stood for.
+pub record Stays (old new : Held) : Type 0 where
+  pub each : (p : Plain) → StandsFor old p → StandsFor new p
+
+-- ---- rows that are loaded
+
+-- rows under the ids from a number on
+abbrev pub numbered : ℕ → List (List Value) → List Row
+numbered id [] = []
+numbered id (values ∷ rows) = record { id = id; values = values } ∷ numbered (id + 1) rows
+
+-- the inserts of rows
+abbrev pub inserts_all : ℕ → List Row → List Op
+inserts_all n rows = map (λ (r : Row). ops.Insert n r.id r.values) rows
 
 -- ---- what is looked for
 

@@ -24,6 +24,7 @@ impl Store {
     {
         match st {
             Statement::Insert { table, values } => self.insert(alloc, session, st, table, values),
+            Statement::Bulk { table, values } => self.bulk(alloc, session, st, table, values),
             Statement::Delete { table, preds } => self.delete(alloc, session, st, table, preds),
             Statement::Update {
                 table,

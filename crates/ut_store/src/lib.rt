@@ -2,12 +2,14 @@
 #![tactic(auto)]
 
 mod ask;
+mod bulk;
 mod change;
 mod delete;
 mod finish;
 mod hits;
 mod insert;
 mod limits;
+mod load;
 mod readers;
 mod scan;
 mod statement;

@@ -1,0 +1,182 @@
+//! Bulk: rows are loaded into the second stage of their table.
+ghost use Rattle.std.specs.Prelude.{◌≡◌, ◌+◌, ◌<◌, ◌≤◌, ◌^◌, [], None, Some, IfOk, length, map};
+ghost use Rattle.ut_plain.specs.Made.{rows_of};
+ghost use Rattle.ut_table.specs.Staged.{begun_row, entered_l2};
+ghost use Rattle.ut_txn.specs.Seats.{opened_at};
+ghost use Rattle.ut_store.specs.Answers.{Answers};
+ghost use Rattle.ut_store.specs.Changes.{MayChange, AreReady, IsWork, late_refusal, numbered, inserts_all};
+
+use crate::change::place_in;
+use crate::finish::no_memory;
+use crate::{Store, Turn};
+use std::alloc::{AllocError, Global};
+use ut_plain::{Refusal, Reply, Statement};
+use ut_txn::Opened;
+use ut_value::{Duplicate, Name, Op, Row, Seq, Value};
+
+impl Store {
+    pub(crate) fn bulk(
+        &mut self,
+        alloc: Global,
+        session: u8,
+        st: &Statement,
+        table: &Name,
+        values: &Seq<Value>,
+    ) -> Turn
+        requires may { MayChange self.old session st.now }
+        requires is { st.now ≡ Statement.Bulk table.now values.now }
+        ensures { Answers self.old session st.now result self.new }
+    {
+        let place = place_in(&self.tables, table.as_slice());
+        let width = self.stages[place].columns().len();
+        let count = rows_in(width, values.as_slice());
+        if !self.has_ids_for(count) {
+            return Turn::Answered(Reply::Refused(Refusal::Full));
+        }
+        let Ok(rows) = row_list(alloc, self.next_id, width, values.as_slice()) else {
+            return no_memory();
+        };
+        let Ok(ops) = insert_all(alloc, place as u16, &rows) else {
+            return no_memory();
+        };
+        self.finish_bulk(alloc, session, st, place, &rows, &ops)
+    }
+
+    fn finish_bulk(
+        &mut self,
+        alloc: Global,
+        session: u8,
+        st: &Statement,
+        place: usize,
+        rows: &[Row],
+        ops: &[Op],
+    ) -> Turn
+        requires may { MayChange self.old session st.now }
+        requires ready { AreReady self.old place [] ops.now }
+        requires work { IsWork self.old session st.now place [] ops.now (length rows.now) (λ t s. entered_l2 (map (begun_row t) rows.now) s) }
+        requires rows { ops.now ≡ inserts_all place rows.now }
+        requires some { 0 < length ops.now }
+        ensures { Answers self.old session st.now result self.new }
+    {
+        if let Some(why) = self.late_refusal(session, place, &[], ops) {
+            return Turn::Answered(Reply::Refused(why));
+        }
+        match self.sessions.opened(session) {
+            Some(opened) => self.bulk_inside(session, st, opened, place, rows, ops),
+            None => self.bulk_alone(alloc, session, st, place, rows, ops),
+        }
+    }
+
+    fn bulk_inside(
+        &mut self,
+        session: u8,
+        st: &Statement,
+        opened: Opened,
+        place: usize,
+        rows: &[Row],
+        ops: &[Op],
+    ) -> Turn
+        requires may { MayChange self.old session st.now }
+        requires ready { AreReady self.old place [] ops.now }
+        requires work { IsWork self.old session st.now place [] ops.now (length rows.now) (λ t s. entered_l2 (map (begun_row t) rows.now) s) }
+        requires rows { ops.now ≡ inserts_all place rows.now }
+        requires late { late_refusal self.old session place [] ops.now ≡ None }
+        requires opened { opened_at self.old.seats session ≡ Some opened }
+        ensures { Answers self.old session st.now result self.new }
+    {
+        match self.load_inside(session, opened, place, rows, ops) {
+            Ok(()) => Turn::Answered(Reply::Changed {
+                rows: rows.len() as u32,
+                commit: None,
+            }),
+            Err(_) => no_memory(),
+        }
+    }
+
+    fn bulk_alone(
+        &mut self,
+        alloc: Global,
+        session: u8,
+        st: &Statement,
+        place: usize,
+        rows: &[Row],
+        ops: &[Op],
+    ) -> Turn
+        requires may { MayChange self.old session st.now }
+        requires ready { AreReady self.old place [] ops.now }
+        requires work { IsWork self.old session st.now place [] ops.now (length rows.now) (λ t s. entered_l2 (map (begun_row t) rows.now) s) }
+        requires rows { ops.now ≡ inserts_all place rows.now }
+        requires late { late_refusal self.old session place [] ops.now ≡ None }
+        requires closed { opened_at self.old.seats session ≡ None }
+        requires some { 0 < length ops.now }
+        ensures { Answers self.old session st.now result self.new }
+    {
+        match self.load_alone(alloc, place, rows, ops) {
+            Ok(()) => Turn::Append(Reply::Changed {
+                rows: rows.len() as u32,
+                commit: Some(self.commits),
+            }),
+            Err(_) => no_memory(),
+        }
+    }
+}
+
+/// How many rows values are cut into.
+fn rows_in(width: usize, values: &[Value]) -> usize
+    requires { 0 < width }
+    ensures { result ≡ length (rows_of width values.now) }
+{
+    let mut count = 0;
+    let mut rest = values;
+    while rest.len() > 0 {
+        let (_, others) = rest.split_at(width.min(rest.len()));
+        count += 1;
+        rest = others;
+    }
+    count
+}
+
+/// The rows that values are cut into, under the ids from a number on.
+fn row_list(alloc: Global, id: u32, width: usize, values: &[Value]) -> Result<Vec<Row>, AllocError>
+    requires width { 0 < width }
+    requires ids { id + length (rows_of width values.now) < 2 ^ 32 }
+    ensures { IfOk result (λ rows. rows.items ≡ numbered id (rows_of width values.now)) }
+{
+    let mut rows = Vec::new(alloc);
+    let mut id = id;
+    let mut rest = values;
+    while rest.len() > 0 {
+        let (row, others) = rest.split_at(width.min(rest.len()));
+        let values = values_copied(alloc, row)?;
+        rows.push(Row { id, values })?;
+        id += 1;
+        rest = others;
+    }
+    Ok(rows)
+}
+
+fn values_copied(alloc: Global, values: &[Value]) -> Result<Seq<Value>, AllocError>
+    ensures { IfOk result (λ copy. copy ≡ values.now) }
+{
+    let mut copies = Vec::with_capacity(alloc, values.len())?;
+    for value in values {
+        copies.push(value.copy(alloc)?)?;
+    }
+    Ok(Seq::from_vec(copies))
+}
+
+/// The inserts of rows.
+fn insert_all(alloc: Global, table: u16, rows: &[Row]) -> Result<Vec<Op>, AllocError>
+    ensures { IfOk result (λ ops. ops.items ≡ inserts_all table rows.now) }
+{
+    let mut ops = Vec::with_capacity(alloc, rows.len())?;
+    for row in rows {
+        let values = row.values.duplicate(alloc)?;
+        ops.push(Op::Insert {
+            table,
+            id: row.id,
+            values,
+        })?;
+    }
+    Ok(ops)
+}

@@ -1,0 +1,72 @@
+//! Rows are loaded into the second stage: in the session's transaction, or as a transaction by themselves.
+ghost use Rattle.std.specs.Prelude.{◌≡◌, ◌+◌, ◌<◌, ◌≤◌, ◌^◌, [], Some, length, map, OnOk, OnErr};
+ghost use Rattle.ut_value.specs.Spelling.{ops_len};
+ghost use Rattle.ut_table.specs.Staged.{begun_row, entered_l2};
+ghost use Rattle.ut_txn.specs.Seats.{opened_at, payload_at};
+ghost use Rattle.ut_store.specs.Answers.{Same};
+ghost use Rattle.ut_store.specs.Changes.{CanDo, CanAppend, DoneInside, DoneAlone, Stays, inserts_all};
+
+use crate::Store;
+use crate::work::{bytes_of, framed};
+use crate::write::{inserts_of, note_all};
+use std::alloc::{AllocError, Global};
+use ut_txn::Opened;
+use ut_value::{Op, Row};
+
+impl Store {
+    /// Loads rows in the session's transaction: all or none.
+    pub(crate) fn load_inside(
+        &mut self,
+        session: u8,
+        opened: Opened,
+        place: usize,
+        rows: &[Row],
+        ops: &[Op],
+    ) -> Result<(), AllocError>
+        requires seat { session < 17 }
+        requires opened { opened_at self.old.seats session ≡ Some opened }
+        requires can { CanDo self.old place [] ops.now }
+        requires size { length (payload_at self.old.seats session) + ops_len ops.now ≤ 2 ^ 30 }
+        requires rows { ops.now ≡ inserts_all place rows.now }
+        ensures ok { OnOk result (DoneInside self.old self.new session opened place ops.now (λ t s. entered_l2 (map (begun_row t) rows.now) s)) }
+        ensures err { OnErr result (Same self.old self.new) }
+    {
+        let inserts = inserts_of(ops) as u32;
+        self.sessions.room(session, bytes_of(ops))?;
+        let table = &mut self.stages[place];
+        table.load(rows, opened.number)?;
+        note_all(&mut self.sessions, session, ops);
+        self.next_id += inserts;
+        Ok(())
+    }
+
+    /// Loads rows as a transaction by themselves, whose frame the log is to append: all or none.
+    pub(crate) fn load_alone(
+        &mut self,
+        alloc: Global,
+        place: usize,
+        rows: &[Row],
+        ops: &[Op],
+    ) -> Result<(), AllocError>
+        requires can { CanDo self.old place [] ops.now }
+        requires journal { CanAppend self.old }
+        requires rows { ops.now ≡ inserts_all place rows.now }
+        ensures ok { OnOk result (DoneAlone self.old self.new place ops.now (λ t s. entered_l2 (map (begun_row t) rows.now) s)) }
+        ensures err { OnErr result (Stays self.old self.new) }
+    {
+        let inserts = inserts_of(ops) as u32;
+        let frame = framed(alloc, ops)?;
+        let number = self.fates.start()?;
+        let table = &mut self.stages[place];
+        if let Err(error) = table.load(rows, number) {
+            self.fates.abort(number);
+            return Err(error);
+        }
+        self.fates.commit(number, self.entries + 1);
+        self.next_id += inserts;
+        self.commits += 1;
+        self.entries += 1;
+        self.frame = frame;
+        Ok(())
+    }
+}
