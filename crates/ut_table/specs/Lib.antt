@@ -1,2 +1,5 @@
 pub mod Staged
 pub mod Finds
+pub mod Decoded
+pub mod Kept
+pub mod Compiled

@@ -1,5 +1,5 @@
 -- The stages of a table: lists of rows with their stamps.
-use Rattle.std.specs.Prelude.{ℕ, zero, suc, ◌+◌, List, [], ◌∷◌, ◌++◌, length, take, drop, Option, None, Some, slice_get}
+use Rattle.std.specs.Prelude.{ℕ, zero, suc, ◌+◌, List, [], ◌∷◌, ◌++◌, length, take, drop, Option, None, slice_get}
 use Rattle.ut_value.specs.declared.value.Column.{Column}
 use Rattle.ut_value.specs.declared.value.Row.{Row}
 use Rattle.ut_stamps.specs.declared.visibility.Stamp.{Stamp}

@@ -1,0 +1,10 @@
+use Rattle.std.proofs.Common.{◌∙◌, ap}
+use Rattle.ut_table.specs.Staged.{TableValue}
+use Rattle.ut_table.proofs.ReadLemmas.{l2-count, few-staged}
+use Rattle.ut_table.proofs.table.Table.l2_len.Goals as goal
+
+pub returns-clause-len : goal.returns-clause-len
+returns-clause-len c = c.len.ensures.len ∙ l2-count c.self.invariant (ap (λ (v : TableValue). v.stages) c.self.view_is)
+
+pub returns-clause-few : goal.returns-clause-few
+returns-clause-few c = few-staged c.self.invariant (ap (λ (v : TableValue). v.stages) c.self.view_is)

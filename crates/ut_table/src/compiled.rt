@@ -1,0 +1,72 @@
+//! Comparisons of named columns, as a scan takes them, and the scan by them.
+ghost use Rattle.std.specs.Prelude.{◌≡◌, ◌<◌, ◌≤◌, length, map, All, IfOk};
+ghost use Rattle.std.specs.List.Sorted.{IsPermutation, IsNonDecreasingBy};
+ghost use Rattle.ut_scan.specs.StageRows.{asked_for, AreStamped};
+ghost use Rattle.ut_table.specs.Compiled.{column_pred, KeepRules};
+
+use std::alloc::{AllocError, Global};
+use std::sync::ledger::{Blank, Ledger};
+use ut_key::Steps;
+use ut_plain::{Pred, column_of};
+use ut_scan::{ColumnPred, Found, Stages, scan};
+use ut_stamps::Fates;
+use ut_value::{Column, key_of, value_keeps_rule};
+
+/// The values that are compared with keep their rules, as a fact for a caller.
+pub fn preds_keep_rules(preds: &[Pred])
+    ensures { KeepRules preds.now }
+{
+    for pred in preds {
+        value_keeps_rule(&pred.value);
+    }
+}
+
+fn column_pred(columns: &[Column], pred: &Pred) -> ColumnPred
+    requires { length columns.now ≤ 64 }
+    ensures { result ≡ column_pred columns.now pred.now }
+{
+    let column = column_of(columns, pred.column.as_slice()).unwrap_or(0);
+    ColumnPred {
+        column: column as u8,
+        op: pred.op,
+        key: key_of(&pred.value),
+    }
+}
+
+/// Comparisons by the places of their columns and the keys of their values.
+pub fn compiled(
+    alloc: Global,
+    columns: &[Column],
+    preds: &[Pred],
+) -> Result<Vec<ColumnPred>, AllocError>
+    requires { length columns.now ≤ 64 }
+    ensures { IfOk result (λ list. list.items ≡ map (column_pred columns.now) preds.now) }
+{
+    let mut list = Vec::with_capacity(alloc, preds.len())?;
+    for pred in preds {
+        list.push(column_pred(columns, pred))?;
+    }
+    Ok(list)
+}
+
+/// What a scan finds, with a counter for its steps over a new ledger.
+pub fn counted_scan<L: Ledger>(
+    alloc: Global,
+    stages: &Stages<'_>,
+    fates: &Fates,
+    snapshot: u32,
+    own: Option<u64>,
+    preds: &[ColumnPred],
+    blank: Blank,
+) -> Result<Vec<Found>, AllocError>
+    requires name { blank.name ≡ L.name }
+    requires parts { blank.parts ≡ L.parts }
+    requires positive { 0 < blank.parts }
+    requires stamped { AreStamped stages.now }
+    requires columns { All (λ p. p.column < stages.now.l2.now.width) preds.now }
+    ensures rows { IfOk result (λ found. IsPermutation (asked_for fates.now snapshot own preds.now stages.now) found.items) }
+    ensures ascending { IfOk result (λ found. IsNonDecreasingBy (λ f. f.id) found.items) }
+{
+    let mut steps = Steps::<L>::new(blank);
+    scan(alloc, stages, fates, snapshot, own, preds, &mut steps)
+}
