@@ -1,5 +1,5 @@
 -- What a question is answered from what was found.
-use Rattle.std.proofs.Common.{ℕ, zero, suc, arith, unwrap_or, true≢false, ◌<◌, ◌≡◌, Bool, true, false, ◌&&◌, List, [], ◌∷◌, length, map, Option, None, Some, ℤ, refl, sym, ap, ◌∙◌, subst, IsTrue, is_some, slice_get}
+use Rattle.std.proofs.Common.{ℕ, zero, suc, arith, unwrap_or, true≢false, ◌<◌, ◌≡◌, Bool, true, false, List, [], ◌∷◌, length, map, Option, None, Some, ℤ, refl, sym, ap, ◌∙◌, subst, IsTrue, is_some, slice_get}
 use Rattle.std.specs.Option.{option_and_then}
 use Rattle.std.specs.Ordering.{is_lt, is_gt}
 use Rattle.ut_value.specs.declared.value.Value.{Value}
@@ -18,7 +18,7 @@ use Rattle.ut_plain.specs.declared.reply.Reply.TheVariants as replies
 use Rattle.ut_plain.specs.declared.reply.Refusal.{Refusal}
 use Rattle.ut_plain.specs.declared.reply.Refusal.TheVariants as refusals
 use Rattle.ut_plain.specs.Tables.{place_of, place_in, columns_at, columns_of, columns_in}
-use Rattle.ut_plain.specs.Names.{has_table, known, preds_known, query_known, names_known}
+use Rattle.ut_plain.specs.Names.{has_table, known, query_known, names_known}
 use Rattle.ut_plain.specs.Kinds.{kind_in, is_int, preds_fit, query_fits, kinds_fit}
 use Rattle.ut_plain.specs.Condition.{meets}
 use Rattle.ut_plain.specs.Plain.{Plain}

@@ -1,5 +1,5 @@
 -- The rows that a session sees keep the rules of rows.
-use Rattle.std.proofs.Common.{ℕ, ◌+◌, ◌-◌, ◌<◌, ◌≤◌, ◌≡◌, Bool, true, false, ◌&&◌, List, [], ◌∷◌, ◌++◌, append-nil, append_assoc, length, take, drop, Option, None, Some, refl, sym, ap, ◌∙◌, subst, arith, IsTrue}
+use Rattle.std.proofs.Common.{ℕ, ◌-◌, ◌≤◌, ◌≡◌, List, [], ◌∷◌, ◌++◌, append-nil, append_assoc, take, drop, Option, None, Some, refl, sym, ap, ◌∙◌, subst, arith}
 use Rattle.std.specs.FinMap as finmap
 use Rattle.ut_value.specs.declared.entry.Entry.{Entry}
 use Rattle.ut_value.specs.declared.entry.Entry.TheVariants as entries
@@ -8,7 +8,7 @@ use Rattle.ut_plain.specs.declared.table.Stored.{Stored}
 use Rattle.ut_plain.specs.declared.transaction.OpenTransaction.{OpenTransaction}
 use Rattle.ut_plain.specs.Rows.{with_ops, concerns}
 use Rattle.ut_plain.specs.State.{State, after, IsRow, AreRows}
-use Rattle.ut_plain.specs.Journal.{Journal, after_all, can_all, current, state_at, prefix, IsJournal}
+use Rattle.ut_plain.specs.Journal.{Journal, after_all, current, state_at, prefix, IsJournal}
 use Rattle.ut_plain.specs.Plain.{Plain, open_at, seen, seen_by}
 use Rattle.ut_plain.specs.View.{own_ops}
 use Rattle.ut_plain.specs.Reached.{IsPlain}

@@ -1,8 +1,8 @@
 -- What a scan found, as the operators of questions take it.
-use Rattle.std.proofs.Common.{ℕ, zero, suc, ◌+◌, ◌-◌, ◌<◌, ◌≤◌, ◌≡◌, ◌^◌, Bool, T, true, false, ◌&&◌, cond, List, [], ◌∷◌, length, map, Option, None, Some, refl, sym, ap, ◌∙◌, subst, arith, slice_get, unwrap_or, IsTrue, is_some, true≢false}
+use Rattle.std.proofs.Common.{ℕ, ◌+◌, ◌-◌, ◌<◌, ◌≤◌, ◌≡◌, ◌^◌, Bool, T, cond, List, [], ◌∷◌, length, Option, None, Some, refl, sym, ap, ◌∙◌, subst, arith, slice_get, unwrap_or, IsTrue, is_some, true≢false}
 use Rattle.std.proofs.lemmas.List.{length-map}
 use Rattle.std.specs.Option.{option_and_then}
-use Rattle.std.specs.List.{list_all, All}
+use Rattle.std.specs.List.{list_all}
 use Rattle.std.specs.Ordering.{nat_cmp, is_lt}
 use Rattle.std.specs.FinMap as finmap
 use Rattle.std.specs.FinMap.{find, is_sorted}
@@ -22,11 +22,10 @@ use Rattle.ut_plain.specs.Condition as condition
 use Rattle.ut_plain.specs.Condition.{meets}
 use Rattle.ut_plain.specs.View.{view}
 use Rattle.ut_plain.proofs.BoolLemmas.{and_right, and_both}
-use Rattle.ut_stamps.specs.Stamps.{sees}
 use Rattle.ut_scan.specs.declared.place.Place.{Place}
 use Rattle.ut_scan.specs.declared.place.Found.{Found}
 use Rattle.ut_exact.specs.Exact.{shown_by}
-use Rattle.ut_exact.specs.Places.{StagedRow, stamped_in}
+use Rattle.ut_exact.specs.Places.{StagedRow}
 use Rattle.ut_exact.specs.Scan.{stored_in}
 use Rattle.ut_exact.proofs.OrderLemmas.{AllFound, all_found, T_first, T_second, less}
 use Rattle.ut_exact.proofs.ScanLemmas.{seen_is_live}
