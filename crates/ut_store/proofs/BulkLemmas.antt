@@ -1,5 +1,5 @@
 -- The operations of a bulk.
-use Rattle.std.proofs.Common.{ℕ, zero, suc, ◌+◌, ◌<◌, ◌≤◌, ◌≡◌, ◌≢◌, Bool, T, true, false, ◌&&◌, ◌||◌, List, [], ◌∷◌, length, map, Option, None, Some, refl, sym, ap, ◌∙◌, subst, arith, IsTrue, nat_eq, nat_le, nat_lt, lt-ltb, ltb-true, leb-true, eqb-true, slice_get, slice_set}
+use Rattle.std.proofs.Common.{ℕ, zero, suc, ◌+◌, ◌<◌, ◌≤◌, ◌≡◌, true, false, ◌&&◌, List, [], ◌∷◌, length, map, None, refl, sym, ap, ◌∙◌, subst, arith, IsTrue, nat_le, nat_lt, lt-ltb, ltb-true, leb-true}
 use Rattle.std.specs.List.{list_all}
 use Rattle.std.proofs.lemmas.List.Sums.{sum_by-cons}
 use Rattle.ut_value.specs.declared.value.Column.{Column}
@@ -9,34 +9,30 @@ use Rattle.ut_value.specs.declared.entry.Op.{Op}
 use Rattle.ut_value.specs.declared.entry.Op.TheVariants as ops
 use Rattle.ut_value.specs.KeyBytes.{is_value}
 use Rattle.ut_value.specs.Text.{is_name}
-use Rattle.ut_value.specs.Spelling.{is_op, is_u16, is_u32, is_count, are_values, are_columns, is_column, names_differ}
+use Rattle.ut_value.specs.Spelling.{is_op, is_u16, is_u32, is_count, are_values, are_columns, names_differ}
 use Rattle.ut_plain.specs.declared.statement.Statement.{Statement}
 use Rattle.ut_plain.specs.declared.statement.Statement.TheVariants as statements
 use Rattle.ut_plain.specs.declared.reply.Reply.TheVariants as replies
 use Rattle.ut_plain.specs.declared.reply.Refusal.TheVariants as refusals
 use Rattle.ut_plain.specs.Tables.{fits_columns, place_in, columns_in}
-use Rattle.ut_plain.specs.Rows.{op_inserts, inserts_of}
+use Rattle.ut_plain.specs.Rows.{inserts_of}
 use Rattle.ut_plain.specs.Made.{cut, rows_of, inserts}
 use Rattle.ut_plain.specs.Spelled.{are_some_values}
-use Rattle.ut_plain.specs.Plain.{Plain}
-use Rattle.ut_plain.specs.View.{View, view}
 use Rattle.ut_plain.proofs.BoolLemmas.{and_left, and_right, and_both}
 use Rattle.ut_plain.proofs.ListLemmas.{list_all_take, list_all_drop}
 use Rattle.ut_plain.proofs.TableLemmas.{there, are_values-fit}
 use Rattle.ut_plain.proofs.MadeLemmas.{inserts_of-inserts}
-use Rattle.ut_exact.specs.Places.{StagedRow, dead_number}
 use Rattle.ut_exact.proofs.FreeLemmas.{inserts_fit}
 use Rattle.ut_table.specs.Staged.{Staged, begun_row, entered_l2}
 use Rattle.ut_store.specs.declared.turn.Turn.TheVariants.{Answered}
 use Rattle.ut_store.specs.Held.{Held}
-use Rattle.ut_store.specs.Stands.{StandsFor}
 use Rattle.ut_store.specs.Answers.{Answers}
-use Rattle.ut_store.specs.Staging.{Staging, new_rows}
+use Rattle.ut_store.specs.Staging.{new_rows}
 use Rattle.ut_store.specs.Changes.{has_ids_for, numbered, inserts_all, op_fits, op_ends, ends_of, MayChange, AreReady, IsWork}
 use Rattle.ut_store.proofs.ReadLemmas.{reads}
 use Rattle.ut_store.proofs.FinishLemmas.{answers_refused}
 use Rattle.ut_store.proofs.StagingLemmas.{staging-bulk}
-use Rattle.ut_store.proofs.KindLemmas.{early_tests, TableAt, table_at, next_small}
+use Rattle.ut_store.proofs.KindLemmas.{early_tests, TableAt, table_at}
 use Rattle.ut_store.proofs.UpdateLemmas.{ids_from, no_ids}
 
 -- ---- what is made

@@ -1,5 +1,5 @@
 -- The operations of a delete.
-use Rattle.std.proofs.Common.{ℕ, zero, suc, ◌+◌, ◌<◌, ◌≤◌, ◌≡◌, ◌≢◌, Bool, T, true, false, ◌&&◌, List, [], ◌∷◌, length, map, Option, None, Some, refl, sym, ap, ◌∙◌, subst, arith, IsTrue, nat_lt, lt-ltb, slice_get, slice_set}
+use Rattle.std.proofs.Common.{ℕ, suc, ◌<◌, ◌≤◌, ◌≡◌, true, false, List, [], ◌∷◌, length, map, Some, refl, sym, ap, ◌∙◌, subst, arith, IsTrue, lt-ltb, slice_get, slice_set}
 use Rattle.std.specs.List.{list_all}
 use Rattle.std.proofs.lemmas.List.Sums.{sum_by-cons}
 use Rattle.ut_value.specs.declared.value.Column.{Column}
@@ -11,25 +11,24 @@ use Rattle.ut_plain.specs.declared.statement.Statement.TheVariants as statements
 use Rattle.ut_plain.specs.declared.statement.Pred.{Pred}
 use Rattle.ut_plain.specs.Tables.{place_in, columns_in, columns_of}
 use Rattle.ut_plain.specs.Names.{preds_known}
-use Rattle.ut_plain.specs.Condition.{meets, found}
+use Rattle.ut_plain.specs.Condition.{found}
 use Rattle.ut_plain.specs.Made.{deletes_all}
 use Rattle.ut_plain.specs.Refusals.{first_taken}
 use Rattle.ut_plain.specs.Plain.{Plain}
-use Rattle.ut_plain.specs.View.{View, view}
+use Rattle.ut_plain.specs.View.{view}
 use Rattle.ut_plain.proofs.BoolLemmas.{and_both}
 use Rattle.ut_plain.proofs.TableLemmas.{there_known}
 use Rattle.ut_scan.specs.declared.place.Place.{Place}
 use Rattle.ut_scan.specs.declared.place.Found.{Found}
-use Rattle.ut_exact.specs.Places.{dead_number}
 use Rattle.ut_table.specs.Staged.{Staged}
 use Rattle.ut_table.specs.Finds.{hits_of}
 use Rattle.ut_store.specs.Held.{Held}
 use Rattle.ut_store.specs.Stands.{StandsFor}
 use Rattle.ut_store.specs.Hits.{plain_rows}
-use Rattle.ut_store.specs.Staging.{Staging, written, ended_all, AreFound}
+use Rattle.ut_store.specs.Staging.{Staging, written, AreFound}
 use Rattle.ut_store.specs.Changes.{op_fits, op_ends, ends_of, CanLook, Looked, MayChange, AreReady, IsWork}
 use Rattle.ut_store.proofs.HitLemmas.{found-is, first_taken-is}
-use Rattle.ut_store.proofs.MadeLemmas.{FindsFree, deletes-are, length-rows, deletes_fit, deletes_fit_alone}
+use Rattle.ut_store.proofs.MadeLemmas.{deletes-are, length-rows, deletes_fit, deletes_fit_alone}
 use Rattle.ut_store.proofs.StagingLemmas.{staging-deletes, written-deletes}
 use Rattle.ut_store.proofs.KindLemmas.{early_tests, TableAt, table_at, next_small}
 use Rattle.ut_store.proofs.SearchLemmas.{known_in, can_look, place_view, hits_view, finds_free, AreGiven, FoundAt, found_places}

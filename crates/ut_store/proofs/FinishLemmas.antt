@@ -1,26 +1,23 @@
 -- What a statement's operations are answered, from the limits to the end.
-use Rattle.std.proofs.Common.{ℕ, zero, suc, ◌+◌, ◌<◌, ◌≤◌, ◌≡◌, ◌≢◌, Bool, true, false, ◌&&◌, ◌||◌, List, [], ◌∷◌, ◌++◌, length, map, is_some, Option, None, Some, refl, sym, ap, ◌∙◌, subst, arith, IsTrue, nat_eq, nat_le, nat_lt, ltb-true, eqb-true, eq-eqb, true≢false, slice_get, slice_set}
+use Rattle.std.proofs.Common.{ℕ, zero, suc, ◌+◌, ◌<◌, ◌≤◌, ◌≡◌, ◌≢◌, true, false, ◌&&◌, ◌||◌, List, [], ◌∷◌, ◌++◌, length, map, is_some, None, Some, refl, sym, ap, ◌∙◌, subst, arith, IsTrue, nat_eq, nat_le, nat_lt, ltb-true, eqb-true, eq-eqb, true≢false, slice_get, slice_set}
 use Rattle.std.specs.Option.{option_map}
-use Rattle.std.specs.List.{sum_by}
 use Rattle.std.proofs.lemmas.List.Sums.{sum_by-cons, sum_by-append}
 use Rattle.ut_value.specs.declared.entry.Op.{Op}
 use Rattle.ut_value.specs.declared.entry.Entry.TheVariants.{Txn}
-use Rattle.ut_value.specs.Spelling.{spelling, op_len, ops_len, entry_len}
+use Rattle.ut_value.specs.Spelling.{op_len, ops_len, entry_len}
 use Rattle.ut_value.proofs.SpellingLengths.{entry_length}
 use Rattle.ut_plain.specs.declared.statement.Statement.{Statement}
 use Rattle.ut_plain.specs.declared.statement.Statement.TheVariants as statements
 use Rattle.ut_plain.specs.declared.reply.Reply.TheVariants as replies
 use Rattle.ut_plain.specs.declared.reply.Refusal.TheVariants as refusals
-use Rattle.ut_plain.specs.State.{State}
 use Rattle.ut_plain.specs.Rows.{inserts_of}
 use Rattle.ut_plain.specs.Stages.{places_of, all_places}
-use Rattle.ut_plain.specs.Journal.{current, journal_len}
 use Rattle.ut_plain.specs.Plain.{Plain, open_at}
-use Rattle.ut_plain.specs.View.{View, view, own_ops}
-use Rattle.ut_plain.specs.Limits.{has_room, has_ops_room, has_ids, has_entry_room}
+use Rattle.ut_plain.specs.View.{view, own_ops}
+use Rattle.ut_plain.specs.Limits.{has_room, has_ops_room}
 use Rattle.ut_plain.specs.Refusals.{unless, or_else, conflict}
-use Rattle.ut_plain.specs.Step.{is_bulk, may_lack_memory}
-use Rattle.ut_plain.proofs.BoolLemmas.{and_left, and_right}
+use Rattle.ut_plain.specs.Step.{may_lack_memory}
+use Rattle.ut_plain.proofs.BoolLemmas.{and_right}
 use Rattle.ut_plain.proofs.JournalLaws.{length-current}
 use Rattle.ut_plain.proofs.StateLaws.{IsState-current}
 use Rattle.ut_plain.proofs.SeenLemmas.{own_is}
@@ -37,13 +34,11 @@ use Rattle.ut_store.specs.declared.turn.Turn.{Turn}
 use Rattle.ut_store.specs.declared.turn.Turn.TheVariants.{Answered, Append}
 use Rattle.ut_store.specs.Held.{Held}
 use Rattle.ut_store.specs.Stands.{StandsFor, placed_of, stages_of}
-use Rattle.ut_store.specs.Reads.{Reads}
 use Rattle.ut_store.specs.Hits.{first_taken_of}
 use Rattle.ut_store.specs.Answers.{Answers, Same}
-use Rattle.ut_store.specs.Early.{early_refusal}
 use Rattle.ut_store.specs.Allowed.{IsRefused}
 use Rattle.ut_store.specs.Standing.{changes_rows}
-use Rattle.ut_store.specs.Changes.{has_room_for, has_bytes_for, late_refusal, HasPlaces, CanWrite, CanDo, CanAppend, DoneInside, DoneAlone, MayChange, AreReady, IsWork}
+use Rattle.ut_store.specs.Changes.{has_room_for, late_refusal, HasPlaces, CanDo, CanAppend, DoneInside, DoneAlone, MayChange, AreReady, IsWork}
 use Rattle.ut_store.proofs.ReadLemmas.{reads, SameSession, Closed, Open, same_session}
 use Rattle.ut_store.proofs.EarlyLemmas.{refusal-is}
 use Rattle.ut_store.proofs.StandsLemmas.{no_memory, refused, itself_same, IsOpenOn, By, open_on, number_is, not_dead}

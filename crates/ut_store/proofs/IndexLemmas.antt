@@ -1,10 +1,9 @@
 -- The table at a place among all, and a store behind its fields.
-use Rattle.std.proofs.Common.{ℕ, zero, suc, ◌+◌, ◌<◌, ◌≤◌, ◌≡◌, ◌≢◌, List, [], ◌∷◌, ◌++◌, length, map, Option, None, Some, refl, sym, ap, ◌∙◌, subst, arith, slice_get, slice_set, get_or, Result, Ok, Err, IsErr, OnErr, unwrap_or}
-use Rattle.std.specs.Option.{option_map}
+use Rattle.std.proofs.Common.{ℕ, zero, suc, ◌≡◌, List, [], ◌∷◌, map, Option, Some, refl, sym, ap, ◌∙◌, subst, slice_get, slice_set, get_or, Result, Ok, Err, OnErr, unwrap_or}
 use Rattle.ut_value.specs.declared.entry.Op.{Op}
 use Rattle.ut_table.specs.Staged.{Staged, TableValue}
 use Rattle.ut_txn.specs.declared.opened.Opened.{Opened}
-use Rattle.ut_txn.specs.Seats.{Seat, opened_at, payload_at, SeatSet, SeatsStay}
+use Rattle.ut_txn.specs.Seats.{Seat, opened_at, SeatSet, SeatsStay}
 use Rattle.ut_store.specs.Held.{Held}
 use Rattle.ut_store.specs.Answers.{Same}
 use Rattle.ut_store.specs.Changes.{DoneInside, DoneAlone}

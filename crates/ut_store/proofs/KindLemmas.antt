@@ -1,6 +1,5 @@
 -- The table of a statement that no early refusal keeps back.
-use Rattle.std.proofs.Common.{ℕ, zero, suc, ◌+◌, ◌<◌, ◌≤◌, ◌≡◌, ◌≢◌, Bool, true, false, ◌&&◌, List, [], ◌∷◌, length, map, is_some, Option, None, Some, refl, sym, ap, ◌∙◌, subst, arith, IsTrue, nat_lt, lt-ltb, slice_get, unwrap_or}
-use Rattle.std.specs.Option.{option_map}
+use Rattle.std.proofs.Common.{ℕ, zero, suc, ◌<◌, ◌≤◌, ◌≡◌, Bool, true, false, ◌&&◌, List, [], ◌∷◌, map, Option, None, Some, refl, sym, ap, ◌∙◌, subst, arith, IsTrue, lt-ltb, slice_get, unwrap_or}
 use Rattle.std.specs.List.{list_all}
 use Rattle.ut_value.specs.declared.value.Column.{Column}
 use Rattle.ut_value.specs.declared.value.Value.{Value}
@@ -8,7 +7,7 @@ use Rattle.ut_value.specs.declared.entry.Op.{Op}
 use Rattle.ut_value.specs.declared.entry.Op.TheVariants as ops
 use Rattle.ut_value.specs.KeyBytes.{is_value}
 use Rattle.ut_value.specs.Text.{is_name}
-use Rattle.ut_value.specs.Spelling.{is_op, is_u16, is_u32, are_values, are_columns}
+use Rattle.ut_value.specs.Spelling.{is_u16, is_u32, are_values, are_columns}
 use Rattle.ut_plain.specs.declared.table.Table.{Table}
 use Rattle.ut_plain.specs.declared.statement.Statement.{Statement}
 use Rattle.ut_plain.specs.declared.statement.Statement.TheVariants as statements
@@ -18,23 +17,18 @@ use Rattle.ut_plain.specs.Tables.{fits_columns, columns_at, place_in, columns_in
 use Rattle.ut_plain.specs.Names.{names_known}
 use Rattle.ut_plain.specs.Kinds.{kinds_fit}
 use Rattle.ut_plain.specs.Made.{inserts}
-use Rattle.ut_plain.specs.Refusals.{is_supported, unless, or_else, state_why}
-use Rattle.ut_plain.specs.Spelled.{is_spelled, are_some_values}
+use Rattle.ut_plain.specs.Refusals.{is_supported, unless, or_else}
+use Rattle.ut_plain.specs.Spelled.{are_some_values}
 use Rattle.ut_plain.specs.Plain.{Plain}
-use Rattle.ut_plain.specs.Journal.{current}
-use Rattle.ut_plain.specs.View.{View, view}
-use Rattle.ut_plain.proofs.BoolLemmas.{and_left, and_right, and_both}
+use Rattle.ut_plain.proofs.BoolLemmas.{and_right, and_both}
 use Rattle.ut_plain.proofs.TableLemmas.{IsThere, there, are_values-fit}
-use Rattle.ut_plain.proofs.PassedLemmas.{IsTable, table_is}
-use Rattle.ut_scan.specs.declared.place.Place.{Place}
-use Rattle.ut_exact.specs.Places.{dead_number}
+use Rattle.ut_plain.proofs.PassedLemmas.{table_is}
 use Rattle.ut_table.specs.Staged.{Staged}
-use Rattle.ut_txn.specs.Seats.{opened_at}
 use Rattle.ut_store.specs.Held.{Held}
 use Rattle.ut_store.specs.Stands.{StandsFor}
 use Rattle.ut_store.specs.Early.{early_refusal}
 use Rattle.ut_store.specs.Staging.{written}
-use Rattle.ut_store.specs.Changes.{op_fits, MayChange, AreReady, IsWork}
+use Rattle.ut_store.specs.Changes.{MayChange, AreReady, IsWork}
 use Rattle.ut_store.proofs.ReadLemmas.{reads}
 use Rattle.ut_store.proofs.StagingLemmas.{staging-insert}
 

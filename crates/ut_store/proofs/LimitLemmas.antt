@@ -1,7 +1,6 @@
 -- Limits and conflicts, as they are looked for.
-use Rattle.std.proofs.Common.{ℕ, zero, suc, ◌+◌, ◌-◌, ◌<◌, ◌≤◌, ◌≡◌, Bool, true, false, cond, ◌&&◌, List, [], ◌∷◌, length, drop, map, is_some, Option, None, Some, refl, sym, ap, ◌∙◌, subst, arith, IsSome, MatchOption, nat_le, le-leb, leb-true, get_or}
+use Rattle.std.proofs.Common.{ℕ, zero, suc, ◌+◌, ◌-◌, ◌<◌, ◌≤◌, ◌≡◌, Bool, true, false, cond, List, [], ◌∷◌, length, drop, is_some, Option, None, Some, refl, sym, ap, ◌∙◌, arith, IsSome, MatchOption, nat_le, le-leb, leb-true, get_or}
 use Rattle.std.specs.Option.{option_map}
-use Rattle.std.specs.List as lists
 use Rattle.ut_stamps.specs.declared.fates.Fate.{Fate}
 use Rattle.ut_stamps.specs.declared.visibility.Stamp.{Stamp}
 use Rattle.ut_stamps.specs.Stamps.{is_taken}

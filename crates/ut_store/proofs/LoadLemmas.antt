@@ -1,11 +1,9 @@
 -- Rows that are loaded, and a transaction that was started for nothing.
-use Rattle.std.proofs.Common.{ℕ, zero, suc, ◌+◌, ◌<◌, ◌≤◌, ◌≡◌, ◌≢◌, Bool, true, false, ◌&&◌, List, [], ◌∷◌, ◌++◌, length, length-append, length-set, map, min, take, drop, All, Option, None, Some, refl, sym, ap, ◌∙◌, subst, arith, IsTrue, nat_lt, lt-ltb, ltb-true, leb-true, slice_get, slice_set, get_or}
+use Rattle.std.proofs.Common.{ℕ, zero, suc, ◌≡◌, List, [], ◌∷◌, ◌++◌, length, length-append, length-set, map, All, refl, sym, ap, ◌∙◌, subst, arith, IsTrue, slice_set}
 use Rattle.std.specs.List.{list_all}
 use Rattle.std.proofs.lemmas.List.Sums.{sum_by-cons}
 use Rattle.ut_value.specs.declared.value.Column.{Column}
-use Rattle.ut_value.specs.declared.value.Value.{Value}
 use Rattle.ut_value.specs.declared.value.Row.{Row}
-use Rattle.ut_value.specs.declared.entry.Op.{Op}
 use Rattle.ut_value.specs.declared.entry.Op.TheVariants as ops
 use Rattle.ut_plain.specs.declared.table.Table.{Table}
 use Rattle.ut_plain.specs.declared.reply.Reply.TheVariants as replies
@@ -18,9 +16,8 @@ use Rattle.ut_plain.specs.Step.{LacksMemory}
 use Rattle.ut_plain.proofs.BoolLemmas.{and_left, and_right}
 use Rattle.ut_stamps.specs.declared.fates.Fate.{Fate}
 use Rattle.ut_stamps.specs.declared.fates.Fate.TheVariants.{Running, Aborted}
-use Rattle.ut_exact.specs.Exact.{IsExact, AreOpen}
 use Rattle.ut_exact.specs.Work.{AreFree}
-use Rattle.ut_exact.specs.Places.{AreHeld, dead_number}
+use Rattle.ut_exact.specs.Places.{AreHeld}
 use Rattle.ut_exact.proofs.FateLemmas.{fate-push_new}
 use Rattle.ut_exact.proofs.ExactLemmas.{IsExact-start, IsExact-abort}
 use Rattle.ut_exact.proofs.SessionLemmas.{AreOpen-alone, AreOpen-renumbered}

@@ -1,25 +1,23 @@
 -- What is looked for is what the plain store finds.
-use Rattle.std.proofs.Common.{ℕ, zero, suc, ◌+◌, ◌<◌, ◌≤◌, ◌≡◌, ◌≢◌, inl, inr, Bool, T, true, false, ◌&&◌, List, [], ◌∷◌, length, map, is_some, Option, None, Some, refl, sym, ap, ◌∙◌, subst, arith, IsTrue, IsSome, OnErr, slice_get, unwrap_or, nat_eq}
+use Rattle.std.proofs.Common.{ℕ, ◌+◌, ◌<◌, ◌≤◌, ◌≡◌, inl, inr, Bool, T, true, List, [], ◌∷◌, length, is_some, Option, None, Some, refl, sym, ap, ◌∙◌, subst, arith, slice_get, unwrap_or}
 use Rattle.std.proofs.lemmas.Bool.{cases_lt}
-use Rattle.std.specs.Option.{option_map, option_and_then}
 use Rattle.std.specs.Ordering.{nat_cmp, is_lt}
-use Rattle.std.specs.FinMap.{find, is_sorted}
+use Rattle.std.specs.FinMap.{is_sorted}
 use Rattle.std.specs.FinMap.Entries.{below_all}
 use Rattle.ut_value.specs.declared.value.Column.{Column}
 use Rattle.ut_value.specs.declared.value.Value.{Value}
 use Rattle.ut_plain.specs.declared.statement.Pred.{Pred}
-use Rattle.ut_plain.specs.Tables.{place_in, columns_in, columns_of}
+use Rattle.ut_plain.specs.Tables.{place_in, columns_in}
 use Rattle.ut_plain.specs.Names.{known, preds_known}
 use Rattle.ut_plain.specs.Kinds.{preds_fit}
 use Rattle.ut_plain.specs.Condition.{meets}
 use Rattle.ut_plain.specs.Plain.{Plain}
-use Rattle.ut_plain.specs.View.{View, view}
+use Rattle.ut_plain.specs.View.{view}
 use Rattle.ut_stamps.specs.declared.fates.Fate.{Fate}
-use Rattle.ut_stamps.specs.Stamps.{sees}
 use Rattle.ut_scan.specs.declared.place.Place.{Place}
 use Rattle.ut_scan.specs.declared.place.Found.{Found}
 use Rattle.ut_exact.specs.Stamped.{Stamped}
-use Rattle.ut_exact.specs.Places.{StagedRow, is_dead, stamped_in}
+use Rattle.ut_exact.specs.Places.{stamped_in}
 use Rattle.ut_exact.specs.Scan.{IsScan}
 use Rattle.ut_exact.proofs.OrderLemmas.{T_first, T_second, less}
 use Rattle.ut_exact.proofs.ScanLemmas.{seen_is_live}

@@ -1,25 +1,23 @@
 -- What a session sees suits its table, whoever took it meanwhile.
-use Rattle.std.proofs.Common.{ℕ, zero, suc, ◌+◌, ◌-◌, ◌<◌, ◌≤◌, ◌≡◌, Bool, T, true, false, ◌&&◌, cond, not, List, [], ◌∷◌, ◌++◌, append_assoc, append-nil, length, map, take, drop, Option, None, Some, refl, sym, ap, ◌∙◌, subst, arith, IsTrue, nat_eq, nat_le, slice_get}
+use Rattle.std.proofs.Common.{ℕ, ◌-◌, ◌<◌, ◌≡◌, Bool, true, false, ◌&&◌, cond, List, [], ◌∷◌, ◌++◌, append_assoc, append-nil, take, drop, Option, None, Some, refl, sym, ap, ◌∙◌, subst, IsTrue, nat_eq}
 use Rattle.std.specs.Option.{is_none}
 use Rattle.std.specs.List.{list_all}
 use Rattle.std.specs.Ordering.{nat_cmp}
 use Rattle.std.specs.FinMap as finmap
-use Rattle.std.specs.FinMap.{is_sorted}
 use Rattle.ut_value.specs.declared.value.Value.{Value}
 use Rattle.ut_value.specs.declared.entry.Entry.{Entry}
 use Rattle.ut_value.specs.declared.entry.Entry.TheVariants as entries
 use Rattle.ut_value.specs.declared.entry.Op.{Op}
 use Rattle.ut_value.specs.declared.entry.Op.TheVariants as ops
-use Rattle.ut_value.specs.Spelling.{is_op, is_u16, is_u32, are_values}
+use Rattle.ut_value.specs.Spelling.{is_op, is_u16, is_u32}
 use Rattle.ut_plain.specs.declared.table.Table.{Table}
 use Rattle.ut_plain.specs.declared.table.Stored.{Stored}
 use Rattle.ut_plain.specs.declared.transaction.OpenTransaction.{OpenTransaction}
 use Rattle.ut_plain.specs.Tables.{columns_at, fits_table}
-use Rattle.ut_plain.specs.Rows.{Rows, can_apply, can_apply_all, with_op, with_ops, op_at, ops_at}
+use Rattle.ut_plain.specs.Rows.{Rows, can_apply, can_apply_all, with_op, op_at, ops_at}
 use Rattle.ut_plain.specs.State.{State, after, IsState}
 use Rattle.ut_plain.specs.Journal.{Journal, after_all, current, state_at, prefix, IsJournal}
 use Rattle.ut_plain.specs.Plain.{Plain, open_at, seen, seen_by}
-use Rattle.ut_plain.specs.View.{View, view}
 use Rattle.ut_plain.specs.Reached.{IsPlain}
 use Rattle.ut_plain.proofs.BoolLemmas.{and_left, and_right, and_both}
 use Rattle.ut_plain.proofs.ListLemmas.{take_and_drop}
@@ -31,7 +29,6 @@ use Rattle.ut_plain.proofs.StateLaws.{IsState-current}
 use Rattle.ut_plain.proofs.MadeLemmas.{suits_table}
 use Rattle.ut_stamps.specs.Stamps.{sees}
 use Rattle.ut_scan.specs.declared.place.Place.{Place}
-use Rattle.ut_exact.specs.Stamped.{Stamped}
 use Rattle.ut_exact.specs.Exact.{shown_by}
 use Rattle.ut_exact.specs.Places.{StagedRow, stamped_in}
 use Rattle.ut_exact.specs.Scan.{stored_in}

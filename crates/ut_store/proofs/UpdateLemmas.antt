@@ -1,5 +1,5 @@
 -- The operations of an update.
-use Rattle.std.proofs.Common.{ℕ, zero, suc, ◌+◌, ◌<◌, ◌≤◌, ◌≡◌, ◌≢◌, Bool, T, true, false, ◌&&◌, ◌||◌, List, [], ◌∷◌, length, map, Option, None, Some, refl, sym, ap, ◌∙◌, subst, arith, IsTrue, nat_eq, nat_le, nat_lt, lt-ltb, leb-true, eqb-true, slice_get, slice_set, unwrap_or}
+use Rattle.std.proofs.Common.{ℕ, ◌+◌, ◌<◌, ◌≤◌, ◌≡◌, Bool, true, false, ◌&&◌, ◌||◌, List, [], ◌∷◌, length, map, Option, Some, refl, sym, ap, ◌∙◌, subst, arith, IsTrue, nat_eq, nat_le, lt-ltb, leb-true, eqb-true, slice_get, slice_set}
 use Rattle.std.specs.List.{list_all}
 use Rattle.std.proofs.lemmas.List.Sums.{sum_by-cons}
 use Rattle.ut_value.specs.declared.value.Column.{Column}
@@ -8,31 +8,29 @@ use Rattle.ut_value.specs.declared.entry.Op.{Op}
 use Rattle.ut_value.specs.declared.entry.Op.TheVariants as ops
 use Rattle.ut_value.specs.KeyBytes.{is_value}
 use Rattle.ut_value.specs.Text.{is_name}
-use Rattle.ut_value.specs.Spelling.{is_op, is_u16, is_u32, is_count, are_values, are_columns, has_column}
-use Rattle.ut_plain.specs.declared.table.Table.{Table}
+use Rattle.ut_value.specs.Spelling.{is_op, is_u16, is_u32, is_count, are_values, has_column}
 use Rattle.ut_plain.specs.declared.statement.Statement.{Statement}
 use Rattle.ut_plain.specs.declared.statement.Statement.TheVariants as statements
 use Rattle.ut_plain.specs.declared.statement.Pred.{Pred}
 use Rattle.ut_plain.specs.declared.reply.Refusal.{Refusal}
 use Rattle.ut_plain.specs.declared.reply.Refusal.TheVariants as refusals
-use Rattle.ut_plain.specs.Tables.{fits_columns, fits_table, columns_at, column_of, place_in, columns_in, columns_of}
+use Rattle.ut_plain.specs.Tables.{fits_columns, fits_table, columns_at, place_in, columns_in, columns_of}
 use Rattle.ut_plain.specs.Names.{preds_known}
 use Rattle.ut_plain.specs.Kinds.{kind_in, has_kind, preds_fit}
-use Rattle.ut_plain.specs.Condition.{meets, found}
+use Rattle.ut_plain.specs.Condition.{found}
 use Rattle.ut_plain.specs.Rows.{op_inserts, inserts_of}
 use Rattle.ut_plain.specs.Made.{updates, changed_value}
 use Rattle.ut_plain.specs.Refusals.{first_taken, unless, or_else}
 use Rattle.ut_plain.specs.Spelled.{are_preds}
 use Rattle.ut_plain.specs.Plain.{Plain}
-use Rattle.ut_plain.specs.View.{View, view}
+use Rattle.ut_plain.specs.View.{view}
 use Rattle.ut_plain.proofs.BoolLemmas.{and_left, and_right, and_both}
 use Rattle.ut_plain.proofs.ListLemmas.{list_all_set}
 use Rattle.ut_plain.proofs.TableLemmas.{there_known, fits_columns-set, are_values-fit}
 use Rattle.ut_plain.proofs.MadeLemmas.{suits_table}
 use Rattle.ut_scan.specs.declared.place.Place.{Place}
-use Rattle.ut_exact.specs.Places.{StagedRow, dead_number}
 use Rattle.ut_exact.specs.Scan.{stored_in}
-use Rattle.ut_table.specs.Staged.{Staged, row_at}
+use Rattle.ut_table.specs.Staged.{Staged}
 use Rattle.ut_plain.specs.declared.reply.Reply.TheVariants as replies
 use Rattle.ut_store.specs.declared.turn.Turn.TheVariants.{Answered}
 use Rattle.ut_store.specs.Answers.{Answers}
@@ -40,11 +38,11 @@ use Rattle.ut_store.specs.Held.{Held, place_at}
 use Rattle.ut_store.specs.Stands.{StandsFor}
 use Rattle.ut_store.specs.Hits.{plain_rows}
 use Rattle.ut_store.specs.Staging.{Staging, written, AreFound}
-use Rattle.ut_store.specs.Changes.{has_ids_for, has_room_for, late_refusal, updated_ops, op_fits, op_ends, ends_of, AreThere, CanLook, Looked, MayChange, AreReady, IsWork}
+use Rattle.ut_store.specs.Changes.{has_ids_for, late_refusal, updated_ops, op_fits, op_ends, ends_of, CanLook, Looked, MayChange, AreReady, IsWork}
 use Rattle.ut_store.proofs.ReadLemmas.{reads}
 use Rattle.ut_store.proofs.StageLemmas.{here}
 use Rattle.ut_store.proofs.HitLemmas.{found-is, first_taken-is}
-use Rattle.ut_store.proofs.MadeLemmas.{FindsFree, values_at, updates-are, length-rows, updates_fit, updates_fit_alone}
+use Rattle.ut_store.proofs.MadeLemmas.{values_at, updates-are, length-rows, updates_fit, updates_fit_alone}
 use Rattle.ut_store.proofs.StagingLemmas.{updates_of, staging-updates, written-updates}
 use Rattle.ut_store.proofs.KindLemmas.{early_tests, TableAt, table_at, at_n, next_small}
 use Rattle.ut_store.proofs.FinishLemmas.{answers_refused}

@@ -1,5 +1,5 @@
 -- Operations one after the other.
-use Rattle.std.proofs.Common.{ℕ, zero, suc, ◌+◌, ◌*◌, ◌<◌, ◌≤◌, ◌≡◌, Bool, true, false, ◌&&◌, List, [], ◌∷◌, ◌++◌, length, length-append, drop, map, is_some, Option, None, Some, refl, sym, ap, ◌∙◌, subst, arith, IsTrue, IsSome, nat_le, leb-true, mul-le-mul_left, get_or, slice_get}
+use Rattle.std.proofs.Common.{ℕ, zero, suc, ◌+◌, ◌*◌, ◌<◌, ◌≤◌, ◌≡◌, true, ◌&&◌, List, [], ◌∷◌, ◌++◌, length, length-append, drop, refl, sym, ap, subst, arith, IsTrue, IsSome, nat_le, leb-true, mul-le-mul_left, get_or, slice_get}
 use Rattle.std.specs.List.{list_all, sum_by}
 use Rattle.std.proofs.lemmas.List.Sums.{sum_by-cons}
 use Rattle.ut_value.specs.declared.value.Value.{Value}
@@ -19,7 +19,7 @@ use Rattle.ut_scan.specs.declared.place.Found.{Found}
 use Rattle.ut_table.specs.Finds.{hits_of}
 use Rattle.ut_table.specs.Staged.{Staged, row_at, count_of, entered_l1, end_at, ended_in}
 use Rattle.ut_store.specs.Staging.{new_row, written}
-use Rattle.ut_store.specs.Changes.{written_one, hits_behind, op_fits, op_ends, ends_of, AreThere, CanWrite}
+use Rattle.ut_store.specs.Changes.{written_one, hits_behind, op_fits, op_ends, AreThere, CanWrite}
 
 -- ---- an operation is short
 

@@ -1,5 +1,5 @@
 -- What a change of rows needs, and what it does to the store.
-use Rattle.std.specs.Prelude.{ℕ, ◌+◌, ◌≤◌, ◌<◌, ◌≡◌, ◌≢◌, Bool, true, false, ◌&&◌, ◌||◌, nat_eq, nat_le, nat_lt, is_some, IsTrue, IsSome, All, List, [], ◌∷◌, ◌++◌, length, map, Option, None, Some, slice_get, slice_set}
+use Rattle.std.specs.Prelude.{ℕ, ◌+◌, ◌≤◌, ◌<◌, ◌≡◌, ◌≢◌, Bool, true, ◌&&◌, ◌||◌, nat_eq, nat_le, nat_lt, is_some, IsTrue, IsSome, List, [], ◌∷◌, ◌++◌, length, map, Option, None, Some, slice_get, slice_set}
 use Rattle.std.specs.Option.{option_map}
 use Rattle.std.specs.List as lists
 use Rattle.std.specs.List.{list_all, sum_by}

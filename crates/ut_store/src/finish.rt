@@ -80,7 +80,10 @@ impl Store {
         ensures { Answers self.old session st.now result self.new }
     {
         if ops.is_empty() {
-            return Turn::Answered(Reply::Changed { rows: 0, commit: None });
+            return Turn::Answered(Reply::Changed {
+                rows: 0,
+                commit: None,
+            });
         }
         match self.do_alone(alloc, place, hits, ops) {
             Ok(()) => Turn::Append(Reply::Changed {

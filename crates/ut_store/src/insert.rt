@@ -31,7 +31,12 @@ impl Store {
     }
 }
 
-fn insert_ops(alloc: Global, table: u16, id: u32, values: &Seq<Value>) -> Result<Vec<Op>, AllocError>
+fn insert_ops(
+    alloc: Global,
+    table: u16,
+    id: u32,
+    values: &Seq<Value>,
+) -> Result<Vec<Op>, AllocError>
     ensures { IfOk result (λ ops. ops.items ≡ Op.Insert table id values.now ∷ []) }
 {
     let values = values.duplicate(alloc)?;

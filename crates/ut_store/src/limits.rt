@@ -26,7 +26,13 @@ const MOST_ENTRIES: u32 = (1 << 30) - 1;
 
 impl Store {
     /// The refusal of operations by a limit, or by the least row that another transaction took.
-    pub(crate) fn late_refusal(&self, session: u8, place: usize, hits: &[Found], ops: &[Op]) -> Option<Refusal>
+    pub(crate) fn late_refusal(
+        &self,
+        session: u8,
+        place: usize,
+        hits: &[Found],
+        ops: &[Op],
+    ) -> Option<Refusal>
         requires seat { session < 17 }
         requires places { HasPlaces self.now place (hits_of hits.now) }
         requires rule { IsTrue (list_all is_op ops.now) }
@@ -104,7 +110,13 @@ pub(crate) fn own_number(opened: Option<Opened>) -> Option<u64>
     }
 }
 
-fn first_taken_in(table: &Stages, fates: &Fates, snapshot: u32, own: Option<u64>, hits: &[Found]) -> Option<u32>
+fn first_taken_in(
+    table: &Stages,
+    fates: &Fates,
+    snapshot: u32,
+    own: Option<u64>,
+    hits: &[Found],
+) -> Option<u32>
     requires { AreThere table.now.stages (hits_of hits.now) }
     ensures { result ≡ first_taken_in table.now.stages fates.now snapshot own (hits_of hits.now) }
 {

@@ -1,7 +1,6 @@
-use Rattle.std.proofs.Common.{◌≡◌, ◌<◌, ◌+◌, ◌++◌, ◌∷◌, [], min, length, take, drop, sym, ap, ◌∙◌, append_assoc, arith}
+use Rattle.std.proofs.Common.{◌≡◌, ◌<◌, ◌+◌, ◌++◌, ◌∷◌, min, length, take, drop, sym, ap, ◌∙◌, append_assoc, arith}
 use Rattle.ut_plain.specs.Made.{rows_of}
 use Rattle.ut_plain.proofs.CutLemmas.{rows_of-split}
-use Rattle.ut_value.specs.declared.value.Row.{Row}
 use Rattle.ut_store.specs.Changes.{numbered}
 use Rattle.ut_store.proofs.bulk.row_list.Goals as goal
 

@@ -1,5 +1,4 @@
-use Rattle.std.proofs.Common.{◌≡◌, ◌<◌, ◌≤◌, ◌+◌, ◌-◌, min, length, take, drop, ap, ◌∙◌, arith, length-drop}
-use Rattle.ut_plain.specs.Made.{rows_of}
+use Rattle.std.proofs.Common.{◌≡◌, ◌<◌, min, length, take, drop, ap, ◌∙◌, arith, length-drop}
 use Rattle.ut_plain.proofs.CutLemmas.{rows_of-split}
 use Rattle.ut_store.proofs.bulk.rows_in.Goals as goal
 

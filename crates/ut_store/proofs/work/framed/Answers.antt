@@ -1,4 +1,4 @@
-use Rattle.std.proofs.Common.{[], ◌∙◌, refl}
+use Rattle.std.proofs.Common.{[], ◌∙◌}
 use Rattle.ut_store.proofs.work.framed.Goals as goal
 
 pub returns : goal.returns

@@ -1,8 +1,5 @@
-use Rattle.std.proofs.Common.{◌≡◌, ◌∷◌, ◌≤◌, ◌+◌, IsTrue, List, drop, subst, arith}
-use Rattle.std.specs.List.{list_all}
-use Rattle.ut_value.specs.declared.entry.Op.{Op}
-use Rattle.ut_value.specs.Spelling.{is_op, op_len}
-use Rattle.ut_store.proofs.WriteLemmas.{op_len-short, element_short}
+use Rattle.std.proofs.Common.{◌≤◌, arith}
+use Rattle.ut_store.proofs.WriteLemmas.{element_short}
 use Rattle.ut_store.proofs.write.ops_len.Goals as goal
 
 pub op_len-total-requires : goal.op_len-total-requires

@@ -1,5 +1,5 @@
-use Rattle.std.proofs.Common.{◌≡◌, ◌≤◌, ◌∷◌, ◌∙◌, suc, length, sym, ap, subst, arith}
-use Rattle.std.specs.Vec.Iter.{into_iter_items, into_iter_len}
+use Rattle.std.proofs.Common.{◌≡◌, ◌≤◌, ◌∷◌, ◌∙◌, length, sym, ap, subst, arith}
+use Rattle.std.specs.Vec.Iter.{into_iter_items}
 use Rattle.ut_plain.specs.Rows.{inserts_of}
 use Rattle.ut_table.specs.Finds.{hits_of}
 use Rattle.ut_store.specs.Staging.{written}

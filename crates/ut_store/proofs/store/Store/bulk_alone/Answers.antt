@@ -1,8 +1,6 @@
-use Rattle.std.proofs.Common.{ℕ, ◌∙◌, Some, length, sym, ap, subst, arith}
-use Rattle.ut_plain.specs.declared.reply.Reply.TheVariants as replies
+use Rattle.std.proofs.Common.{◌∙◌, sym, ap, subst, arith}
 use Rattle.ut_plain.specs.Rows.{inserts_of}
 use Rattle.ut_store.specs.declared.turn.Turn.{Turn}
-use Rattle.ut_store.specs.declared.turn.Turn.TheVariants.{Append}
 use Rattle.ut_store.specs.Held.{Held}
 use Rattle.ut_store.specs.Answers.{Answers}
 use Rattle.ut_store.proofs.FinishLemmas.{can_do, can_append, ids_fit, answers_alone}

@@ -1,8 +1,5 @@
-use Rattle.std.proofs.Common.{◌∙◌, None, ap, sym, subst, arith}
-use Rattle.ut_plain.specs.declared.reply.Reply.TheVariants as replies
+use Rattle.std.proofs.Common.{◌∙◌, ap, arith}
 use Rattle.ut_plain.specs.Rows.{inserts_of}
-use Rattle.ut_store.specs.declared.turn.Turn.TheVariants.{Answered}
-use Rattle.ut_store.specs.Answers.{Answers}
 use Rattle.ut_store.proofs.FinishLemmas.{can_do, size_fits, ids_fit, answers_inside, answers_memory}
 use Rattle.ut_store.proofs.LoadLemmas.{inserts-all}
 use Rattle.ut_store.proofs.store.Store.bulk_inside.Goals as goal

@@ -1,4 +1,4 @@
-use Rattle.std.proofs.Common.{◌≡◌, ◌+◌, ◌++◌, ◌∷◌, [], ◌∙◌, Some, length, slice_get, slice_set, refl, sym, ap, subst}
+use Rattle.std.proofs.Common.{◌≡◌, ◌+◌, ◌∙◌, Some, length, slice_get, slice_set, refl, sym, ap, subst}
 use Rattle.ut_value.specs.declared.entry.Entry.TheVariants.{Txn}
 use Rattle.ut_value.specs.Spelling.{spelling}
 use Rattle.ut_plain.specs.Rows.{inserts_of}

@@ -1,4 +1,4 @@
-use Rattle.std.proofs.Common.{◌∙◌, sym}
+use Rattle.std.proofs.Common.{sym}
 use Rattle.ut_store.proofs.FinishLemmas.{answers_refused}
 use Rattle.ut_store.proofs.store.Store.finish_bulk.Goals as goal
 

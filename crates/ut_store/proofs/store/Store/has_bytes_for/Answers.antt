@@ -1,4 +1,4 @@
-use Rattle.std.proofs.Common.{◌≡◌, ◌∙◌, length, ap}
+use Rattle.std.proofs.Common.{◌∙◌, length, ap}
 use Rattle.ut_txn.specs.Seats.{payload_at}
 use Rattle.ut_value.specs.Spelling.{ops_len}
 use Rattle.ut_store.specs.Held.{Held}

@@ -1,18 +1,15 @@
-use Rattle.std.proofs.Common.{◌≡◌, ◌<◌, ◌≤◌, ◌+◌, ◌++◌, ◌∷◌, [], ◌∙◌, All, Some, length, map, slice_get, slice_set, refl, sym, ap, subst, arith, IsTrue}
+use Rattle.std.proofs.Common.{◌≡◌, ◌+◌, ◌∙◌, All, Some, length, map, slice_get, slice_set, refl, sym, ap, subst, arith, IsTrue}
 use Rattle.std.specs.List.{list_all}
 use Rattle.ut_value.specs.declared.value.Row.{Row}
-use Rattle.ut_value.specs.declared.entry.Entry.TheVariants.{Txn}
-use Rattle.ut_value.specs.Spelling.{spelling}
 use Rattle.ut_plain.specs.Tables.{fits_columns}
 use Rattle.ut_plain.specs.Rows.{inserts_of}
 use Rattle.ut_stamps.specs.declared.fates.Fate.TheVariants.{Running, Committed, Aborted}
 use Rattle.ut_stamps.specs.Stamps.{fate_at, is_running}
 use Rattle.ut_exact.proofs.FateLemmas.{fate-push_new}
 use Rattle.ut_table.specs.Staged.{Staged, begun_row, entered_l2, count_of}
-use Rattle.ut_txn.specs.Seats.{opened_at}
 use Rattle.ut_store.specs.Held.{Held}
 use Rattle.ut_store.specs.Changes.{op_fits}
-use Rattle.ut_store.proofs.IndexLemmas.{on_err, stages_in, stages_at_place, stages_same, stages_put, seats_itself, seat_set_behind, same_by, inside_by, alone_by}
+use Rattle.ut_store.proofs.IndexLemmas.{stages_in, stages_at_place, stages_same, stages_put, seats_itself, alone_by}
 use Rattle.ut_store.proofs.LoadLemmas.{rows-fit, inserts-all, spent_by}
 use Rattle.ut_store.proofs.store.Store.load_alone.Goals as goal
 

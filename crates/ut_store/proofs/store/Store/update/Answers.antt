@@ -1,4 +1,4 @@
-use Rattle.std.proofs.Common.{◌≡◌, ◌<◌, ◌≤◌, ◌∙◌, true, List, Some, length, slice_get, unwrap_or, ap, sym, subst, arith}
+use Rattle.std.proofs.Common.{◌≡◌, ◌<◌, ◌∙◌, true, List, Some, length, slice_get, unwrap_or, ap, sym, subst, arith}
 use Rattle.ut_plain.specs.declared.statement.Pred.{Pred}
 use Rattle.ut_plain.specs.Tables.{place_in, columns_in, column_of}
 use Rattle.ut_plain.specs.Made.{changed_value}
