@@ -1,28 +1,35 @@
 -- How changes of rows keep the store standing for the plain state: in a transaction, alone, and when the transaction commits.
-use Rattle.std.proofs.Common.{ℕ, suc, ◌+◌, ◌<◌, ◌≡◌, ◌≢◌, inl, inr, List, [], ◌∷◌, ◌++◌, length, Option, None, Some, refl, sym, ap, ◌∙◌, subst, arith, IsTrue, slice_set, unwrap_or, length-append, length-set}
+use Rattle.std.proofs.Common.{ℕ, zero, suc, ◌+◌, ◌<◌, ◌≤◌, ◌≡◌, ◌≢◌, inl, inr, Bool, true, false, List, [], ◌∷◌, ◌++◌, append-nil, length, map, Option, None, Some, refl, sym, ap, ◌∙◌, subst, arith, IsTrue, slice_get, slice_set, unwrap_or, length-append, length-set}
 use Rattle.std.proofs.lemmas.Bool.{cases_eq}
 use Rattle.std.specs.Option.{option_map}
 use Rattle.ut_value.specs.declared.entry.Op.{Op}
+use Rattle.ut_value.specs.declared.entry.Entry.{Entry}
 use Rattle.ut_value.specs.declared.entry.Entry.TheVariants as entries
 use Rattle.ut_value.specs.Spelling.{spelling}
+use Rattle.ut_plain.specs.declared.table.Table.{Table}
 use Rattle.ut_plain.specs.declared.transaction.OpenTransaction.{OpenTransaction}
 use Rattle.ut_plain.specs.declared.statement.Statement.{Statement}
 use Rattle.ut_plain.specs.declared.statement.Statement.TheVariants.{Commit}
+use Rattle.ut_plain.specs.declared.reply.Reply.{Reply}
 use Rattle.ut_plain.specs.declared.reply.Reply.TheVariants as replies
 use Rattle.ut_plain.specs.State.{State}
 use Rattle.ut_plain.specs.Rows.{inserts_of}
-use Rattle.ut_plain.specs.Journal.{journal_len, current, appended}
-use Rattle.ut_plain.specs.Plain.{Plain, open_at, with_entry}
+use Rattle.ut_plain.specs.Journal.{Journal, journal_len, current, appended}
+use Rattle.ut_plain.specs.Plain.{Plain, Sessions, open_at, with_entry}
 use Rattle.ut_plain.specs.Spelled.{is_spelled}
-use Rattle.ut_plain.specs.View.{view, own_ops}
+use Rattle.ut_plain.specs.View.{View, view, own_ops}
 use Rattle.ut_plain.specs.Made.{made, changes}
-use Rattle.ut_plain.specs.Stages.{with_inserts}
-use Rattle.ut_plain.specs.Step.{Stepped, effect_of, changed, is_bulk, with_made, said_changed, committed, committed_by, closed}
+use Rattle.ut_plain.specs.Stages.{Stages, with_inserts}
+use Rattle.ut_plain.specs.Step.{Stepped, effect_of, changed, is_bulk, with_made, with_txn, said_changed, said_alone, committed, committed_by, closed}
 use Rattle.ut_plain.proofs.JournalLaws.{current-appended, journal_len-appended}
-use Rattle.ut_stamps.specs.declared.fates.Fate.TheVariants.{Running, Committed}
+use Rattle.ut_stamps.specs.declared.fates.Fate.{Fate}
+use Rattle.ut_stamps.specs.declared.fates.Fate.TheVariants.{Running, Committed, Aborted}
+use Rattle.ut_stamps.specs.Stamps.{fate_at, is_running}
+use Rattle.ut_exact.specs.Stamped.{Stamped}
 use Rattle.ut_exact.specs.Exact.{IsExact, IsOwn, AreOpen}
-use Rattle.ut_exact.specs.Work.{Fits, applied}
-use Rattle.ut_exact.proofs.FateLemmas.{fate-push_new}
+use Rattle.ut_exact.specs.Work.{Fits, Working, applied}
+use Rattle.ut_exact.specs.Places.{AreHeld, dead_number}
+use Rattle.ut_exact.proofs.FateLemmas.{fate-push_old, fate-push_new, running_within}
 use Rattle.ut_exact.proofs.ExactLemmas.{IsExact-start, IsExact-commit}
 use Rattle.ut_exact.proofs.OwnLemmas.{IsOwn-start}
 use Rattle.ut_exact.proofs.SessionLemmas.{AreOpen-changed, AreOpen-alone, AreOpen-closed, AreOpen-renumbered}
@@ -30,14 +37,15 @@ use Rattle.ut_exact.proofs.WorkLemmas.{working-applied, other-applied}
 use Rattle.ut_table.specs.Staged.{Staged}
 use Rattle.ut_txn.specs.declared.opened.Opened.{Opened}
 use Rattle.ut_txn.specs.Seats.{Seat, opened_at, payload_at, number_at, SeatSet, SeatsStay}
+use Rattle.ut_store.specs.declared.turn.Turn.{Turn}
 use Rattle.ut_store.specs.declared.turn.Turn.TheVariants.{Answered, Append}
-use Rattle.ut_store.specs.Held.{Held}
-use Rattle.ut_store.specs.Stands.{StandsFor, AreCounts}
+use Rattle.ut_store.specs.Held.{Held, place_at}
+use Rattle.ut_store.specs.Stands.{StandsFor, AreCounts, AreSeats, AreRows, stages_of}
 use Rattle.ut_store.specs.Answers.{Answer, Answers}
 use Rattle.ut_store.specs.Allowed.{IsRefused}
 use Rattle.ut_store.specs.Staging.{Staging}
 use Rattle.ut_store.proofs.SeatLemmas.{AreSeats-set, numbers-set, seats-stay, numbers-stay}
-use Rattle.ut_store.proofs.StandsLemmas.{answer_by, IsOpenOn, By, open_on, number_is, no_payload, dead_set, dead_pushed, renumbered}
+use Rattle.ut_store.proofs.StandsLemmas.{answer_by, IsOpenOn, By, open_on, number_is, no_payload, dead_set, dead_pushed, not_dead, renumbered}
 
 -- a statement that makes these operations and changes so many rows
 pub record Makes (e : Held) (session : ℕ) (st : Statement) (os : List Op) (rows : ℕ) : Type 0 where

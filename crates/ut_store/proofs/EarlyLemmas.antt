@@ -1,11 +1,11 @@
 -- What the early refusals, the limits and the conflicts are together.
-use Rattle.std.proofs.Common.{ℕ, ◌<◌, ◌≡◌, true, false, Option, None, Some, refl, sym, ap, ◌∙◌}
+use Rattle.std.proofs.Common.{ℕ, ◌<◌, ◌≡◌, Bool, true, false, Option, None, Some, refl, sym, ap, ◌∙◌, is_some, unwrap_or}
 use Rattle.std.specs.Option.{option_map}
 use Rattle.ut_plain.specs.declared.statement.Statement.{Statement}
 use Rattle.ut_plain.specs.declared.reply.Refusal.{Refusal}
 use Rattle.ut_plain.specs.declared.reply.Refusal.TheVariants as refusals
 use Rattle.ut_plain.specs.Plain.{Plain}
-use Rattle.ut_plain.specs.View.{view}
+use Rattle.ut_plain.specs.View.{View, view}
 use Rattle.ut_plain.specs.Names.{names_known}
 use Rattle.ut_plain.specs.Kinds.{kinds_fit}
 use Rattle.ut_plain.specs.Limits.{has_room}

@@ -1,36 +1,43 @@
 -- What a scan of the store finds is what the plain store finds.
-use Rattle.std.proofs.Common.{ℕ, ◌<◌, ◌≡◌, Bool, T, true, false, ◌||◌, cond, List, [], ◌∷◌, filter, Some, refl, sym, ap, ◌∙◌, arith, nat_eq, slice_get, unwrap_or, true≢false}
+use Rattle.std.proofs.Common.{ℕ, zero, suc, ◌+◌, ◌<◌, ◌≤◌, ◌≡◌, ◌≢◌, ◌⊎◌, inl, inr, Bool, T, true, false, not, ◌&&◌, ◌||◌, cond, List, [], ◌∷◌, ◌++◌, filter, length, map, Option, None, Some, refl, sym, ap, ◌∙◌, subst, arith, nat_eq, slice_get, unwrap_or, true≢false}
 use Rattle.std.specs.Option.{option_map}
 use Rattle.std.specs.List as lists
 use Rattle.std.specs.Ordering.{nat_cmp, is_lt}
 use Rattle.std.specs.FinMap.{find, is_sorted}
 use Rattle.std.specs.FinMap.Entries.{below_all}
 use Rattle.ut_value.specs.declared.value.Value.{Value}
+use Rattle.ut_value.specs.declared.entry.Op.{Op}
+use Rattle.ut_value.specs.declared.entry.Op.TheVariants as ops
 use Rattle.ut_plain.specs.declared.table.Stored.{Stored}
+use Rattle.ut_plain.specs.declared.transaction.OpenTransaction.{OpenTransaction}
 use Rattle.ut_plain.specs.declared.statement.Pred.{Pred}
 use Rattle.ut_plain.specs.Rows.{table_rows}
 use Rattle.ut_plain.specs.Plain.{Plain, open_at}
 use Rattle.ut_plain.specs.Condition.{meets}
-use Rattle.ut_plain.specs.View.{view}
+use Rattle.ut_plain.specs.View.{View, view}
 use Rattle.ut_plain.specs.Condition.{found}
 use Rattle.ut_plain.specs.Tables.{place_in, columns_in}
+use Rattle.ut_plain.specs.Made.{deletes_all, updates}
 use Rattle.ut_plain.specs.Refusals.{first_taken}
-use Rattle.ut_stamps.specs.declared.fates.Fate.TheVariants.{Running}
-use Rattle.ut_stamps.specs.Stamps.{fate_at, is_own, is_committed_by, is_taken}
+use Rattle.ut_stamps.specs.declared.fates.Fate.{Fate}
+use Rattle.ut_stamps.specs.declared.fates.Fate.TheVariants.{Running, Committed, Aborted}
+use Rattle.ut_stamps.specs.declared.visibility.Stamp.{Stamp}
+use Rattle.ut_stamps.specs.Stamps.{fate_at, counts, is_own, is_committed_by, is_taken, sees}
 use Rattle.ut_scan.specs.declared.place.Place.{Place}
-use Rattle.ut_exact.specs.Exact.{ended_by, may_take}
-use Rattle.ut_exact.specs.Places.{StagedRow, dead_number, is_dead, stamped_in}
-use Rattle.ut_exact.specs.Scan.{stored_in}
-use Rattle.ut_exact.proofs.FateLemmas.{other_number}
+use Rattle.ut_exact.specs.Stamped.{Stamped}
+use Rattle.ut_exact.specs.Exact.{shown_by, ended_by, may_take}
+use Rattle.ut_exact.specs.Places.{StagedRow, AreHeld, dead_number, is_dead, stamped_in}
+use Rattle.ut_exact.specs.Scan.{IsScan, stored_in}
+use Rattle.ut_exact.proofs.FateLemmas.{other_number, same_number}
 use Rattle.ut_exact.proofs.OrderLemmas.{T_first, T_second, less, not_tied, first_found}
 use Rattle.ut_exact.proofs.ScanLemmas.{scan-is, seen_is_live}
 use Rattle.ut_exact.proofs.SeenLemmas.{taken-stamp}
-use Rattle.ut_table.specs.Staged.{Staged}
+use Rattle.ut_table.specs.Staged.{Staged, row_at}
 use Rattle.ut_txn.specs.declared.opened.Opened.{Opened}
-use Rattle.ut_txn.specs.Seats.{number_at}
+use Rattle.ut_txn.specs.Seats.{opened_at, number_at}
 use Rattle.ut_store.specs.Held.{Held, place_at}
 use Rattle.ut_store.specs.Stands.{StandsFor}
-use Rattle.ut_store.specs.Reads.{looks_at, own_at, counts_for}
+use Rattle.ut_store.specs.Reads.{Reads, looks_at, own_at, counts_for}
 use Rattle.ut_store.specs.Hits.{Hits, stamp_in, first_taken_of, plain_rows}
 use Rattle.ut_store.specs.Staging.{AreFound}
 use Rattle.ut_store.proofs.ReadLemmas.{reads, SameSession, Closed, Open, same_session}

@@ -1,27 +1,33 @@
 -- The operations that a delete, an update and new rows make fit the store.
-use Rattle.std.proofs.Common.{ℕ, suc, ◌+◌, ◌<◌, ◌≡◌, List, [], ◌∷◌, ◌++◌, length, map, None, Some, refl, ap, ◌∙◌, subst, unwrap_or}
+use Rattle.std.proofs.Common.{ℕ, zero, suc, ◌+◌, ◌<◌, ◌≤◌, ◌≡◌, ◌≢◌, inl, inr, Bool, T, true, false, List, [], ◌∷◌, ◌++◌, length, map, Option, None, Some, refl, sym, ap, ◌∙◌, subst, arith, slice_get, unwrap_or}
 use Rattle.std.specs.Option.{option_map}
+use Rattle.std.specs.Ordering.{nat_cmp}
+use Rattle.std.specs.FinMap.{is_sorted}
 use Rattle.ut_value.specs.declared.value.Value.{Value}
 use Rattle.ut_value.specs.declared.entry.Op.{Op}
 use Rattle.ut_value.specs.declared.entry.Op.TheVariants as ops
+use Rattle.ut_plain.specs.declared.table.Stored.{Stored}
 use Rattle.ut_plain.specs.declared.statement.Pred.{Pred}
 use Rattle.ut_plain.specs.Plain.{Plain}
 use Rattle.ut_plain.specs.Condition.{meets}
-use Rattle.ut_plain.specs.View.{view}
+use Rattle.ut_plain.specs.View.{View, view}
 use Rattle.ut_plain.specs.Condition.{found}
 use Rattle.ut_plain.specs.Tables.{place_in, columns_in}
-use Rattle.ut_plain.specs.Made.{deletes_all, updates}
+use Rattle.ut_plain.specs.Made.{inserts, deletes_all, updates}
 use Rattle.ut_plain.specs.Refusals.{first_taken}
+use Rattle.ut_stamps.specs.declared.fates.Fate.{Fate}
 use Rattle.ut_stamps.specs.declared.fates.Fate.TheVariants.{Running}
+use Rattle.ut_stamps.specs.Stamps.{counts}
 use Rattle.ut_scan.specs.declared.place.Place.{Place}
+use Rattle.ut_exact.specs.Stamped.{Stamped}
 use Rattle.ut_exact.specs.Scan.{stored_in}
 use Rattle.ut_exact.specs.Work.{Fits}
-use Rattle.ut_exact.proofs.FreeLemmas.{AllFree, found_free, found_sorted, free_start, free_fits, update_fits}
+use Rattle.ut_exact.proofs.FreeLemmas.{AllFree, found_free, found_sorted, free_start, free_fits, update_fits, inserts_fit}
 use Rattle.ut_txn.specs.declared.opened.Opened.{Opened}
 use Rattle.ut_txn.specs.Seats.{opened_at}
 use Rattle.ut_store.specs.Held.{Held, place_at}
 use Rattle.ut_store.specs.Stands.{StandsFor}
-use Rattle.ut_store.specs.Reads.{looks_at, own_at}
+use Rattle.ut_store.specs.Reads.{looks_at, own_at, counts_for}
 use Rattle.ut_store.specs.Hits.{Hits, plain_rows, first_taken_of}
 use Rattle.ut_store.proofs.ReadLemmas.{reads}
 use Rattle.ut_store.proofs.HitLemmas.{found-is, first_taken-is}

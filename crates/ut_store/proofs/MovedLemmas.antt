@@ -1,5 +1,5 @@
 -- Rows that move from the first stage to the second keep their places apart.
-use Rattle.std.proofs.Common.{ℕ, zero, suc, ◌+◌, ◌-◌, ◌<◌, ◌≤◌, ◌≡◌, ◌≢◌, inl, inr, true, false, cond, List, [], ◌∷◌, ◌++◌, length, take, Option, None, Some, refl, sym, ap, ◌∙◌, arith, nat_eq, nat_lt, slice_get, slice_set}
+use Rattle.std.proofs.Common.{ℕ, zero, suc, ◌+◌, ◌-◌, ◌<◌, ◌≤◌, ◌≡◌, ◌≢◌, ◌⊎◌, inl, inr, Bool, true, false, cond, List, [], ◌∷◌, ◌++◌, length, take, drop, Option, None, Some, refl, sym, ap, ◌∙◌, subst, arith, nat_eq, nat_lt, slice_get, slice_set, true≢false}
 use Rattle.std.proofs.lemmas.Bool.{cases_eq, cases_lt, lt-ltb, ltb-true, eq-eqb}
 use Rattle.ut_scan.specs.declared.place.Place.{Place}
 use Rattle.ut_scan.specs.declared.place.Place.TheVariants.{L1, L2}
@@ -7,7 +7,7 @@ use Rattle.ut_exact.specs.Places.{StagedRow, Moved}
 use Rattle.ut_exact.proofs.FateLemmas.{other_number}
 use Rattle.ut_table.specs.Staged.{Staged, row_at, merged_l1}
 use Rattle.ut_store.specs.Held.{place_at}
-use Rattle.ut_store.proofs.ListLemmas.{get-within, get-appended, get-drop, get-behind, get-take, get-take_past}
+use Rattle.ut_store.proofs.ListLemmas.{get-within, get-past, get-appended, get-drop, get-behind, get-take, get-take_past}
 use Rattle.ut_store.proofs.StageLemmas.{here, set_here, set_other}
 
 -- where the row of a place stood before

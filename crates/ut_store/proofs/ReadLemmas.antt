@@ -1,19 +1,24 @@
 -- What the store reads is the view of the plain state.
-use Rattle.std.proofs.Common.{ℕ, ◌<◌, ◌≡◌, length, Option, None, Some, refl, sym, ap, ◌∙◌, arith, is_some, unwrap_or}
+use Rattle.std.proofs.Common.{ℕ, ◌<◌, ◌≤◌, ◌≡◌, Bool, true, false, ◌||◌, List, length, Option, None, Some, refl, sym, ap, ◌∙◌, subst, arith, is_some, unwrap_or}
 use Rattle.std.specs.Option.{option_map}
+use Rattle.std.specs.List.{list_any}
+use Rattle.std.specs.Ordering.{nat_cmp}
 use Rattle.std.specs.FinMap as finmap
 use Rattle.ut_plain.specs.declared.transaction.OpenTransaction.{OpenTransaction}
+use Rattle.ut_plain.specs.Rows.{Rows}
+use Rattle.ut_plain.specs.Journal as journal
 use Rattle.ut_plain.specs.Plain.{Plain, open_at, seen_by, open_deletes, others}
 use Rattle.ut_plain.specs.Plain as plain
-use Rattle.ut_plain.specs.View.{view}
+use Rattle.ut_plain.specs.View.{View, view, own_ops}
 use Rattle.ut_stamps.specs.Stamps.{counts}
+use Rattle.ut_exact.specs.Stamped.{Stamped}
 use Rattle.ut_exact.specs.Exact.{shown_by, ended_by, may_take, own_number}
 use Rattle.ut_exact.proofs.SeenLemmas.{get-seen, taken-is}
 use Rattle.ut_txn.specs.declared.opened.Opened.{Opened}
-use Rattle.ut_txn.specs.Seats.{opened_at, number_at}
+use Rattle.ut_txn.specs.Seats.{Seat, opened_at, payload_at, number_at}
 use Rattle.ut_store.specs.Held.{Held}
 use Rattle.ut_store.specs.Stands.{StandsFor, AreSeats, snapshot_of, opened_snapshot}
-use Rattle.ut_store.specs.Reads.{Reads, looks_at, own_at}
+use Rattle.ut_store.specs.Reads.{Reads, looks_at, own_at, counts_for}
 
 -- a session's transaction on both sides
 pub data SameSession (e : Held) (p : Plain) (session : ℕ) (own : Option OpenTransaction) : Type 0 where

@@ -1,5 +1,5 @@
 -- Seats that change, and a store that is the same.
-use Rattle.std.proofs.Common.{ℕ, ◌<◌, ◌≡◌, ◌≢◌, inl, inr, List, length, Option, None, sym, ap, ◌∙◌, subst, arith, slice_set, unwrap_or, map}
+use Rattle.std.proofs.Common.{ℕ, ◌<◌, ◌≤◌, ◌≡◌, ◌≢◌, inl, inr, List, [], length, Option, None, Some, refl, sym, ap, ◌∙◌, subst, arith, slice_set, unwrap_or, map}
 use Rattle.std.proofs.lemmas.Bool.{cases_eq}
 use Rattle.std.specs.Option.{option_map}
 use Rattle.ut_value.specs.declared.entry.Entry.TheVariants.{Txn}
@@ -8,6 +8,7 @@ use Rattle.ut_plain.specs.declared.transaction.OpenTransaction.{OpenTransaction}
 use Rattle.ut_plain.specs.Plain.{Plain, Sessions, open_at}
 use Rattle.ut_plain.specs.View.{own_ops}
 use Rattle.ut_stamps.specs.declared.fates.Fate.{Fate}
+use Rattle.ut_stamps.specs.declared.fates.Fate.TheVariants.{Aborted}
 use Rattle.ut_stamps.specs.Stamps.{fate_at}
 use Rattle.ut_exact.specs.Exact.{IsExact, AreOpen}
 use Rattle.ut_exact.specs.Work.{AreFree}
@@ -18,7 +19,7 @@ use Rattle.ut_plain.specs.declared.table.Table.{Table}
 use Rattle.ut_txn.specs.declared.opened.Opened.{Opened}
 use Rattle.ut_txn.specs.Seats.{Seat, opened_at, payload_at, number_at, SeatSet, SeatsStay}
 use Rattle.ut_store.specs.Held.{Held, place_at}
-use Rattle.ut_store.specs.Stands.{StandsFor, AreSeats, snapshot_of, opened_snapshot, stages_of}
+use Rattle.ut_store.specs.Stands.{StandsFor, AreSeats, AreCounts, AreRows, snapshot_of, opened_snapshot, stages_of}
 use Rattle.ut_store.specs.Answers.{Same}
 
 -- the sessions with the transaction of one another

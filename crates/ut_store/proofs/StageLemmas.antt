@@ -1,13 +1,13 @@
 -- What a change of one table's stages makes of the places.
-use Rattle.std.proofs.Common.{ℕ, zero, suc, ◌<◌, ◌≡◌, ◌≢◌, ◌⊎◌, inl, inr, List, [], ◌∷◌, length, None, Some, refl, sym, ap, ◌∙◌, arith, slice_get, slice_set}
-use Rattle.std.proofs.lemmas.Bool.{cases_eq}
+use Rattle.std.proofs.Common.{ℕ, zero, suc, ◌+◌, ◌-◌, ◌<◌, ◌≤◌, ◌≡◌, ◌≢◌, ◌⊎◌, inl, inr, List, [], ◌∷◌, ◌++◌, append_assoc, length, take, drop, Option, None, Some, refl, sym, ap, ◌∙◌, subst, arith, slice_get, slice_set, length-append, cond, nat_lt, true, false, Bool}
+use Rattle.std.proofs.lemmas.Bool.{cases_eq, cases_lt, lt-ltb}
 use Rattle.std.specs.Option.{option_and_then}
 use Rattle.ut_scan.specs.declared.place.Place.{Place}
 use Rattle.ut_scan.specs.declared.place.Place.TheVariants.{L1, L2}
-use Rattle.ut_exact.specs.Places.{StagedRow, ended_row, Pushed, EndedAt}
-use Rattle.ut_table.specs.Staged.{Staged, row_at, entered_l1, entered_l2, end_at, ended_in}
+use Rattle.ut_exact.specs.Places.{StagedRow, ended_row, Pushed, EndedAt, Moved}
+use Rattle.ut_table.specs.Staged.{Staged, row_at, entered_l1, entered_l2, end_at, ended_in, merged_l1}
 use Rattle.ut_store.specs.Held.{place_at}
-use Rattle.ut_store.proofs.ListLemmas.{get-set_same, get-set_other, Last, Before, in_pushed, get-pushed_last, get-appended, get-past, get-within}
+use Rattle.ut_store.proofs.ListLemmas.{get-set_same, get-set_other, InPushed, Last, Before, in_pushed, get-pushed_last, get-appended, get-past, get-within, get-drop, get-behind, get-take, get-take_past}
 
 -- a table that is there and one that is another
 

@@ -1,5 +1,5 @@
 -- How changes of rows are changes of the stages.
-use Rattle.std.proofs.Common.{ℕ, zero, suc, ◌+◌, ◌≡◌, ◌≢◌, Bool, true, false, T, List, [], ◌∷◌, ◌++◌, append_assoc, append-nil, add-zero, length, map, Option, None, Some, refl, sym, ap, ◌∙◌, subst, arith, slice_get, slice_set}
+use Rattle.std.proofs.Common.{ℕ, zero, suc, ◌+◌, ◌<◌, ◌≤◌, ◌≡◌, ◌≢◌, inl, inr, Bool, true, false, T, List, [], ◌∷◌, ◌++◌, append_assoc, append-nil, add-zero, length, map, Option, None, Some, refl, sym, ap, ◌∙◌, subst, arith, slice_get, slice_set, nat_eq, true≢false}
 use Rattle.std.proofs.lemmas.List.{map-append}
 use Rattle.std.proofs.lemmas.List.Sums.{sum_by-cons, sum_by-append}
 use Rattle.std.specs.Option.{option_map, unwrap_or}
@@ -9,15 +9,18 @@ use Rattle.std.specs.FinMap.Entries.{below_all}
 use Rattle.ut_value.specs.declared.value.Value.{Value}
 use Rattle.ut_value.specs.declared.entry.Op.{Op}
 use Rattle.ut_value.specs.declared.entry.Op.TheVariants as ops
+use Rattle.ut_plain.specs.declared.table.Stored.{Stored}
 use Rattle.ut_plain.specs.Rows.{inserts_of, op_inserts}
 use Rattle.ut_plain.specs.Stages.{Stages, no_stages, stages_at, with_stages, with_inserts, entered, placed}
-use Rattle.ut_plain.specs.Made.{inserts}
+use Rattle.ut_plain.specs.declared.stage.Placed.{Placed}
+use Rattle.ut_plain.specs.declared.stage.TableStages.{TableStages}
+use Rattle.ut_plain.specs.Made.{inserts, updates, deletes_all}
 use Rattle.ut_scan.specs.declared.place.Place.{Place}
 use Rattle.ut_scan.specs.declared.place.Place.TheVariants.{L1, L2}
 use Rattle.ut_exact.specs.Stamped.{Stamped}
 use Rattle.ut_exact.specs.Exact.{with_row, begun_by}
 use Rattle.ut_exact.specs.Work.{applied, with_ended, AreFree}
-use Rattle.ut_exact.specs.Places.{StagedRow, is_dead, dead_number, AreHeld}
+use Rattle.ut_exact.specs.Places.{StagedRow, is_dead, dead_number, stamped_in, ended_row, AreHeld}
 use Rattle.ut_exact.proofs.FateLemmas.{other_number}
 use Rattle.ut_exact.proofs.OrderLemmas.{T_first, T_second, less}
 use Rattle.ut_exact.proofs.WorkLemmas.{AreFree-insert, AreFree-delete}

@@ -1,38 +1,49 @@
 -- How the store goes on standing for the plain state: refusals, questions, and transactions that begin and end.
-use Rattle.std.proofs.Common.{ℕ, ◌<◌, ◌≡◌, ◌≢◌, List, [], ◌∷◌, ◌++◌, length, Option, None, Some, refl, sym, ap, ◌∙◌, subst, arith, IsTrue, slice_set, unwrap_or, length-append, length-set}
+use Rattle.std.proofs.Common.{ℕ, zero, suc, ◌+◌, ◌<◌, ◌≤◌, ◌≡◌, ◌≢◌, inl, inr, Bool, true, false, List, [], ◌∷◌, ◌++◌, length, map, Option, None, Some, refl, sym, ap, ◌∙◌, subst, arith, IsTrue, slice_get, slice_set, unwrap_or, length-append, length-set}
+use Rattle.std.proofs.lemmas.Bool.{cases_eq}
 use Rattle.std.specs.Option.{option_map}
+use Rattle.ut_value.specs.declared.value.Column.{Column}
 use Rattle.ut_value.specs.declared.entry.Op.{Op}
+use Rattle.ut_value.specs.declared.entry.Entry.{Entry}
 use Rattle.ut_value.specs.declared.entry.Entry.TheVariants as entries
 use Rattle.ut_value.specs.Spelling.{spelling}
+use Rattle.ut_plain.specs.declared.table.Table.{Table}
 use Rattle.ut_plain.specs.declared.transaction.OpenTransaction.{OpenTransaction}
+use Rattle.ut_plain.specs.declared.statement.Query.{Query}
 use Rattle.ut_plain.specs.declared.statement.Statement.{Statement}
-use Rattle.ut_plain.specs.declared.statement.Statement.TheVariants.{Begin, Commit, Abort}
+use Rattle.ut_plain.specs.declared.statement.Statement.TheVariants.{Create, Begin, Commit, Abort, Ask}
 use Rattle.ut_plain.specs.declared.reply.Reply.{Reply}
 use Rattle.ut_plain.specs.declared.reply.Reply.TheVariants as replies
 use Rattle.ut_plain.specs.declared.reply.Refusal.{Refusal}
 use Rattle.ut_plain.specs.declared.reply.Refusal.TheVariants as refusals
-use Rattle.ut_plain.specs.Journal.{journal_len}
-use Rattle.ut_plain.specs.Plain.{Plain, Sessions, open_at}
+use Rattle.ut_plain.specs.State.{State, after, entry_deletes}
+use Rattle.ut_plain.specs.Journal.{Journal, journal_len, current, appended}
+use Rattle.ut_plain.specs.Plain.{Plain, Sessions, open_at, with_entry}
 use Rattle.ut_plain.specs.Spelled.{is_spelled}
 use Rattle.ut_plain.specs.Reached.{IsPlain}
-use Rattle.ut_plain.specs.View.{view, own_ops}
+use Rattle.ut_plain.specs.View.{View, view, own_ops}
+use Rattle.ut_plain.specs.Query.{told}
 use Rattle.ut_plain.specs.Refusals.{refusal}
-use Rattle.ut_plain.specs.Step.{Steps, LacksMemory, Stepped, step, step_by, effect_of, may_lack_memory, committed, committed_by, begun, closed}
+use Rattle.ut_plain.specs.Stages.{Stages, no_stages}
+use Rattle.ut_plain.specs.Step.{MayAnswer, Steps, LacksMemory, Stepped, step, step_by, effect_of, may_lack_memory, committed, committed_by, begun, closed}
+use Rattle.ut_plain.proofs.JournalLaws.{current-appended, journal_len-appended}
 use Rattle.ut_plain.proofs.StepLaws.{IsPlain-step}
 use Rattle.ut_stamps.specs.declared.fates.Fate.{Fate}
-use Rattle.ut_stamps.specs.declared.fates.Fate.TheVariants.{Running, Aborted}
-use Rattle.ut_stamps.specs.Stamps.{fate_at}
-use Rattle.ut_exact.specs.Exact.{IsExact, AreOpen}
-use Rattle.ut_exact.specs.Places.{dead_number}
-use Rattle.ut_exact.proofs.FateLemmas.{fate-set_other, fate-push_old}
-use Rattle.ut_exact.proofs.ExactLemmas.{IsExact-start, IsExact-abort}
-use Rattle.ut_exact.proofs.SessionLemmas.{AreOpen-begun, AreOpen-closed, AreOpen-renumbered, at-set_same}
+use Rattle.ut_stamps.specs.declared.fates.Fate.TheVariants.{Running, Committed, Aborted}
+use Rattle.ut_stamps.specs.Stamps.{fate_at, is_running}
+use Rattle.ut_exact.specs.Stamped.{Stamped}
+use Rattle.ut_exact.specs.Exact.{IsExact, IsOwn, AreOpen}
+use Rattle.ut_exact.specs.Places.{AreHeld, dead_number}
+use Rattle.ut_exact.proofs.FateLemmas.{fate-set_other, fate-push_old, running_within, fate-past}
+use Rattle.ut_exact.proofs.ExactLemmas.{IsExact-start, IsExact-abort, IsExact-commit, IsExact-entry}
+use Rattle.ut_exact.proofs.SessionLemmas.{AreOpen-begun, AreOpen-closed, AreOpen-entry, AreOpen-renumbered, at-set_same, at-set_other}
+use Rattle.ut_table.specs.Staged.{Staged, no_rows}
 use Rattle.ut_txn.specs.declared.opened.Opened.{Opened}
 use Rattle.ut_txn.specs.Seats.{Seat, opened_at, payload_at, number_at, SeatSet}
 use Rattle.ut_store.specs.declared.turn.Turn.{Turn}
-use Rattle.ut_store.specs.declared.turn.Turn.TheVariants.{Answered}
-use Rattle.ut_store.specs.Held.{Held}
-use Rattle.ut_store.specs.Stands.{StandsFor, AreCounts, AreSeats, AreRows}
+use Rattle.ut_store.specs.declared.turn.Turn.TheVariants.{Answered, Append}
+use Rattle.ut_store.specs.Held.{Held, place_at}
+use Rattle.ut_store.specs.Stands.{StandsFor, AreCounts, AreSeats, AreRows, snapshot_of, opened_snapshot, stages_of}
 use Rattle.ut_store.specs.Answers.{Answer, Answers, Same, Logs, reply_of}
 use Rattle.ut_store.specs.Allowed.{IsRefused}
 use Rattle.ut_store.proofs.ReadLemmas.{SameSession, Closed, Open, same_session}

@@ -1,21 +1,24 @@
 -- How a new table, and a merge of the first stage, keep the store standing for the plain state.
-use Rattle.std.proofs.Common.{ℕ, zero, suc, ◌+◌, ◌≡◌, List, [], ◌∷◌, ◌++◌, length, map, take, drop, min, Option, None, Some, refl, sym, ap, ◌∙◌, arith, IsTrue, slice_get, slice_set}
+use Rattle.std.proofs.Common.{ℕ, zero, suc, ◌+◌, ◌<◌, ◌≤◌, ◌≡◌, ◌≢◌, inl, inr, Bool, true, false, List, [], ◌∷◌, ◌++◌, length, map, take, drop, min, Option, None, Some, refl, sym, ap, ◌∙◌, subst, arith, IsTrue, slice_get, slice_set, unwrap_or}
+use Rattle.std.proofs.lemmas.Bool.{cases_lt}
 use Rattle.std.proofs.lemmas.List.{map-append}
 use Rattle.std.specs.Option.{option_and_then}
 use Rattle.ut_value.specs.declared.value.Column.{Column}
 use Rattle.ut_value.specs.declared.entry.Entry.TheVariants as entries
 use Rattle.ut_value.specs.Spelling.{spelling}
 use Rattle.ut_plain.specs.declared.table.Table.{Table}
+use Rattle.ut_plain.specs.declared.transaction.OpenTransaction.{OpenTransaction}
 use Rattle.ut_plain.specs.declared.statement.Statement.TheVariants.{Create, MergeL1}
 use Rattle.ut_plain.specs.declared.reply.Reply.TheVariants as replies
 use Rattle.ut_plain.specs.State.{State}
-use Rattle.ut_plain.specs.Journal.{appended}
-use Rattle.ut_plain.specs.Plain.{Plain}
+use Rattle.ut_plain.specs.Journal.{Journal, journal_len, current, appended}
+use Rattle.ut_plain.specs.Plain.{Plain, with_entry}
 use Rattle.ut_plain.specs.Spelled.{is_spelled}
 use Rattle.ut_plain.specs.View.{view}
 use Rattle.ut_plain.specs.Tables.{place_in}
-use Rattle.ut_plain.specs.Stages.{no_stages, stages_at, moved, moved_count}
-use Rattle.ut_plain.specs.Step.{created, merged_l1}
+use Rattle.ut_plain.specs.Stages.{Stages, no_stages, stages_at, with_stages, moved, moved_count}
+use Rattle.ut_plain.specs.declared.stage.TableStages.{TableStages}
+use Rattle.ut_plain.specs.Step.{Stepped, effect_of, created, merged_l1}
 use Rattle.ut_plain.proofs.JournalLaws.{current-appended, journal_len-appended}
 use Rattle.ut_scan.specs.declared.place.Place.{Place}
 use Rattle.ut_scan.specs.declared.place.Place.TheVariants.{L1, L2}
@@ -29,7 +32,7 @@ use Rattle.ut_txn.specs.Seats.{Seat, number_at, SeatsStay}
 use Rattle.ut_store.specs.declared.turn.Turn.TheVariants.{Answered, Append}
 use Rattle.ut_store.specs.Held.{Held, place_at}
 use Rattle.ut_store.specs.Stands.{StandsFor, placed_of, stages_of}
-use Rattle.ut_store.specs.Answers.{Answers}
+use Rattle.ut_store.specs.Answers.{Answer, Answers}
 use Rattle.ut_store.specs.Allowed.{IsRefused}
 use Rattle.ut_store.proofs.ListLemmas.{InPushed, Last, Before, in_pushed, get-appended}
 use Rattle.ut_store.proofs.MovedLemmas.{moved_from, moved_l1}

@@ -1,5 +1,5 @@
 -- What a statement promises of the store in memory.
-use Rattle.std.specs.Prelude.{ℕ, ◌≡◌, List}
+use Rattle.std.specs.Prelude.{ℕ, ◌≡◌, ◌≢◌, ◌++◌, List, length, Option, None, Some}
 use Rattle.ut_value.specs.declared.entry.Entry.{Entry}
 use Rattle.ut_value.specs.Spelling.{spelling}
 use Rattle.ut_plain.specs.declared.statement.Statement.{Statement}

@@ -1,5 +1,5 @@
 -- What the store reads for a statement of a session.
-use Rattle.std.specs.Prelude.{ℕ, ◌≡◌, Bool, T, Option, is_some}
+use Rattle.std.specs.Prelude.{ℕ, ◌≡◌, Bool, T, List, Option, None, Some, is_some}
 use Rattle.std.specs.Option.{option_map, unwrap_or}
 use Rattle.std.specs.Ordering.{nat_cmp}
 use Rattle.std.specs.FinMap.{find, is_sorted}

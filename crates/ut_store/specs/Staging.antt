@@ -1,5 +1,6 @@
 -- What a change of rows makes of the stages.
-use Rattle.std.specs.Prelude.{ℕ, ◌+◌, ◌≡◌, Bool, false, List, [], ◌∷◌, map, Option, None, Some}
+use Rattle.std.specs.Prelude.{ℕ, ◌+◌, ◌≡◌, Bool, false, List, [], ◌∷◌, ◌++◌, map, Option, None, Some}
+use Rattle.std.specs.Option.{option_map}
 use Rattle.ut_value.specs.declared.value.Value.{Value}
 use Rattle.ut_value.specs.declared.entry.Op.{Op}
 use Rattle.ut_value.specs.declared.entry.Op.TheVariants as ops

@@ -1,6 +1,8 @@
 -- When the store in memory agrees with a plain state.
-use Rattle.std.specs.Prelude.{ℕ, ◌<◌, ◌≡◌, List, [], map, length, Option, None}
-use Rattle.std.specs.Option.{option_map}
+use Rattle.std.specs.Prelude.{ℕ, ◌+◌, ◌<◌, ◌≤◌, ◌≡◌, List, [], map, length, Option, None, Some, slice_get}
+use Rattle.std.specs.Option.{option_map, unwrap_or}
+use Rattle.ut_value.specs.declared.value.Column.{Column}
+use Rattle.ut_value.specs.declared.entry.Op.{Op}
 use Rattle.ut_value.specs.declared.entry.Entry.TheVariants.{Txn}
 use Rattle.ut_value.specs.Spelling.{spelling}
 use Rattle.ut_plain.specs.declared.table.Table.{Table}
@@ -11,8 +13,10 @@ use Rattle.ut_plain.specs.declared.stage.Placed.{Placed}
 use Rattle.ut_plain.specs.declared.stage.TableStages.{TableStages}
 use Rattle.ut_plain.specs.Reached.{IsPlain}
 use Rattle.ut_plain.specs.View.{own_ops}
+use Rattle.ut_stamps.specs.declared.fates.Fate.{Fate}
 use Rattle.ut_stamps.specs.declared.fates.Fate.TheVariants.{Aborted}
 use Rattle.ut_stamps.specs.Stamps.{fate_at}
+use Rattle.ut_scan.specs.declared.place.Place.{Place}
 use Rattle.ut_exact.specs.Stamped.{Stamped}
 use Rattle.ut_exact.specs.Exact.{IsExact, AreOpen}
 use Rattle.ut_exact.specs.Work.{AreFree}
