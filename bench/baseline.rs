@@ -294,25 +294,29 @@ impl Sparse {
     }
 
     fn places_in(&self, ranges: &[(u32, u32)], out: &mut Vec<u32>) {
-        let wanted = is_in(self.left_out, ranges);
-        let mut rank = 0;
-        for k in 0..self.marks.len / 64 + 1 {
-            let mut word = self.marks.word(k);
-            if !wanted && word == 0 {
-                continue;
-            }
-            for i in 64 * k..(64 * k + 64).min(self.marks.len) {
-                if word & 1 == 0 {
-                    if wanted {
-                        out.push(i);
-                    }
+        if is_in(self.left_out, ranges) {
+            let mut rank = 0;
+            for i in 0..self.marks.len {
+                if self.marks.get(i) == 0 {
+                    out.push(i);
                 } else {
                     if is_in(self.others.get(rank), ranges) {
                         out.push(i);
                     }
                     rank += 1;
                 }
-                word >>= 1;
+            }
+            return;
+        }
+        for k in 0..self.marks.len / 64 + 1 {
+            let mut rank = self.ranks[k as usize];
+            let mut rest = self.marks.word(k);
+            while rest != 0 {
+                if is_in(self.others.get(rank), ranges) {
+                    out.push(64 * k + rest.trailing_zeros());
+                }
+                rank += 1;
+                rest &= rest - 1;
             }
         }
     }
@@ -575,6 +579,10 @@ fn time_codes(subject: &str, pattern: Pattern, count: u32, reach: u32) {
     let start = Instant::now();
     vector.places_in(&[(reach / 4, reach / 2)], &mut places);
     say(subject, "places_in", start, places.len() as u64);
+    let mut places = Vec::new();
+    let start = Instant::now();
+    vector.places_in(&[(0, reach / 2)], &mut places);
+    say(subject, "places_in_low", start, places.len() as u64);
     let mut bytes = Vec::new();
     let start = Instant::now();
     vector.bytes_of(&mut bytes);
@@ -582,6 +590,9 @@ fn time_codes(subject: &str, pattern: Pattern, count: u32, reach: u32) {
     let start = Instant::now();
     let size = CodeVec::from_bytes(&bytes, vector.len(), reach).map_or(0, |found| found.1);
     say(subject, "from_bytes", start, size as u64);
+    let start = Instant::now();
+    let packed = BitList::from_codes(codes.iter().copied(), codes.len(), vector.width);
+    say(subject, "pack", start, u64::from(packed.len));
 }
 
 fn int_keys(count: u32) -> Vec<Vec<u8>> {

@@ -8,7 +8,8 @@ use anyhow::Result;
 use std::alloc::Global;
 use std::rt::Clock;
 use std::time::Instant;
-use ut_codes::CodeVec;
+use ut_codes::{CodeVec, width_of};
+use ut_packed::Packed;
 
 /// The sum of all codes, read in order.
 fn sum(vector: &CodeVec) -> u64 {
@@ -37,6 +38,23 @@ fn time_reading<R: Print + Eprint + Clock>(
     say(rt, subject, "from_bytes", start, size as u64)
 }
 
+/// Times the packed form alone, which the choice of a form is no part of.
+fn time_packing<R: Print + Eprint + Clock>(
+    rt: &R,
+    alloc: Global,
+    subject: &str,
+    codes: &[u32],
+    reach: u32,
+) -> Result<()>
+    requires below { AllBelow reach codes.now }
+    requires few { length codes.now ≤ 2 ^ 31 }
+{
+    let width = width_of(reach);
+    let start = Instant::now(rt)?;
+    let packed = Packed::from_codes(alloc, codes, width)?;
+    say(rt, subject, "pack", start, u64::from(packed.len()))
+}
+
 fn time_calls<R: Print + Eprint + Clock>(
     rt: &R,
     alloc: Global,
@@ -57,11 +75,16 @@ fn time_calls<R: Print + Eprint + Clock>(
     let start = Instant::now(rt)?;
     vector.places_in(&[(reach / 4, reach / 2)], &mut places)?;
     say(rt, subject, "places_in", start, places.len() as u64)?;
+    let mut low = Vec::new(alloc);
+    let start = Instant::now(rt)?;
+    vector.places_in(&[(0, reach / 2)], &mut low)?;
+    say(rt, subject, "places_in_low", start, low.len() as u64)?;
     let mut bytes = Vec::new(alloc);
     let start = Instant::now(rt)?;
     vector.bytes_of(&mut bytes)?;
     say(rt, subject, "bytes_of", start, bytes.len() as u64)?;
-    time_reading(rt, alloc, subject, bytes.as_slice(), vector.len(), reach)
+    time_reading(rt, alloc, subject, bytes.as_slice(), vector.len(), reach)?;
+    time_packing(rt, alloc, subject, codes, reach)
 }
 
 /// Times the calls at so many codes of a pattern.
