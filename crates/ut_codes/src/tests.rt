@@ -1,8 +1,20 @@
 use super::*;
-use crate::choice::are_below;
+use crate::choice::{are_below, count_runs};
 use std::alloc::Global;
 use std::process::Abort;
 use std::test::Fail;
+use ut_sparse::most_frequent;
+
+/// The sizes in bits of the packed form, of runs and of the sparse form.
+fn sizes(rt: &impl Abort, alloc: Global, codes: &[u32], reach: u32) -> Result<[u64; 3], Fail> {
+    assert!(rt; codes.len() <= 1000);
+    let rows = codes.len() as u64;
+    let width = u64::from(width_of(reach));
+    let frequent = u64::from(most_frequent(alloc, codes)?.count);
+    assert!(rt; frequent <= rows);
+    let runs = 64 * u64::from(count_runs(codes));
+    Ok([rows * width, runs, rows + (rows - frequent) * width])
+}
 
 /// A vector of the codes, which is written and read back.
 fn written(
@@ -33,32 +45,45 @@ fn written(
 
 #[test]
 fn vectors_have_their_bytes(rt: HostRuntime) -> Result<(), Fail> {
-    let bytes = written(&rt, rt.alloc(), &[0, 1, 2], 3, Form::Packed)?;
-    assert_eq!(rt; bytes.as_slice(), [0, 0x24].as_slice());
-    let bytes = written(&rt, rt.alloc(), &[3, 1, 4], 5, Form::Packed)?;
-    assert_eq!(rt; bytes.as_slice(), [0, 0x0b, 0x01].as_slice());
-    let mut codes = Vec::new(rt.alloc());
-    codes.resize(1000, 0)?;
-    let bytes = written(&rt, rt.alloc(), codes.as_slice(), 1, Form::Packed)?;
-    assert_eq!(rt; bytes.as_slice(), [0].as_slice());
-    codes.truncate(600);
-    codes.resize(1000, 1)?;
-    let bytes = written(&rt, rt.alloc(), codes.as_slice(), 2, Form::Runs)?;
+    let alloc = rt.alloc();
+    let mut zeros = Vec::new(alloc);
+    zeros.resize(1000, 0)?;
+    let mut halves = Vec::new(alloc);
+    halves.resize(600, 0)?;
+    halves.resize(1000, 1)?;
     let runs = [
         1, 2, 0, 0, 0, 0, 0, 0, 0, 0x58, 2, 0, 0, 1, 0, 0, 0, 0x90, 1, 0, 0,
     ];
-    assert_eq!(rt; bytes.as_slice(), runs.as_slice());
+    let table = [
+        (
+            [0, 1, 2].as_slice(),
+            3,
+            [6, 192, 7],
+            Form::Packed,
+            [0, 0x24].as_slice(),
+        ),
+        (&[3, 1, 4], 5, [9, 192, 9], Form::Packed, &[0, 0x0b, 0x01]),
+        (zeros.as_slice(), 1, [0, 64, 1000], Form::Packed, &[0]),
+        (halves.as_slice(), 2, [1000, 128, 1400], Form::Runs, &runs),
+    ];
+    for (codes, reach, want, form, bytes) in table {
+        assert_eq!(rt; sizes(&rt, alloc, codes, reach)?, want);
+        assert_eq!(rt; written(&rt, alloc, codes, reach, form)?.as_slice(), bytes);
+    }
     Ok(())
 }
 
 #[test]
 fn few_exceptions_are_sparse(rt: HostRuntime) -> Result<(), Fail> {
-    let mut codes = Vec::new(rt.alloc());
+    let alloc = rt.alloc();
+    let mut codes = Vec::new(alloc);
     for i in 0..100u32 {
         codes.push(if i % 10 == 5 { i / 10 + 1 } else { 0 })?;
     }
-    let bytes = written(&rt, rt.alloc(), codes.as_slice(), 11, Form::Sparse)?;
-    assert_eq!(rt; bytes.len(), 1 + 4 + 13 + 5);
+    let codes = codes.as_slice();
     assert_eq!(rt; width_of(11), 4);
+    assert_eq!(rt; sizes(&rt, alloc, codes, 11)?, [400, 1344, 140]);
+    let bytes = written(&rt, alloc, codes, 11, Form::Sparse)?;
+    assert_eq!(rt; bytes.len(), 1 + 4 + 13 + 5);
     Ok(())
 }

@@ -1,2 +1,3 @@
 pub mod FrequentLemmas
 pub mod SparseLemmas
+pub mod ScanLemmas

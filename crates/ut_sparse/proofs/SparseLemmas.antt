@@ -1,10 +1,10 @@
 -- Laws on the sparse form.
 use Rattle.std.proofs.Common.{◌≡◌, ℕ, zero, suc, ◌+◌, ◌-◌, ◌*◌, ◌/◌, ◌%◌, ◌^◌, ◌<◌, ◌≤◌, eqb, Bool, true, false, cond, inl, inr, if◌then◌else◌, List, [], ◌∷◌, ◌++◌, length, take, drop, get_or, refl, sym, ◌∙◌, ap, subst, arith, add-one, length-append, append_assoc}
-use Rattle.std.proofs.Math.Seq.{take-suc, take-append_seam, get_or-append_seam}
-use Rattle.std.proofs.lemmas.List.{take_all, length-take-le, length-drop, get_or_append_left}
+use Rattle.std.proofs.Math.Seq.{take-suc, get_or-append_seam}
+use Rattle.std.proofs.lemmas.List.{length-take-le, get_or_append_left}
 use Rattle.std.proofs.lemmas.List.Sums.{sum_by-append}
-use Rattle.std.proofs.lemmas.Bool.{cases_lt, eqb-false, ne_eqb}
-use Rattle.std.proofs.lemmas.Nat.{and_mask, one_shl, pow_pos, mod_below}
+use Rattle.std.proofs.lemmas.Bool.{cases_lt, ne_eqb}
+use Rattle.std.proofs.lemmas.Nat.{and_mask, one_shl, pow_pos}
 use Rattle.std.proofs.Math.Nat.{pow-suc, pow-le-pow_right, mul_comm, div-div-eq-div-mul, zero-div, zero-mod, mod-one}
 use Rattle.std.proofs.Math.Pow.{mod-mod-pow}
 use Rattle.std.specs.Int.RustNames.{count_ones}
@@ -13,7 +13,7 @@ use lib.Count.{ones_step}
 use Rattle.std.proofs.lemmas.Bool.Decides.{eqb_tells}
 use Rattle.ut_bits.specs.Bits.{AllBelow, joined, packed_bytes, byte_count}
 use Rattle.ut_bits.specs.Words.{word_bytes, word_in}
-use Rattle.ut_bits.proofs.BitLemmas.{AllBelow-append, AllBelow-drop, AllBelow-at, low_field, high_fields, mod_in_front, length-bytes_of, take-rest}
+use Rattle.ut_bits.proofs.BitLemmas.{AllBelow-append, AllBelow-drop, low_field, high_fields, mod_in_front, length-bytes_of, take-rest}
 use Rattle.ut_bits.proofs.ListLemmas.{packed_bytes-unique}
 use Rattle.ut_bits.proofs.WordLemmas.{length-word_bytes, word_in-word_bytes, drop-word_bytes}
 use Rattle.ut_sparse.specs.Frequent.{count_of, most_frequent, IsMostFrequent}
@@ -126,7 +126,7 @@ pub rank-within : (ms : List ℕ) (i : ℕ) → i < length ms → (get_or ms i 0
 rank-within ms i h e = omega (arith, marked-next ms i h, marked-take-le ms (i + 1), e)
 
 -- the number that bits are, from a place on, and of the first of them
-joined-drop : (m : ℕ) (ms : List ℕ) → AllBelow 2 ms → joined 1 ms / 2 ^ m ≡ joined 1 (drop m ms)
+pub joined-drop : (m : ℕ) (ms : List ℕ) → AllBelow 2 ms → joined 1 ms / 2 ^ m ≡ joined 1 (drop m ms)
 joined-drop zero ms b = omega arith
 joined-drop (suc m) [] b = zero-div (2 ^ suc m)
 joined-drop (suc m) (x ∷ ms) b =
@@ -134,7 +134,7 @@ joined-drop (suc m) (x ∷ ms) b =
     ap (λ (k : ℕ). (x + 2 * joined 1 ms) / k) e ∙ sym (div-div-eq-div-mul (x + 2 * joined 1 ms) 2 (2 ^ m))
     ∙ ap (λ (k : ℕ). k / 2 ^ m) (high_fields x 2 (joined 1 ms) b.0) ∙ joined-drop m ms b.1
 
-joined-take : (n : ℕ) (ms : List ℕ) → AllBelow 2 ms → joined 1 ms % 2 ^ n ≡ joined 1 (take n ms)
+pub joined-take : (n : ℕ) (ms : List ℕ) → AllBelow 2 ms → joined 1 ms % 2 ^ n ≡ joined 1 (take n ms)
 joined-take zero ms b = mod-one (joined 1 ms)
 joined-take (suc n) [] b = zero-mod (2 ^ suc n)
 joined-take (suc n) (x ∷ ms) b =

@@ -1,5 +1,5 @@
 -- How often a code stands in a list of codes, and which one stands most often.
-use Rattle.std.specs.Prelude.{◌≡◌, ℕ, ◌<◌, ◌≤◌, ◌==◌, nat_lt, min, if◌then◌else◌, List, [], ◌∷◌}
+use Rattle.std.specs.Prelude.{◌≡◌, ℕ, ◌≤◌, ◌==◌, nat_lt, min, if◌then◌else◌, List, [], ◌∷◌}
 use Rattle.std.specs.List.{count_by}
 
 -- how often a code stands in a list

@@ -1,6 +1,7 @@
 -- The sparse form: one code is left out, and the others stand where they are marked.
-use Rattle.std.specs.Prelude.{◌≡◌, ℕ, ◌+◌, ◌*◌, ◌/◌, ◌<◌, length, take, ◌==◌, if◌then◌else◌, List, [], ◌∷◌, ◌++◌, slice_index, drop}
+use Rattle.std.specs.Prelude.{◌≡◌, ℕ, ◌+◌, ◌*◌, ◌/◌, ◌^◌, ◌<◌, ◌≤◌, length, take, ◌==◌, if◌then◌else◌, List, [], ◌∷◌, ◌++◌, slice_index, drop}
 use Rattle.ut_bits.specs.Bits.{AllBelow, packed_bytes}
+use Rattle.ut_bits.specs.Coded.{Coded}
 use Rattle.ut_bits.specs.Words.{word_bytes}
 use Rattle.ut_sparse.specs.Frequent.{count_of, most_frequent}
 
@@ -37,3 +38,10 @@ pub record AreSparse (left : ℕ) (marks others : List ℕ) : Type 0 where
   pub bits : AllBelow 2 marks
   pub paired : marked marks ≡ length others
   pub differ : count_of left others ≡ 0
+
+-- marks of one bit each, and as many other codes as are marked
+pub record IsPaired (marks others : Coded) : Type 0 where
+  pub few : length marks.codes ≤ 2 ^ 31
+  pub width : marks.width ≡ 1
+  pub bits : AllBelow 2 marks.codes
+  pub paired : marked marks.codes ≡ length others.codes

@@ -3,6 +3,7 @@
 
 mod frequent;
 mod marks;
+mod scan;
 mod sparse;
 
 pub use frequent::{Frequency, most_frequent};

@@ -6,6 +6,7 @@ ghost use Rattle.ut_sparse.specs.Sparse.{sparse_bytes, marked, merged};
 
 use crate::frequent::{Frequency, most_frequent};
 use crate::marks::{code_here, marked_rows, merged_codes, rank_at, ranks_of};
+use crate::scan::{append_all_in, append_others_in};
 use std::alloc::{AllocError, Global};
 use std::marker::Model;
 use ut_bits::{BitList, BitListWriter, append_word, is_in, read_word};
@@ -123,7 +124,17 @@ impl Sparse {
         ensures ok { OnOk result (out.new.items ≡ out.old.items ++ places_where (is_in ranges.now) self.now.codes) }
         ensures err { OnErr result (out.new.items ≡ out.old.items) }
     {
-        append_places_in(self.left_out, &self.marks, &self.others, ranges, out)
+        if is_in(self.left_out, ranges) {
+            return append_all_in(self.left_out, &self.marks, &self.others, ranges, out);
+        }
+        append_others_in(
+            self.left_out,
+            &self.marks,
+            &self.others,
+            self.ranks.as_slice(),
+            ranges,
+            out,
+        )
     }
 
     /// Appends the code that is left out, the marks and the other codes.
@@ -198,34 +209,4 @@ impl Sparse {
         };
         Ok(Some((sparse, 4 + marks_len + others_len)))
     }
-}
-
-/// Appends the places whose code stands in one of the ranges.
-fn append_places_in(
-    left_out: u32,
-    marks: &BitList,
-    others: &BitList,
-    ranges: &[(u32, u32)],
-    out: &mut Vec<u32>,
-) -> Result<(), AllocError>
-    requires bits { AllBelow 2 marks.now.codes }
-    requires paired { marked marks.now.codes ≡ length others.now.codes }
-    ensures ok { OnOk result (out.new.items ≡ out.old.items ++ places_where (is_in ranges.now) (merged left_out marks.now.codes others.now.codes)) }
-    ensures err { OnErr result (out.new.items ≡ out.old.items) }
-{
-    let before = out.len();
-    let mut rank = 0;
-    for i in 0..marks.len() {
-        if is_in(code_here(left_out, marks, others, i, rank), ranges) {
-            match out.push(i) {
-                Ok(()) => {}
-                Err(failed) => {
-                    out.truncate(before);
-                    return Err(AllocError::from(failed));
-                }
-            }
-        }
-        rank += marks.get(i);
-    }
-    Ok(())
 }

@@ -1,9 +1,5 @@
-use Rattle.std.proofs.Common.{◌≡◌, ℕ, ◌+◌, ◌<◌, ◌≤◌, length, take, get_or, ap, sym, subst, ◌∙◌, arith, inl, inr}
-use Rattle.std.proofs.lemmas.Bool.Decides.{eqb_tells}
-use Rattle.std.proofs.lemmas.List.{get_or-set_same, get_or-set_other}
+use Rattle.std.proofs.Common.{arith}
 use Rattle.ut_bits.proofs.BitLemmas.{AllBelow-at}
-use Rattle.ut_sparse.specs.Frequent.{count_of}
-use Rattle.ut_sparse.proofs.FrequentLemmas.{count_of-le, count_of-same, count_of-other}
 use Rattle.ut_sparse.proofs.frequent.add_counts.Goals as goal
 
 pub bounds-counts-code : goal.bounds-counts-code

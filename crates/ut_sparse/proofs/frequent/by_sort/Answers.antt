@@ -1,8 +1,6 @@
-use Rattle.std.proofs.Common.{◌≡◌, ℕ, ◌==◌, cond, ap, sym, subst, ◌∙◌}
-use Rattle.std.specs.List.Sorted.{IsSorted, IsPermutation}
-use Rattle.std.specs.Ordering.{nat_cmp}
+use Rattle.std.proofs.Common.{ℕ, ◌==◌, cond, ap, ◌∙◌}
 use Rattle.std.proofs.lemmas.List.Sorted.{sum_by-IsPermutation}
-use Rattle.ut_sparse.specs.Frequent.{count_of, IsMostFrequent}
+use Rattle.ut_sparse.specs.Frequent.{count_of}
 use Rattle.ut_sparse.proofs.FrequentLemmas.{is-most_frequent, most-permuted}
 use Rattle.ut_sparse.proofs.frequent.by_sort.Goals as goal
 

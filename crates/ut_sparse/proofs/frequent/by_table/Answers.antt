@@ -1,7 +1,5 @@
-use Rattle.std.proofs.Common.{◌≡◌, ℕ, ◌+◌, ◌<◌, ◌≤◌, length, get_or, ap, sym, subst, ◌∙◌, arith, inl, inr}
-use Rattle.std.proofs.lemmas.Bool.{cases_lt}
-use Rattle.ut_sparse.specs.Frequent.{count_of, IsMostFrequent}
-use Rattle.ut_sparse.proofs.FrequentLemmas.{count_of-none, is-most_frequent, table-most}
+use Rattle.std.proofs.Common.{length, get_or, ap, ◌∙◌}
+use Rattle.ut_sparse.proofs.FrequentLemmas.{is-most_frequent, table-most}
 use Rattle.ut_sparse.proofs.frequent.by_table.Goals as goal
 
 pub returns-clause-most : goal.returns-clause-most

@@ -1,5 +1,4 @@
-use Rattle.std.proofs.Common.{◌≡◌, ℕ, ◌+◌, ◌<◌, ◌≤◌, length, take, get_or, ap, sym, subst, ◌∙◌, arith, List}
-use Rattle.ut_bits.specs.Bits.{AllBelow}
+use Rattle.std.proofs.Common.{arith}
 use Rattle.ut_sparse.proofs.SparseLemmas.{AllBelow-next}
 use Rattle.ut_sparse.proofs.frequent.greatest_of.Goals as goal
 use Rattle.ut_sparse.proofs.frequent.greatest_of.Goals.{then-code-greatest, else-code-greatest}

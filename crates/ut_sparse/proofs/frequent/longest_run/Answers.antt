@@ -1,8 +1,8 @@
-use Rattle.std.proofs.Common.{◌≡◌, ℕ, ◌+◌, ◌<◌, ◌≤◌, length, take, get_or, ap, sym, subst, ◌∙◌, arith, refl, List}
+use Rattle.std.proofs.Common.{◌≡◌, take, ap, ◌∙◌, arith, refl}
 use Rattle.std.proofs.lemmas.List.{take_all}
 use Rattle.std.proofs.lemmas.Map.Keys.{ge_from_not_lt}
 use Rattle.ut_sparse.specs.Frequent.{count_of}
-use Rattle.ut_sparse.proofs.FrequentLemmas.{IsLongest, longest-next, count_of-le}
+use Rattle.ut_sparse.proofs.FrequentLemmas.{longest-next, count_of-le}
 use Rattle.ut_sparse.proofs.frequent.longest_run.Goals as goal
 
 pub loop-code-init : goal.loop-code-init

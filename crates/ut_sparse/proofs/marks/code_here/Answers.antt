@@ -1,4 +1,4 @@
-use Rattle.std.proofs.Common.{◌≡◌, ℕ, ◌<◌, length, take, get_or, ap, sym, ◌∙◌, arith}
+use Rattle.std.proofs.Common.{ℕ, get_or, ap, sym, ◌∙◌, arith}
 use Rattle.ut_sparse.proofs.SparseLemmas.{get_or-merged_left, get_or-merged_other, rank-within}
 use Rattle.ut_sparse.proofs.marks.code_here.Goals as goal
 

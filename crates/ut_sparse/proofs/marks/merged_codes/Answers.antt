@@ -1,6 +1,6 @@
-use Rattle.std.proofs.Common.{◌≡◌, ℕ, ◌+◌, ◌<◌, ◌≤◌, ◌++◌, length, take, get_or, ap, sym, subst, ◌∙◌, arith, List, [], ◌∷◌}
+use Rattle.std.proofs.Common.{ℕ, ◌+◌, ◌<◌, ◌++◌, length, take, ap, sym, ◌∙◌, arith, [], ◌∷◌}
 use Rattle.std.proofs.lemmas.List.{take_all}
-use Rattle.ut_sparse.specs.Sparse.{marked, merged}
+use Rattle.ut_sparse.specs.Sparse.{merged}
 use Rattle.ut_sparse.proofs.SparseLemmas.{marked-next, marked-take-le, marked-le, length-merged, take-next}
 use Rattle.ut_sparse.proofs.marks.merged_codes.Goals as goal
 

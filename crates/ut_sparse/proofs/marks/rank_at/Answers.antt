@@ -1,7 +1,5 @@
-use Rattle.std.proofs.Common.{◌≡◌, ℕ, ◌+◌, ◌-◌, ◌*◌, ◌/◌, ◌%◌, ◌^◌, ◌<◌, ◌≤◌, length, take, get_or, subst, sym, ap, ◌∙◌, arith, bit_and}
-use Rattle.std.specs.Int.RustNames.{count_ones}
-use Rattle.ut_sparse.specs.Sparse.{marked}
-use Rattle.ut_sparse.proofs.SparseLemmas.{count-masked, marked-parts, marked-take-le, marked-le}
+use Rattle.std.proofs.Common.{ℕ, ◌*◌, ◌/◌, ◌%◌, ◌≤◌, length, take, subst, sym, arith}
+use Rattle.ut_sparse.proofs.SparseLemmas.{count-masked, marked-parts, marked-le}
 use Rattle.std.proofs.lemmas.List.{length-take-le}
 use Rattle.ut_bits.proofs.BitLemmas.{AllBelow-take}
 use Rattle.ut_sparse.proofs.marks.rank_at.Goals as goal

@@ -1,8 +1,4 @@
-use Rattle.std.proofs.Common.{◌≡◌, ℕ, ◌+◌, ◌*◌, ◌<◌, ◌≤◌, ◌++◌, length, take, drop, get_or, ap, sym, subst, ◌∙◌, arith, inl, inr, length-append, List, [], ◌∷◌}
-use Rattle.std.proofs.lemmas.List.{take_all, length-drop, get_or_append_left}
-use Rattle.std.proofs.Math.Seq.{get_or-append_seam}
-use Rattle.std.proofs.lemmas.Bool.{cases_lt}
-use Rattle.ut_sparse.specs.Sparse.{marked}
+use Rattle.std.proofs.Common.{◌+◌, ◌*◌, arith}
 use Rattle.ut_sparse.proofs.SparseLemmas.{count-word_all, marked-parts, marked-le, marked-take-le, ranks-push}
 use Rattle.ut_sparse.proofs.marks.ranks_of.Goals as goal
 

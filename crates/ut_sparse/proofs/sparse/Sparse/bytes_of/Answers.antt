@@ -1,9 +1,7 @@
-use Rattle.std.proofs.Common.{◌≡◌, ℕ, ◌++◌, List, ap, sym, ◌∙◌, append_assoc}
+use Rattle.std.proofs.Common.{ℕ, ◌++◌, List, ap, ◌∙◌, append_assoc}
 use Rattle.ut_bits.specs.Bits.{packed_bytes}
 use Rattle.ut_bits.specs.Words.{word_bytes}
-use Rattle.ut_sparse.specs.Frequent.{most_frequent}
-use Rattle.ut_sparse.specs.Sparse.{merged, marks_of, others_of, sparse_bytes}
-use Rattle.ut_sparse.proofs.FrequentLemmas.{is-most_frequent}
+use Rattle.ut_sparse.specs.Sparse.{sparse_bytes}
 use Rattle.ut_sparse.proofs.SparseLemmas.{sparse_bytes-merged}
 use Rattle.ut_sparse.proofs.sparse.Sparse.bytes_of.Goals as goal
 

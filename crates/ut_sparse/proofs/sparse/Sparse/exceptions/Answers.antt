@@ -1,4 +1,4 @@
-use Rattle.std.proofs.Common.{◌≡◌, ℕ, ◌+◌, ap, sym, ◌∙◌, length, arith}
+use Rattle.std.proofs.Common.{◌≡◌, ℕ, ap, sym, arith}
 use Rattle.ut_sparse.specs.Frequent.{count_of, most_frequent}
 use Rattle.ut_sparse.specs.Sparse.{merged}
 use Rattle.ut_sparse.proofs.FrequentLemmas.{is-most_frequent}

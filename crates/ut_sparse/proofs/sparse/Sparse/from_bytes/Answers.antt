@@ -1,12 +1,12 @@
-use Rattle.std.proofs.Common.{◌≡◌, ℕ, ◌+◌, ◌-◌, ◌*◌, ◌/◌, ◌^◌, ◌<◌, ◌≤◌, ◌++◌, List, length, take, drop, ap, sym, subst, ◌∙◌, arith}
+use Rattle.std.proofs.Common.{◌≡◌, ℕ, ◌-◌, ◌^◌, ◌<◌, ◌≤◌, ◌++◌, List, length, take, drop, ap, sym, subst, ◌∙◌, arith}
 use Rattle.std.proofs.Math.Nat.{div-eq_of_lt}
 use Rattle.std.proofs.lemmas.Nat.{pow_pos}
 use Rattle.ut_bits.specs.Bits.{AllBelow, packed_bytes}
-use Rattle.ut_bits.specs.Words.{word_in, word_bytes}
+use Rattle.ut_bits.specs.Words.{word_bytes}
 use Rattle.ut_bits.proofs.BitLemmas.{AllBelow-from_places, take-rest, div-zero}
 use Rattle.ut_bits.proofs.WordLemmas.{word_bytes-word_in}
 use Rattle.ut_sparse.specs.Frequent.{count_of, most_frequent, IsMostFrequent}
-use Rattle.ut_sparse.specs.Sparse.{marks_of, others_of, merged, marked, AreSparse, sparse_bytes}
+use Rattle.ut_sparse.specs.Sparse.{marks_of, others_of, merged, marked, AreSparse}
 use Rattle.ut_sparse.proofs.SparseLemmas.{sparse-front, marks-read, codes-read, parts-read, differ-read, length-marks_of, AllBelow-marks_of, AllBelow-others_of, marked-marks_of, marked-le, length-merged, count_of-merged, sparse_bytes-merged, AllBelow-merged}
 use Rattle.ut_sparse.proofs.sparse.Sparse.from_bytes.Goals as goal
 

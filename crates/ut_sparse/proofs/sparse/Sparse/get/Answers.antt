@@ -1,4 +1,4 @@
-use Rattle.std.proofs.Common.{◌≡◌, ℕ, ◌<◌, length, get_or, ap, sym, subst, ◌∙◌, arith}
+use Rattle.std.proofs.Common.{◌<◌, length, sym, subst, arith}
 use Rattle.ut_sparse.specs.Sparse.{merged, AreRanks}
 use Rattle.ut_sparse.proofs.SparseLemmas.{length-merged}
 use Rattle.ut_sparse.proofs.sparse.Sparse.get.Goals as goal

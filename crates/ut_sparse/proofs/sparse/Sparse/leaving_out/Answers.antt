@@ -1,10 +1,10 @@
-use Rattle.std.proofs.Common.{◌≡◌, ℕ, ◌+◌, ◌^◌, ◌<◌, ◌≤◌, ◌++◌, eqb, not, Bool, true, false, if◌then◌else◌, List, [], ◌∷◌, length, take, get_or, ap, sym, subst, ◌∙◌, arith, refl, eq-eqb}
+use Rattle.std.proofs.Common.{◌≡◌, ℕ, ◌^◌, ◌<◌, ◌++◌, eqb, not, Bool, true, false, if◌then◌else◌, [], ◌∷◌, length, take, get_or, ap, sym, subst, ◌∙◌, arith, refl, eq-eqb}
 use Rattle.std.specs.Int.{from_bool}
 use Rattle.std.proofs.lemmas.List.{take_all, length-take-le}
 use Rattle.std.proofs.lemmas.Bool.{ne_eqb}
 use Rattle.ut_bits.specs.Bits.{AllBelow}
 use Rattle.ut_bits.proofs.BitLemmas.{AllBelow-at}
-use Rattle.ut_sparse.specs.Frequent.{count_of, IsMostFrequent}
+use Rattle.ut_sparse.specs.Frequent.{IsMostFrequent}
 use Rattle.ut_sparse.specs.Sparse.{marks_of, others_of, merged, AreSparse}
 use Rattle.ut_sparse.proofs.SparseLemmas.{take-next, marks_of-append, others_of-same, others_of-other, length-marks_of, length-others_of, AllBelow-marks_of, AreSparse-of, merged-of}
 use Rattle.ut_sparse.proofs.sparse.Sparse.leaving_out.Goals as goal

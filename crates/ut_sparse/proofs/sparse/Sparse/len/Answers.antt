@@ -1,4 +1,4 @@
-use Rattle.std.proofs.Common.{◌≡◌, ℕ, ap, sym, ◌∙◌, length}
+use Rattle.std.proofs.Common.{ap, sym, ◌∙◌, length}
 use Rattle.ut_sparse.proofs.SparseLemmas.{length-merged}
 use Rattle.ut_sparse.proofs.sparse.Sparse.len.Goals as goal
 

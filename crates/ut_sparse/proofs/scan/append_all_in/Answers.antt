@@ -1,11 +1,11 @@
-use Rattle.std.proofs.Common.{◌≡◌, ℕ, ◌+◌, ◌<◌, ◌≤◌, ◌++◌, length, take, get_or, ap, sym, subst, ◌∙◌, arith, List, [], ◌∷◌, append_assoc, append-nil, true, false}
+use Rattle.std.proofs.Common.{◌≡◌, ℕ, ◌+◌, ◌<◌, ◌++◌, length, take, get_or, ap, sym, ◌∙◌, arith, List, [], ◌∷◌, append_assoc, append-nil}
 use Rattle.std.proofs.lemmas.List.{take_all}
 use Rattle.ut_bits.specs.Places.{places_from, is_in}
 use Rattle.ut_bits.proofs.PlacesLemmas.{places_from-take, places_from-one, places_from-none}
-use Rattle.ut_sparse.specs.Sparse.{marked, merged}
+use Rattle.ut_sparse.specs.Sparse.{merged}
 use Rattle.ut_sparse.proofs.SparseLemmas.{marked-next, marked-take-le, marked-le, length-merged}
-use Rattle.ut_sparse.proofs.sparse.append_places_in.Goals as goal
-use Rattle.ut_sparse.proofs.sparse.append_places_in.Goals.{then-is_in+in-Ok, else-is_in}
+use Rattle.ut_sparse.proofs.scan.append_all_in.Goals as goal
+use Rattle.ut_sparse.proofs.scan.append_all_in.Goals.{then-is_in+in-Ok, else-is_in}
 
 pub overflow_add-rank : goal.overflow_add-rank
 overflow_add-rank c =

@@ -1,7 +1,7 @@
 use Rattle.std.proofs.Common.{◌≡◌, ◌++◌, take}
 use Rattle.ut_bits.specs.Places.{places_where, is_in}
 use Rattle.ut_sparse.specs.Sparse.{marked, merged}
-use Rattle.ut_sparse.proofs.sparse.append_places_in.Given as goal
+use Rattle.ut_sparse.proofs.scan.append_all_in.Given as goal
 
 abbrev pub invariant-loop-i : goal.invariant-loop-i
 invariant-loop-i l = record {

@@ -1,0 +1,187 @@
+-- Laws on a scan of the sparse form that goes from mark to mark.
+use Rattle.std.proofs.Common.{◌≡◌, ℕ, zero, suc, ◌+◌, ◌-◌, ◌*◌, ◌/◌, ◌%◌, ◌^◌, ◌<◌, ◌≤◌, min, Bool, false, inl, inr, List, [], ◌∷◌, ◌++◌, length, take, drop, get_or, refl, sym, ◌∙◌, ap, arith, append-nil}
+use Rattle.std.specs.Int.{bit_at, trailing_zeros, w64}
+use Rattle.std.proofs.lemmas.Nat.Bits.{bit_at-trailing_zeros, bit_at-zero}
+use Rattle.std.proofs.Math.Nat.{pow-le-pow_right}
+use Rattle.std.proofs.Math.Seq.{take-add}
+use Rattle.std.proofs.lemmas.Bool.{cases_lt}
+use Rattle.std.proofs.lemmas.List.{get_or-drop, get_or-take, get_or_past, length-take, length-drop, take_more, drop-drop, take_all}
+use Rattle.ut_bits.specs.Bits.{AllBelow, joined}
+use Rattle.ut_bits.specs.Places.{places_from}
+use Rattle.ut_bits.proofs.BitLemmas.{AllBelow-drop, AllBelow-take, low_field, joined-below}
+use Rattle.ut_bits.proofs.PlacesLemmas.{places_from-append, places_from-none, places_from-both}
+use Rattle.ut_sparse.specs.Sparse.{marked, merged}
+use Rattle.ut_sparse.proofs.SparseLemmas.{joined-drop, joined-take, marked-next, length-merged, get_or-merged_left, get_or-merged_other, rank-within}
+
+-- the marks of 64 rows from a place on
+unfoldable pub word_from : ℕ → List ℕ → List ℕ
+word_from place ms = take 64 (drop place ms)
+
+low_bit : (ms : List ℕ) → AllBelow 2 ms → joined 1 ms % 2 ≡ get_or ms 0 0
+low_bit [] b = refl
+low_bit (m ∷ ms) b = low_field m 2 (joined 1 ms) b.0
+
+-- the bits of the number that bits are
+pub bit_at-joined : (ms : List ℕ) (i : ℕ) → AllBelow 2 ms → bit_at (joined 1 ms) i ≡ get_or ms i 0
+bit_at-joined ms i b =
+    let same : i + 0 ≡ i = omega arith in
+    ap (λ (k : ℕ). k % 2) (joined-drop i ms b) ∙ low_bit (drop i ms) (AllBelow-drop 2 i ms b) ∙ get_or-drop i ms 0 0 ∙ ap (λ (k : ℕ). get_or ms k 0) same
+
+-- no bit is set where the number is 0
+pub bits-none : (ms : List ℕ) → AllBelow 2 ms → joined 1 ms ≡ 0 → (i : ℕ) → get_or ms i 0 ≡ 0
+bits-none ms b e i = sym (bit_at-joined ms i b) ∙ ap (λ (n : ℕ). bit_at n i) e ∙ bit_at-zero i
+
+-- the first bit that is set stands behind so many zeros
+pub record IsFirstBit (ms : List ℕ) (zeros : ℕ) : Type 0 where
+  pub within : zeros < length ms
+  pub before : (i : ℕ) → i < zeros → get_or ms i 0 ≡ 0
+  pub here : get_or ms zeros 0 ≡ 1
+
+pub first-bit : (ms : List ℕ) (rest : ℕ) → AllBelow 2 ms → length ms ≤ 64 → rest ≡ joined 1 ms → 0 < rest → IsFirstBit ms (trailing_zeros w64 rest)
+first-bit ms rest b short e some =
+    let two : 0 < 2 = omega arith in
+    let size : length ms * 1 ≤ 64 = omega (arith, short) in
+    let below : rest < 2 ^ 64 = omega (arith, e, joined-below 1 ms b, pow-le-pow_right two size) in
+    let found = bit_at-trailing_zeros w64 rest some below in
+    let set : get_or ms (trailing_zeros w64 rest) 0 ≡ 1 = sym (bit_at-joined ms _ b) ∙ ap (λ (n : ℕ). bit_at n (trailing_zeros w64 rest)) (sym e) ∙ found.1 in
+    record {
+      within = elim (cases_lt (trailing_zeros w64 rest) (length ms)) [ inl less ↦ less | inr more ↦ absurd (omega (arith, set, get_or_past ms (trailing_zeros w64 rest) 0 more)) ];
+      before = λ i h. sym (bit_at-joined ms i b) ∙ ap (λ (n : ℕ). bit_at n i) (sym e) ∙ found.2 i h;
+      here = set;
+    }
+
+-- what is left of the bits behind that one
+pub bits-behind : (ms : List ℕ) (passed rest zeros : ℕ) → AllBelow 2 ms → rest ≡ joined 1 (drop passed ms) → rest / 2 ^ zeros / 2 ≡ joined 1 (drop (passed + (zeros + 1)) ms)
+bits-behind ms passed rest zeros b e =
+    let own = AllBelow-drop 2 passed ms b in
+    ap (λ (n : ℕ). n / 2 ^ zeros / 2) e ∙ ap (λ (n : ℕ). n / 2) (joined-drop zeros (drop passed ms) own) ∙ joined-drop 1 (drop zeros (drop passed ms)) (AllBelow-drop 2 zeros (drop passed ms) own)
+    ∙ ap (λ (l : List ℕ). joined 1 l) (drop-drop 1 zeros (drop passed ms) ∙ drop-drop (zeros + 1) passed ms)
+
+-- one more code of those from a place on
+pub places_from-next : (test : ℕ → Bool) (s j : ℕ) (codes : List ℕ) → j < length codes
+    → places_from test s (take (j + 1) codes) ≡ places_from test s (take j codes) ++ places_from test (s + j) (get_or codes j 0 ∷ [])
+places_from-next test s j codes h =
+    let size : length (take j codes) ≡ j = omega (arith, length-take j codes, h) in
+    ap (λ l. places_from test s l) (take_more codes j 0 h) ∙ places_from-append test s (take j codes) (get_or codes j 0)
+    ∙ ap (λ (k : ℕ). places_from test s (take j codes) ++ places_from test (s + k) (get_or codes j 0 ∷ [])) size
+
+-- codes that don't pass the test give no places
+pub places_from-skip : (test : ℕ → Bool) (s j n : ℕ) (codes : List ℕ) → j + n ≤ length codes → ((i : ℕ) → j ≤ i → i < j + n → test (get_or codes i 0) ≡ false)
+    → places_from test s (take (j + n) codes) ≡ places_from test s (take j codes)
+places_from-skip test s j zero codes h none = let same : j + 0 ≡ j = omega arith in ap (λ (k : ℕ). places_from test s (take k codes)) same
+places_from-skip test s j (suc n) codes h none =
+    let same : j + suc n ≡ j + n + 1 = omega arith in
+    ap (λ (k : ℕ). places_from test s (take k codes)) same ∙ places_from-next test s (j + n) codes (omega (arith, h))
+    ∙ ap (λ (l : List ℕ). places_from test s (take (j + n) codes) ++ l) (places_from-none test (s + (j + n)) (get_or codes (j + n) 0) (none (j + n) (omega arith) (omega arith)))
+    ∙ append-nil (places_from test s (take (j + n) codes)) ∙ places_from-skip test s j n codes (omega (arith, h)) (λ i a b. none i a (omega (arith, b)))
+
+-- rows without marks
+pub marked-skip : (ms : List ℕ) (j n : ℕ) → j + n ≤ length ms → ((i : ℕ) → j ≤ i → i < j + n → get_or ms i 0 ≡ 0) → marked (take (j + n) ms) ≡ marked (take j ms)
+marked-skip ms j zero h none = let same : j + 0 ≡ j = omega arith in ap (λ (k : ℕ). marked (take k ms)) same
+marked-skip ms j (suc n) h none =
+    let same : j + suc n ≡ j + n + 1 = omega arith in
+    ap (λ (k : ℕ). marked (take k ms)) same ∙ omega (arith, marked-next ms (j + n) (omega (arith, h)), none (j + n) (omega arith) (omega arith), marked-skip ms j n (omega (arith, h)) (λ i a b. none i a (omega (arith, b))))
+
+-- what is read at a row of a word
+pub get_or-word : (place i : ℕ) (xs : List ℕ) → i < length (word_from place xs) → get_or (word_from place xs) i 0 ≡ get_or xs (place + i) 0
+unfolding word_from
+get_or-word place i xs h = get_or-take 64 (drop place xs) i 0 (omega (arith, length-take 64 (drop place xs), h)) ∙ get_or-drop place xs i 0
+
+pub length-word : (place : ℕ) (xs : List ℕ) → length (word_from place xs) ≡ min 64 (length xs - place)
+unfolding word_from
+length-word place xs = length-take 64 (drop place xs) ∙ ap (λ (n : ℕ). min 64 n) (length-drop place xs)
+
+pub AllBelow-word : (place : ℕ) (ms : List ℕ) → AllBelow 2 ms → AllBelow 2 (word_from place ms)
+unfolding word_from
+AllBelow-word place ms b = AllBelow-take 2 64 (drop place ms) (AllBelow-drop 2 place ms b)
+
+-- the number of a word's marks
+pub word-joined : (width place word : ℕ) (ms : List ℕ) → width ≡ 1 → AllBelow 2 ms → word ≡ joined width ms / 2 ^ place % 2 ^ 64 → word ≡ joined 1 (word_from place ms)
+unfolding word_from
+word-joined width place word ms one b e =
+    e ∙ ap (λ (w : ℕ). joined w ms / 2 ^ place % 2 ^ 64) one ∙ ap (λ (x : ℕ). x % 2 ^ 64) (joined-drop place ms b) ∙ joined-take 64 (drop place ms) (AllBelow-drop 2 place ms b)
+
+-- the places of one word more
+pub places_from-word : (test : ℕ → Bool) (place : ℕ) (codes : List ℕ) → place ≤ length codes
+    → places_from test 0 (take (place + 64) codes) ≡ places_from test 0 (take place codes) ++ places_from test place (take 64 (drop place codes))
+places_from-word test place codes h =
+    let size : length (take place codes) ≡ place = omega (arith, length-take place codes, h) in
+    ap (λ l. places_from test 0 l) (take-add place 64 codes) ∙ places_from-both test 0 (take place codes) (take 64 (drop place codes))
+    ∙ ap (λ (k : ℕ). places_from test 0 (take place codes) ++ places_from test k (take 64 (drop place codes))) (omega (arith, size))
+
+-- a row of a word without a mark has the code that is left out
+pub left-word : (left place i : ℕ) (ms os : List ℕ) → i < length (word_from place ms) → get_or (word_from place ms) i 0 ≡ 0 → get_or (word_from place (merged left ms os)) i 0 ≡ left
+left-word left place i ms os h e =
+    let size = length-word place ms in
+    let whole = length-word place (merged left ms os) in
+    let within : place + i < length ms = omega (arith, size, h) in
+    get_or-word place i (merged left ms os) (omega (arith, whole, within, length-merged left ms os, size, h)) ∙ get_or-merged_left left ms os (place + i) within (sym (get_or-word place i ms h) ∙ e)
+
+-- what is known at the first mark of those that are left of a word
+pub record IsAtMark (left place passed rank rest zeros : ℕ) (ms os : List ℕ) : Type 0 where
+  pub within : passed + zeros < length (word_from place ms)
+  pub fits : place + (passed + zeros) < length ms
+  pub there : rank < length os
+  pub skipped : (i : ℕ) → passed ≤ i → i < passed + zeros → get_or (word_from place (merged left ms os)) i 0 ≡ left
+  pub code : get_or (word_from place (merged left ms os)) (passed + zeros) 0 ≡ get_or os rank 0
+  pub counted : rank + 1 ≡ marked (take (place + (passed + (zeros + 1))) ms)
+  pub behind : rest / 2 ^ zeros / 2 ≡ joined 1 (drop (passed + (zeros + 1)) (word_from place ms))
+
+pub at-mark : (left place passed rank rest : ℕ) (ms os : List ℕ) → AllBelow 2 ms → marked ms ≡ length os → passed ≤ length (word_from place ms) → rest ≡ joined 1 (drop passed (word_from place ms)) → 0 < rest
+    → rank ≡ marked (take (place + passed) ms) → IsAtMark left place passed rank rest (trailing_zeros w64 rest) ms os
+at-mark left place passed rank rest ms os b paired le e some count =
+    let own = AllBelow-word place ms b in
+    let size = length-word place ms in
+    let part = length-drop passed (word_from place ms) in
+    let short : length (drop passed (word_from place ms)) ≤ 64 = omega (arith, size, part) in
+    let first = first-bit (drop passed (word_from place ms)) rest (AllBelow-drop 2 passed (word_from place ms) own) short e some in
+    let zeros = trailing_zeros w64 rest in
+    let within : passed + zeros < length (word_from place ms) = omega (arith, first.within, part) in
+    let fits : place + (passed + zeros) < length ms = omega (arith, within, size) in
+    let set : get_or (word_from place ms) (passed + zeros) 0 ≡ 1 = sym (get_or-drop passed (word_from place ms) zeros 0) ∙ first.here in
+    let mark : get_or ms (place + (passed + zeros)) 0 ≡ 1 = sym (get_or-word place (passed + zeros) ms within) ∙ set in
+    let none : (i : ℕ) → passed ≤ i → i < passed + zeros → get_or (word_from place ms) i 0 ≡ 0 =
+    λ i lo hi. let at : passed + (i - passed) ≡ i = omega arith in ap (λ (k : ℕ). get_or (word_from place ms) k 0) (sym at) ∙ sym (get_or-drop passed (word_from place ms) (i - passed) 0) ∙ first.before (i - passed) (omega arith) in
+    let bare : (i : ℕ) → place + passed ≤ i → i < place + passed + zeros → get_or ms i 0 ≡ 0 =
+    λ i lo hi. let at : place + (i - place) ≡ i = omega arith in ap (λ (k : ℕ). get_or ms k 0) (sym at) ∙ sym (get_or-word place (i - place) ms (omega (arith, within, lo, hi))) ∙ none (i - place) (omega arith) (omega arith) in
+    let sum : place + passed + zeros ≡ place + (passed + zeros) = omega arith in
+    let here : rank ≡ marked (take (place + (passed + zeros)) ms) = count ∙ sym (marked-skip ms (place + passed) zeros (omega (arith, fits)) bare) ∙ ap (λ (k : ℕ). marked (take k ms)) sum in
+    let whole : get_or (merged left ms os) (place + (passed + zeros)) 0 ≡ get_or os rank 0 =
+    get_or-merged_other left ms os (place + (passed + zeros)) b fits (λ z. absurd (omega (arith, z, mark))) ∙ ap (λ (k : ℕ). get_or os k 0) (sym here) in
+    let last : place + (passed + zeros) + 1 ≡ place + (passed + (zeros + 1)) = omega arith in
+    record {
+      within = within;
+      fits = fits;
+      there = omega (arith, here, paired, rank-within ms (place + (passed + zeros)) fits (λ z. absurd (omega (arith, z, mark))));
+      skipped = λ i lo hi. left-word left place i ms os (omega (arith, hi, within)) (none i lo hi);
+      code = get_or-word place (passed + zeros) (merged left ms os) (omega (arith, within, size, length-word place (merged left ms os), length-merged left ms os)) ∙ whole;
+      counted = omega (arith, here, marked-next ms (place + (passed + zeros)) fits, mark) ∙ ap (λ (k : ℕ). marked (take k ms)) last;
+      behind = bits-behind (word_from place ms) passed rest zeros own e;
+    }
+
+-- the places up to and with that mark
+pub places-at_mark : (test : ℕ → Bool) (left place passed rank rest zeros : ℕ) (ms os : List ℕ) → test left ≡ false → IsAtMark left place passed rank rest zeros ms os
+    → places_from test place (take (passed + (zeros + 1)) (word_from place (merged left ms os)))
+    ≡ places_from test place (take passed (word_from place (merged left ms os))) ++ places_from test (place + (passed + zeros)) (get_or os rank 0 ∷ [])
+places-at_mark test left place passed rank rest zeros ms os absent m =
+    let size : length (word_from place (merged left ms os)) ≡ length (word_from place ms) = omega (arith, length-word place ms, length-word place (merged left ms os), length-merged left ms os) in
+    let sum : passed + (zeros + 1) ≡ passed + zeros + 1 = omega arith in
+    ap (λ (k : ℕ). places_from test place (take k (word_from place (merged left ms os)))) sum
+    ∙ places_from-next test place (passed + zeros) (word_from place (merged left ms os)) (omega (arith, size, m.within))
+    ∙ ap (λ (l : List ℕ). l ++ places_from test (place + (passed + zeros)) (get_or (word_from place (merged left ms os)) (passed + zeros) 0 ∷ []))
+    (places_from-skip test place passed zeros (word_from place (merged left ms os)) (omega (arith, size, m.within)) (λ i lo hi. ap (λ (c : ℕ). test c) (m.skipped i lo hi) ∙ absent))
+    ∙ ap (λ (c : ℕ). places_from test place (take passed (word_from place (merged left ms os))) ++ places_from test (place + (passed + zeros)) (c ∷ [])) m.code
+
+-- the places of a word that has no more marks
+pub places-unmarked : (test : ℕ → Bool) (left place passed : ℕ) (ms os : List ℕ) → AllBelow 2 ms → test left ≡ false → passed ≤ length (word_from place ms) → 0 ≡ joined 1 (drop passed (word_from place ms))
+    → places_from test place (word_from place (merged left ms os)) ≡ places_from test place (take passed (word_from place (merged left ms os)))
+places-unmarked test left place passed ms os b absent le e =
+    let size : length (word_from place (merged left ms os)) ≡ length (word_from place ms) = omega (arith, length-word place ms, length-word place (merged left ms os), length-merged left ms os) in
+    let more = length (word_from place ms) - passed in
+    let none : (i : ℕ) → passed ≤ i → get_or (word_from place ms) i 0 ≡ 0 =
+    λ i lo.
+    let at : passed + (i - passed) ≡ i = omega arith in
+    ap (λ (k : ℕ). get_or (word_from place ms) k 0) (sym at) ∙ sym (get_or-drop passed (word_from place ms) (i - passed) 0)
+    ∙ bits-none (drop passed (word_from place ms)) (AllBelow-drop 2 passed (word_from place ms) (AllBelow-word place ms b)) (sym e) (i - passed) in
+    sym (ap (λ l. places_from test place l) (take_all (passed + more) (word_from place (merged left ms os)) (omega (arith, size, le))))
+    ∙ places_from-skip test place passed more (word_from place (merged left ms os)) (omega (arith, size, le)) (λ i lo hi. ap (λ (c : ℕ). test c) (left-word left place i ms os (omega (arith, hi, le)) (none i lo)) ∙ absent)

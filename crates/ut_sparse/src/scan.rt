@@ -1,0 +1,108 @@
+ghost use Rattle.std.specs.Prelude.{◌≡◌, ◌+◌, ◌*◌, ◌<◌, ◌≤◌, ◌++◌, length, take, drop, false, OnOk, OnErr};
+ghost use Rattle.ut_bits.specs.Bits.{AllBelow};
+ghost use Rattle.ut_bits.specs.Places.{is_in, places_where, places_from};
+ghost use Rattle.ut_sparse.specs.Sparse.{AreRanks, IsPaired, marked, merged};
+
+use crate::marks::code_here;
+use std::alloc::AllocError;
+use ut_bits::{BitList, is_in};
+
+/// Appends the places whose code stands in one of the ranges, row by row.
+pub fn append_all_in(
+    left_out: u32,
+    marks: &BitList,
+    others: &BitList,
+    ranges: &[(u32, u32)],
+    out: &mut Vec<u32>,
+) -> Result<(), AllocError>
+    requires bits { AllBelow 2 marks.now.codes }
+    requires paired { marked marks.now.codes ≡ length others.now.codes }
+    ensures ok { OnOk result (out.new.items ≡ out.old.items ++ places_where (is_in ranges.now) (merged left_out marks.now.codes others.now.codes)) }
+    ensures err { OnErr result (out.new.items ≡ out.old.items) }
+{
+    let before = out.len();
+    let mut rank = 0;
+    for i in 0..marks.len() {
+        if is_in(code_here(left_out, marks, others, i, rank), ranges) {
+            match out.push(i) {
+                Ok(()) => {}
+                Err(failed) => {
+                    out.truncate(before);
+                    return Err(AllocError::from(failed));
+                }
+            }
+        }
+        rank += marks.get(i);
+    }
+    Ok(())
+}
+
+/// Appends the places of word `k` of the marks whose code stands in one of the ranges, none of
+/// which holds the code that is left out: from one mark to the next.
+fn append_marked_in(
+    left_out: u32,
+    marks: &BitList,
+    others: &BitList,
+    k: u32,
+    rank: u32,
+    ranges: &[(u32, u32)],
+    out: &mut Vec<u32>,
+) -> Result<(), AllocError>
+    requires marks { IsPaired marks.now others.now }
+    requires word { 64 * k ≤ length marks.now.codes }
+    requires rank { rank ≡ marked (take (64 * k) marks.now.codes) }
+    requires absent { is_in ranges.now left_out ≡ false }
+    ensures ok { OnOk result (out.new.items ≡ out.old.items ++ places_from (is_in ranges.now) (64 * k) (take 64 (drop (64 * k) (merged left_out marks.now.codes others.now.codes)))) }
+    ensures err { OnErr result (out.new.items ≡ out.old.items) }
+{
+    let before = out.len();
+    let mut rank = rank;
+    let mut passed = 0;
+    let mut rest = marks.word(k);
+    while rest != 0 {
+        let zeros = rest.trailing_zeros();
+        if is_in(others.get(rank), ranges) {
+            match out.push(64 * k + passed + zeros) {
+                Ok(()) => {}
+                Err(failed) => {
+                    out.truncate(before);
+                    return Err(AllocError::from(failed));
+                }
+            }
+        }
+        rank += 1;
+        passed += zeros + 1;
+        rest = (rest >> zeros) >> 1;
+    }
+    Ok(())
+}
+
+/// Appends the places whose code stands in one of the ranges, none of which holds the code that
+/// is left out: word by word of the marks, past those without any.
+pub fn append_others_in(
+    left_out: u32,
+    marks: &BitList,
+    others: &BitList,
+    ranks: &[u32],
+    ranges: &[(u32, u32)],
+    out: &mut Vec<u32>,
+) -> Result<(), AllocError>
+    requires marks { IsPaired marks.now others.now }
+    requires ranks { AreRanks marks.now.codes ranks.now }
+    requires absent { is_in ranges.now left_out ≡ false }
+    ensures ok { OnOk result (out.new.items ≡ out.old.items ++ places_where (is_in ranges.now) (merged left_out marks.now.codes others.now.codes)) }
+    ensures err { OnErr result (out.new.items ≡ out.old.items) }
+{
+    let before = out.len();
+    for k in 0..marks.len() / 64 + 1 {
+        let rank = ranks[k as usize];
+        match append_marked_in(left_out, marks, others, k, rank, ranges, out) {
+            Ok(()) => {}
+            Err(failed) => {
+                out.truncate(before);
+                return Err(failed);
+            }
+        }
+    }
+    Ok(())
+}

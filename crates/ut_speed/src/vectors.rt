@@ -1,0 +1,104 @@
+//! Times the calls of code vectors.
+ghost use Rattle.std.specs.Prelude.{◌^◌, ◌<◌, ◌≤◌, length};
+ghost use Rattle.ut_bits.specs.Bits.{AllBelow};
+
+use crate::draws::{Pattern, codes};
+use crate::watch::say;
+use anyhow::Result;
+use std::alloc::Global;
+use std::rt::Clock;
+use std::time::Instant;
+use ut_codes::{CodeVec, width_of};
+use ut_packed::Packed;
+
+/// The sum of all codes, read in order.
+fn sum(vector: &CodeVec) -> u64 {
+    let mut sum = 0u64;
+    for i in 0..vector.len() {
+        sum = sum.wrapping_add(u64::from(vector.get(i)));
+    }
+    sum
+}
+
+fn time_reading<R: Print + Eprint + Clock>(
+    rt: &R,
+    alloc: Global,
+    subject: &str,
+    bytes: &[u8],
+    rows: u32,
+    reach: u32,
+) -> Result<()>
+    requires { rows ≤ 2 ^ 31 }
+{
+    let start = Instant::now(rt)?;
+    let size = match CodeVec::from_bytes(alloc, bytes, rows, reach)? {
+        Some((_, size)) => size,
+        None => 0,
+    };
+    say(rt, subject, "from_bytes", start, size as u64)
+}
+
+/// Times the packed form alone, which the choice of a form is no part of.
+fn time_packing<R: Print + Eprint + Clock>(
+    rt: &R,
+    alloc: Global,
+    subject: &str,
+    codes: &[u32],
+    reach: u32,
+) -> Result<()>
+    requires below { AllBelow reach codes.now }
+    requires few { length codes.now ≤ 2 ^ 31 }
+{
+    let width = width_of(reach);
+    let start = Instant::now(rt)?;
+    let packed = Packed::from_codes(alloc, codes, width)?;
+    say(rt, subject, "pack", start, u64::from(packed.len()))
+}
+
+fn time_calls<R: Print + Eprint + Clock>(
+    rt: &R,
+    alloc: Global,
+    subject: &str,
+    codes: &[u32],
+    reach: u32,
+) -> Result<()>
+    requires below { AllBelow reach codes.now }
+    requires few { length codes.now ≤ 2 ^ 31 }
+{
+    let start = Instant::now(rt)?;
+    let vector = CodeVec::from_codes(alloc, codes, reach)?;
+    say(rt, subject, "from_codes", start, u64::from(vector.width()))?;
+    let start = Instant::now(rt)?;
+    let sum = sum(&vector);
+    say(rt, subject, "get", start, sum)?;
+    let mut places = Vec::new(alloc);
+    let start = Instant::now(rt)?;
+    vector.places_in(&[(reach / 4, reach / 2)], &mut places)?;
+    say(rt, subject, "places_in", start, places.len() as u64)?;
+    let mut low = Vec::new(alloc);
+    let start = Instant::now(rt)?;
+    vector.places_in(&[(0, reach / 2)], &mut low)?;
+    say(rt, subject, "places_in_low", start, low.len() as u64)?;
+    let mut bytes = Vec::new(alloc);
+    let start = Instant::now(rt)?;
+    vector.bytes_of(&mut bytes)?;
+    say(rt, subject, "bytes_of", start, bytes.len() as u64)?;
+    time_reading(rt, alloc, subject, bytes.as_slice(), vector.len(), reach)?;
+    time_packing(rt, alloc, subject, codes, reach)
+}
+
+/// Times the calls at so many codes of a pattern.
+pub fn time_all<R: Print + Eprint + Clock>(
+    rt: &R,
+    alloc: Global,
+    subject: &str,
+    pattern: Pattern,
+    count: u32,
+    reach: u32,
+) -> Result<()>
+    requires some { 0 < reach }
+    requires few { count ≤ 2 ^ 31 }
+{
+    let codes = codes(alloc, pattern, count, reach)?;
+    time_calls(rt, alloc, subject, codes.as_slice(), reach)
+}
