@@ -11,3 +11,4 @@ pub mod RoomLemmas
 pub mod Examples
 pub mod NumberLaws
 pub mod ValueLaws
+pub mod SpelledLaws

@@ -1,0 +1,88 @@
+-- What a run keeps, line by line.
+use Rattle.std.proofs.Common.{inl, inr, ℕ, ◌≡◌, ◌≤◌, ◌<◌, ◌+◌, ◌-◌, ◌⊎◌, List, [], ◌∷◌, ◌++◌, length, take, refl, sym, ap, ◌∙◌, subst, arith}
+use Rattle.std.proofs.lemmas.List.{take-append-le, length-append}
+use Rattle.ut_outside.specs.Disk.{View, Image, IsTold}
+use Rattle.ut_outside.specs.Run.{LeavesOnly}
+use Rattle.ut_outside.specs.declared.ack.Ack.{Ack}
+use Rattle.ut_pages.specs.Layout.{IsMade}
+use Rattle.ut_value.specs.declared.entry.Entry.{Entry}
+use Rattle.ut_plain.specs.Journal.{Journal, journal_len, prefix}
+use Rattle.ut_logged.specs.Readings.{HoldsJournal, HoldsPrefix}
+use Rattle.ut_app.specs.declared.words.Start.{Start}
+use Rattle.ut_app.specs.declared.words.Start.TheVariants.{New, Open}
+use Rattle.ut_app.specs.Keeping.{IsKept, AreKept, SinceEntry, Kept, HoldsRun, NothingPending, behind}
+use Rattle.ut_app.proofs.SayLemmas.{OnlyNow}
+
+-- a journal that goes on from another
+pub record GoesOn (j k : Journal) : Type 0 where
+  pub more : List Entry
+  pub is : k ≡ behind j more
+
+longer : (j : Journal) (more : List Entry) (n : ℕ) → n ≤ journal_len j → prefix (behind j more) n ≡ prefix j n
+longer j more n h = ap (λ es. record j { entries = es }) (take-append-le (n - j.base.length) j.entries more (omega (arith, h)))
+
+pub no_shorter : (j k : Journal) → GoesOn j k → journal_len j ≤ journal_len k
+no_shorter j k g = let e : journal_len k ≡ journal_len (behind j g.more) = ap journal_len g.is in omega (arith, e, length-append j.entries g.more)
+
+pub holds_longer : (j k : Journal) (least : ℕ) (c : Image) → GoesOn j k → HoldsPrefix j least c → HoldsPrefix k least c
+holds_longer j k least c g h = record {
+  count = h.count;
+  no_fewer = h.no_fewer;
+  no_more = let e = no_shorter j k g in omega (arith, e, h.no_more);
+  holds = subst (λ i. HoldsJournal i c) (sym (longer j g.more h.count h.no_more) ∙ ap (λ i. prefix i h.count) (sym g.is)) h.holds }
+
+holds_less : (j : Journal) (n m : ℕ) (c : Image) → m ≤ n → HoldsPrefix j n c → HoldsPrefix j m c
+holds_less j n m c le h = record { count = h.count; no_fewer = omega (arith, le, h.no_fewer); no_more = h.no_more; holds = h.holds }
+
+ack_kept : (old new : View) (j k : Journal) (ack : Ack) → GoesOn j k → LeavesOnly old new (HoldsPrefix k (journal_len j)) → IsKept old j ack → IsKept new k ack
+ack_kept old new j k ack g l kept = record {
+  past = let e = l.later in omega (arith, e, kept.past);
+  no_more = let e = no_shorter j k g in omega (arith, e, kept.no_more);
+  holds = λ c h. by c (l.before ack.moment c kept.past h) }
+  where
+    by : (c : Image) → old.crash_states_since ack.moment c ⊎ HoldsPrefix k (journal_len j) c → HoldsPrefix k ack.journal c
+    by c (inl h) = holds_longer j k ack.journal c g (kept.holds c h)
+    by c (inr h) = holds_less k (journal_len j) ack.journal c kept.no_more h
+
+acks_kept : (old new : View) (j k : Journal) (acks : List Ack) → GoesOn j k → LeavesOnly old new (HoldsPrefix k (journal_len j)) → AreKept old j acks → AreKept new k acks
+acks_kept old new j k [] g l kept = tt
+acks_kept old new j k (ack ∷ acks) g l kept = (ack_kept old new j k ack g l kept.0, acks_kept old new j k acks g l kept.1)
+
+run_longer : (start : Start) (j k : Journal) (least : ℕ) (c : Image) → GoesOn j k → HoldsRun start j least c → HoldsRun start k least c
+run_longer New j k least c g (inl h) = inl (holds_longer j k least c g h)
+run_longer New j k least c g (inr h) = inr h
+run_longer Open j k least c g h = holds_longer j k least c g h
+
+run_holds : (start : Start) (k : Journal) (least : ℕ) (c : Image) → HoldsPrefix k least c → HoldsRun start k least c
+run_holds New k least c h = inl h
+run_holds Open k least c h = h
+
+since_more : (start : Start) (entry old new : View) (first j k : Journal) → GoesOn j k → journal_len first ≤ journal_len j → LeavesOnly old new (HoldsPrefix k (journal_len j)) → SinceEntry start entry old first j → SinceEntry start entry new first k
+since_more start entry old new first j k g le l s = record {
+  past = let e = l.later in omega (arith, e, s.past);
+  holds = λ c h. by c (l.before entry.moment c s.past h) }
+  where
+    by : (c : Image) → old.crash_states_since entry.moment c ⊎ HoldsPrefix k (journal_len j) c → HoldsRun start k (journal_len first) c
+    by c (inl h) = run_longer start j k (journal_len first) c g (s.holds c h)
+    by c (inr h) = run_holds start k (journal_len first) c (holds_less k (journal_len j) (journal_len first) c le h)
+
+-- a line more
+pub kept_on : (start : Start) (entry old new : View) (first j k : Journal) (acks : List Ack) → GoesOn j k → IsTold new → LeavesOnly old new (HoldsPrefix k (journal_len j)) → Kept start entry old first j acks → Kept start entry new first k acks
+kept_on start entry old new first j k acks g told l kept = record {
+  told = told;
+  no_more = let e = no_shorter j k g in omega (arith, e, kept.no_more);
+  acknowledged = acks_kept old new j k acks g l kept.acknowledged;
+  since_entry = λ nothing. since_more start entry old new first j k g kept.no_more l (kept.since_entry nothing) }
+
+acks_more : (v : View) (j : Journal) (acks : List Ack) (ack : Ack) → AreKept v j acks → IsKept v j ack → AreKept v j (acks ++ ack ∷ [])
+acks_more v j [] ack kept k = (k, tt)
+acks_more v j (a ∷ acks) ack kept k = (kept.0, acks_more v j acks ack kept.1 k)
+
+-- and its acknowledgement, which says how long the journal is
+pub kept_ack : (start : Start) (entry now : View) (first j : Journal) (acks : List Ack) (n : ℕ) → n ≤ journal_len j → ((c : Image) → now.crash_states_since now.moment c → HoldsPrefix j n c) → Kept start entry now first j acks
+    → Kept start entry now first j (acks ++ record { journal = n; moment = now.moment } ∷ [])
+kept_ack start entry now first j acks n few holds kept = record {
+  told = kept.told;
+  no_more = kept.no_more;
+  acknowledged = acks_more now j acks (record { journal = n; moment = now.moment }) kept.acknowledged (record { past = omega arith; no_more = few; holds = holds });
+  since_entry = kept.since_entry }

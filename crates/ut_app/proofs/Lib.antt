@@ -1,0 +1,10 @@
+pub mod WriteLemmas
+pub mod LineLemmas
+pub mod SayLemmas
+pub mod TurnLemmas
+pub mod BeginLemmas
+pub mod KeepLemmas
+pub mod TellLemmas
+pub mod MarkLemmas
+pub mod ServeLemmas
+pub mod EndsLemmas

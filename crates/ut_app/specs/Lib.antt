@@ -1,0 +1,10 @@
+pub mod Words
+pub mod Writing
+pub mod Telling
+pub mod Saying
+pub mod Keeping
+pub mod Turning
+pub mod Serving
+pub mod Ends
+pub mod Beginning
+pub mod Top

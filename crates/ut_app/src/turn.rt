@@ -1,0 +1,130 @@
+//! One line: its answer, the acknowledgement, and the text on its way to the sink.
+ghost use Rattle.std.specs.Prelude.{◌≡◌, ◌≤◌, ◌∷◌, ◌++◌, [], false, vec_capacity, IfOk, OnOk};
+ghost use Rattle.ut_outside.specs.Faults.{HasCause};
+ghost use Rattle.ut_plain.specs.Plain.{Plain};
+ghost use Rattle.ut_logged.specs.Runs.{Runs};
+ghost use Rattle.ut_script.specs.Grammar.{parsed};
+ghost use Rattle.ut_app.specs.Writing.{Writes};
+ghost use Rattle.ut_app.specs.Turning.{Turns, TurnCauses};
+
+use crate::report::{Report, Status};
+use crate::say::{Said, say};
+use crate::write::write_all;
+use std::alloc::{AllocError, Global};
+use ut_logged::LoggedStore;
+use ut_outside::{Ack, AckList, Disk, Failed, Sink};
+
+/// A reply without rows, groups, values and parts has at most so many bytes.
+const SMALL_REPLY: usize = 96;
+
+/// Why a run ends at a line.
+#[derive(Clone, Copy, Debug, PartialEq, Eq)]
+pub enum TurnEnd {
+    Disk,
+    Write,
+}
+
+/// The text of the reply in hand, what was acknowledged so far, and the length of the journal.
+#[derive(Drop)]
+pub struct Replies {
+    pub text: Vec<u8>,
+    pub acks: AckList,
+    pub journal: u32,
+    ghost room: { 96 ≤ vec_capacity text },
+}
+
+impl Replies {
+    pub(crate) fn new(alloc: Global) -> Result<Replies, AllocError>
+        ensures { IfOk result (λ r. r.acks.items ≡ []) }
+    {
+        let text = Vec::with_capacity(alloc, SMALL_REPLY)?;
+        Ok(Replies {
+            text,
+            acks: AckList::new(alloc),
+            journal: 0,
+        })
+    }
+
+    /// Makes room for the acknowledgement of one reply more.
+    pub(crate) fn make_room(&mut self) -> Result<(), AllocError>
+        ensures ok { OnOk result (1 ≤ self.new.acks.spare) }
+        ensures acks { self.new.acks.items ≡ self.old.acks.items }
+        ensures journal { self.new.journal ≡ self.old.journal }
+    {
+        self.acks.make_room()
+    }
+
+    /// The store was opened, with a journal of this length.
+    pub(crate) fn opened(&mut self, journal: u32)
+        ensures acks { self.new.acks.items ≡ self.old.acks.items }
+        ensures journal { self.new.journal ≡ journal }
+    {
+        self.journal = journal;
+    }
+
+    /// What the run came to, with so many lines.
+    pub(crate) fn report(self, status: Status, lines: u64) -> Report
+        ensures { result ≡ record { status = status; lines = lines; acks = self.acks; journal = self.journal } }
+    {
+        Report {
+            status,
+            lines,
+            acks: self.acks,
+            journal: self.journal as u64,
+        }
+    }
+
+    /// Acknowledges the reply in hand, and writes it.
+    fn give<K: Sink<D>, D: Disk>(
+        &mut self,
+        journal: u32,
+        sink: &mut K,
+        disk: &D,
+    ) -> Result<(), Failed>
+        requires { 1 ≤ self.old.acks.spare }
+        ensures acks { self.new.acks.items ≡ self.old.acks.items ++ record { journal = journal; moment = (D.view disk.now).moment } ∷ [] }
+        ensures journal { self.new.journal ≡ journal }
+        ensures written { Writes (K.held sink.old) (K.moments sink.old) self.old.text.items (D.view disk.now).moment result (K.held sink.new) (K.moments sink.new) }
+        ensures cause { HasCause (K.faults sink.old) (K.faults sink.new) result }
+    {
+        self.acks.add(Ack {
+            journal: journal as u64,
+            moment: disk.calls(),
+        });
+        self.journal = journal;
+        write_all(sink, disk, &self.text)
+    }
+}
+
+/// Answers a line, and writes the answer.
+pub(crate) fn turn<K: Sink<D>, D: Disk>(
+    alloc: Global,
+    store: &mut LoggedStore,
+    disk: &mut D,
+    line: &[u8],
+    replies: &mut Replies,
+    sink: &mut K,
+) -> Result<(), TurnEnd>
+    requires runs { (p : Plain) × Runs store.old (D.view disk.old) p }
+    requires spare { 1 ≤ replies.old.acks.spare }
+    ensures turns { Turns store.old (D.view disk.old) (parsed false line.now) (record { acks = replies.old.acks.items; journal = replies.old.journal }) (record { held = K.held sink.old; marks = K.moments sink.old })
+        result store.new (D.view disk.new) (record { acks = replies.new.acks.items; journal = replies.new.journal }) (record { held = K.held sink.new; marks = K.moments sink.new }) }
+    ensures causes { TurnCauses (D.view disk.old) (D.view disk.new) (K.faults sink.old) (K.faults sink.new) result }
+{
+    let before = store.journal_len();
+    replies.text.clear();
+    match say(alloc, store, disk, line, &mut replies.text) {
+        Said::Nothing => {
+            replies.journal = store.journal_len();
+            Ok(())
+        }
+        Said::Reply => match replies.give(store.journal_len(), sink, disk) {
+            Ok(()) => Ok(()),
+            Err(_) => Err(TurnEnd::Write),
+        },
+        Said::Fault => match replies.give(before, sink, disk) {
+            Ok(()) => Err(TurnEnd::Disk),
+            Err(_) => Err(TurnEnd::Write),
+        },
+    }
+}
