@@ -1,0 +1,71 @@
+-- No statement makes a part of main.
+use Rattle.std.proofs.Common.{◌≡◌, ℕ, zero, suc, Bool, true, false, ◌&&◌, List, [], ◌∷◌, ◌++◌, set, Option, None, Some, refl, IsTrue}
+use Rattle.std.specs.Option.{unwrap_or}
+use Rattle.std.specs.List.{list_all, slice_get}
+use Rattle.ut_value.specs.declared.entry.Op.{Op}
+use Rattle.ut_value.specs.declared.entry.Op.TheVariants as ops
+use Rattle.ut_plain.specs.declared.stage.Placed.{Placed}
+use Rattle.ut_plain.specs.declared.stage.TableStages.{TableStages}
+use Rattle.ut_plain.specs.declared.transaction.OpenTransaction.{OpenTransaction}
+use Rattle.ut_plain.specs.declared.statement.Statement.{Statement}
+use Rattle.ut_plain.specs.declared.statement.Statement.TheVariants as statements
+use Rattle.ut_plain.specs.declared.statement.Statement.TheVariants.{Create, Insert, Bulk, Ask, Update, Delete, Begin, Commit, Abort, MergeL1}
+use Rattle.ut_plain.specs.declared.reply.Refusal.{Refusal}
+use Rattle.ut_plain.specs.Stages.{Stages, no_stages, stages_at, with_stages, with_inserts, entered, placed, moved}
+use Rattle.ut_plain.specs.Plain.{Plain, open_at}
+use Rattle.ut_plain.specs.View.{view}
+use Rattle.ut_plain.specs.Refusals.{refusal}
+use Rattle.ut_plain.specs.Step.{step, step_by, effect_of, committed, committed_by}
+use Rattle.ut_plain.proofs.BoolLemmas.{and_left, and_right}
+use Rattle.ut_plain.proofs.ListLemmas.{list_all_set, list_all_append}
+use Rattle.ut_oracle.specs.Store.{has_no_part, have_no_part}
+
+pub parts_at : (stages : Stages) (table : ℕ) → IsTrue (have_no_part stages) → IsTrue (has_no_part (stages_at stages table))
+parts_at [] table h = refl
+parts_at (t ∷ ts) zero h = and_left (has_no_part t) _ h
+parts_at (t ∷ ts) (suc table) h = parts_at ts table (and_right (has_no_part t) _ h)
+
+parts-entered : (bulk : Bool) (row : Placed) (t : TableStages) → IsTrue (has_no_part t) → IsTrue (has_no_part (entered bulk row t))
+parts-entered true row t h = h
+parts-entered false row t h = h
+
+parts-with_inserts : (bulk : Bool) (stages : Stages) (os : List Op) → IsTrue (have_no_part stages) → IsTrue (have_no_part (with_inserts bulk stages os))
+parts-with_inserts bulk stages [] h = h
+parts-with_inserts bulk stages (ops.Insert table id values ∷ os) h =
+    parts-with_inserts bulk (with_stages (entered bulk (placed id values)) table stages) os (list_all_set has_no_part stages table (entered bulk (placed id values) (stages_at stages table)) h (parts-entered bulk (placed id values) (stages_at stages table) (parts_at stages table h)))
+parts-with_inserts bulk stages (ops.Delete table id ∷ os) h = parts-with_inserts bulk stages os h
+
+parts-committed_by : (p : Plain) (session : ℕ) (os : List Op) → IsTrue (have_no_part p.stages) → IsTrue (have_no_part (committed_by p session os).plain.stages)
+parts-committed_by p session [] h = h
+parts-committed_by p session (o ∷ os) h = h
+
+parts-committed : (p : Plain) (session : ℕ) (own : Option OpenTransaction) → IsTrue (have_no_part p.stages) → IsTrue (have_no_part (committed p session own).plain.stages)
+parts-committed p session None h = h
+parts-committed p session (Some t) h = parts-committed_by p session t.ops h
+
+parts-effect : (p : Plain) (session : ℕ) (st : Statement) → IsTrue (have_no_part p.stages) → IsTrue (have_no_part (effect_of p session st).plain.stages)
+parts-effect p session (Create name columns) h = list_all_append has_no_part p.stages (no_stages ∷ []) h refl
+parts-effect p session (Insert name values) h = parts-with_inserts false p.stages _ h
+parts-effect p session (Bulk name values) h = parts-with_inserts true p.stages _ h
+parts-effect p session (Ask query) h = h
+parts-effect p session (Update name column value preds) h = parts-with_inserts false p.stages _ h
+parts-effect p session (Delete name preds) h = parts-with_inserts false p.stages _ h
+parts-effect p session Begin h = h
+parts-effect p session Commit h = parts-committed p session (open_at p.sessions session) h
+parts-effect p session Abort h = h
+parts-effect p session (MergeL1 name n) h = list_all_set has_no_part p.stages _ _ h (parts_at p.stages _ h)
+parts-effect p session (statements.MergeBegin name kind) h = h
+parts-effect p session statements.MergeEnd h = h
+parts-effect p session statements.SaveBegin h = h
+parts-effect p session (statements.SaveStep n) h = h
+parts-effect p session statements.SaveSeal h = h
+parts-effect p session statements.SaveFlip h = h
+parts-effect p session statements.SaveDrop h = h
+parts-effect p session (statements.Shape name) h = h
+
+parts-step_by : (o : Option Refusal) (p : Plain) (session : ℕ) (st : Statement) → IsTrue (have_no_part p.stages) → IsTrue (have_no_part (step_by o p session st).plain.stages)
+parts-step_by None p session st h = parts-effect p session st h
+parts-step_by (Some why) p session st h = h
+
+pub parts-step : (p : Plain) (session : ℕ) (st : Statement) → IsTrue (have_no_part p.stages) → IsTrue (have_no_part (step p session st).plain.stages)
+parts-step p session st h = parts-step_by (refusal (view p session) st) p session st h

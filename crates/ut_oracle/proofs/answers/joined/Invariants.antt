@@ -1,0 +1,9 @@
+use Rattle.std.proofs.Common.{◌≡◌, ◌++◌, drop, map}
+use Rattle.std.specs.List.{filter}
+use Rattle.ut_plain.specs.Condition.{value_in}
+use Rattle.ut_plain.specs.Query.{same_value, joined}
+use Rattle.ut_oracle.proofs.answers.joined.Given as goal
+
+-- those so far and those that are left are all
+abbrev pub invariant-loop-row : goal.invariant-loop-row
+invariant-loop-row l = l.tuples ++ joined l.left l.c (drop l.row-index l.lefts) l.right l.d l.rights ≡ joined l.left l.c l.lefts l.right l.d l.rights
