@@ -1,5 +1,5 @@
 -- No statement makes a part of main.
-use Rattle.std.proofs.Common.{◌≡◌, ℕ, zero, suc, Bool, true, false, ◌&&◌, List, [], ◌∷◌, ◌++◌, set, Option, None, Some, refl, IsTrue}
+use Rattle.std.proofs.Common.{◌≡◌, ℕ, zero, suc, Bool, true, false, ◌&&◌, List, [], ◌∷◌, ◌++◌, set, Option, None, Some, refl, sym, subst, IsTrue}
 use Rattle.std.specs.Option.{unwrap_or}
 use Rattle.std.specs.List.{list_all, slice_get}
 use Rattle.ut_value.specs.declared.entry.Op.{Op}
@@ -11,14 +11,22 @@ use Rattle.ut_plain.specs.declared.statement.Statement.{Statement}
 use Rattle.ut_plain.specs.declared.statement.Statement.TheVariants as statements
 use Rattle.ut_plain.specs.declared.statement.Statement.TheVariants.{Create, Insert, Bulk, Ask, Update, Delete, Begin, Commit, Abort, MergeL1}
 use Rattle.ut_plain.specs.declared.reply.Refusal.{Refusal}
+use Rattle.ut_plain.specs.Tables.{place_in}
+use Rattle.ut_plain.specs.Journal.{current}
 use Rattle.ut_plain.specs.Stages.{Stages, no_stages, stages_at, with_stages, with_inserts, entered, placed, moved}
 use Rattle.ut_plain.specs.Plain.{Plain, open_at}
 use Rattle.ut_plain.specs.View.{view}
+use Rattle.ut_plain.specs.Made.{made}
 use Rattle.ut_plain.specs.Refusals.{refusal}
 use Rattle.ut_plain.specs.Step.{step, step_by, effect_of, committed, committed_by}
 use Rattle.ut_plain.proofs.BoolLemmas.{and_left, and_right}
 use Rattle.ut_plain.proofs.ListLemmas.{list_all_set, list_all_append}
-use Rattle.ut_oracle.specs.Store.{has_no_part, have_no_part}
+use Rattle.ut_plain.specs.Spelled.{is_spelled}
+use Rattle.ut_plain.specs.Reached.{IsPlain}
+use Rattle.ut_plain.specs.Laws.{StepIsPlain}
+use Rattle.ut_plain.specs.declared.reply.Reply.{Reply}
+use Rattle.ut_oracle.specs.declared.held.Held.{Held}
+use Rattle.ut_oracle.specs.Store.{plain_of, has_no_part, have_no_part, IsHeld, Gives}
 
 pub parts_at : (stages : Stages) (table : ℕ) → IsTrue (have_no_part stages) → IsTrue (has_no_part (stages_at stages table))
 parts_at [] table h = refl
@@ -45,15 +53,15 @@ parts-committed p session (Some t) h = parts-committed_by p session t.ops h
 
 parts-effect : (p : Plain) (session : ℕ) (st : Statement) → IsTrue (have_no_part p.stages) → IsTrue (have_no_part (effect_of p session st).plain.stages)
 parts-effect p session (Create name columns) h = list_all_append has_no_part p.stages (no_stages ∷ []) h refl
-parts-effect p session (Insert name values) h = parts-with_inserts false p.stages _ h
-parts-effect p session (Bulk name values) h = parts-with_inserts true p.stages _ h
+parts-effect p session (Insert name values) h = parts-with_inserts false p.stages (made (view p session).tables (view p session).rows (view p session).next_id (Insert name values)) h
+parts-effect p session (Bulk name values) h = parts-with_inserts true p.stages (made (view p session).tables (view p session).rows (view p session).next_id (Bulk name values)) h
 parts-effect p session (Ask query) h = h
-parts-effect p session (Update name column value preds) h = parts-with_inserts false p.stages _ h
-parts-effect p session (Delete name preds) h = parts-with_inserts false p.stages _ h
+parts-effect p session (Update name column value preds) h = parts-with_inserts false p.stages (made (view p session).tables (view p session).rows (view p session).next_id (Update name column value preds)) h
+parts-effect p session (Delete name preds) h = parts-with_inserts false p.stages (made (view p session).tables (view p session).rows (view p session).next_id (Delete name preds)) h
 parts-effect p session Begin h = h
 parts-effect p session Commit h = parts-committed p session (open_at p.sessions session) h
 parts-effect p session Abort h = h
-parts-effect p session (MergeL1 name n) h = list_all_set has_no_part p.stages _ _ h (parts_at p.stages _ h)
+parts-effect p session (MergeL1 name n) h = let table = place_in (current p.journal).tables name in list_all_set has_no_part p.stages table (moved n (stages_at p.stages table)) h (parts_at p.stages table h)
 parts-effect p session (statements.MergeBegin name kind) h = h
 parts-effect p session statements.MergeEnd h = h
 parts-effect p session statements.SaveBegin h = h
@@ -69,3 +77,10 @@ parts-step_by (Some why) p session st h = h
 
 pub parts-step : (p : Plain) (session : ℕ) (st : Statement) → IsTrue (have_no_part p.stages) → IsTrue (have_no_part (step p session st).plain.stages)
 parts-step p session st h = parts-step_by (refusal (view p session) st) p session st h
+
+-- a step keeps what the store always keeps
+pub held_step : (old new : Held) (session : ℕ) (st : Statement) (reply : Reply) → StepIsPlain → IsHeld old → IsTrue (is_spelled st) → Gives (step (plain_of old) session st) reply (plain_of new) → IsHeld new
+held_step old new session st reply law h spelled g = record {
+  plain = subst IsPlain (sym g.state) (law (plain_of old) session st h.plain spelled);
+  parts = subst (λ (p : Plain). IsTrue (have_no_part p.stages)) (sym g.state) (parts-step (plain_of old) session st h.parts);
+}

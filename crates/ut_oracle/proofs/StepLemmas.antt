@@ -89,6 +89,9 @@ deleted_by (Some why) p session name preds = refl
 pub record Makes (p : Plain) (session : ℕ) (st : Statement) (bulk : Bool) (os : List Op) (rows : ℕ) (taken : Option ℕ) : Type 0 where
   pub does : step_by (late (view p session) st) p session st ≡ change_step p session bulk os rows taken
 
+pub makes_same : (p : Plain) (session : ℕ) (st : Statement) (bulk : Bool) (os ps : List Op) (rows many : ℕ) (taken first : Option ℕ) → ps ≡ os → many ≡ rows → first ≡ taken → Makes p session st bulk os rows taken → Makes p session st bulk ps many first
+makes_same p session st bulk os ps rows many taken first e f g m = record { does = m.does ∙ (λ i. change_step p session bulk (sym e i) (sym f i) (sym g i)) }
+
 pub insert_makes : (p : Plain) (session : ℕ) (name : List ℕ) (values : List Value) → Makes p session (Insert name values) false (made (current p.journal).tables (view p session).rows p.next_id (Insert name values)) 1 None
 insert_makes p session name values = record { does = inserted_by (late (view p session) (Insert name values)) p session name values }
 

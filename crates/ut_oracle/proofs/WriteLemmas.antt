@@ -25,7 +25,7 @@ use Rattle.ut_plain.specs.View.{View, view}
 use Rattle.ut_plain.specs.Names.{names_known}
 use Rattle.ut_plain.specs.Kinds.{kinds_fit}
 use Rattle.ut_plain.specs.Made.{made, changes, rows_of, inserts, updates, deletes_all, changed_value}
-use Rattle.ut_plain.specs.Limits.{has_ids, has_ops_room}
+use Rattle.ut_plain.specs.Limits.{has_ids, has_entry_room, has_journal_room, has_ops_room}
 use Rattle.ut_plain.specs.Refusals.{is_supported, state_why, unless, or_else, first_taken}
 use Rattle.ut_plain.specs.Reached.{IsPlain}
 use Rattle.ut_plain.specs.Step.{step}
@@ -37,7 +37,7 @@ use Rattle.ut_plain.proofs.MadeLemmas.{inserts_of-inserts, inserts_of-updates}
 use Rattle.ut_oracle.specs.declared.known.Known.{Known}
 use Rattle.ut_oracle.specs.Store.{Gives, IsSight, Allowed, early, refuses, change_by, change_step}
 use Rattle.ut_oracle.proofs.FilterLemmas.{length-filter_le}
-use Rattle.ut_oracle.proofs.StepLemmas.{Makes, insert_makes, bulk_makes, update_makes, delete_makes, gives_change}
+use Rattle.ut_oracle.proofs.StepLemmas.{Makes, makes_same, insert_makes, bulk_makes, update_makes, delete_makes, gives_change}
 
 -- ---- what an allowed statement has passed
 
@@ -79,7 +79,7 @@ length-found ts rows name preds =
 
 no_room : (v : View) (os : List Op) → has_ids v (inserts_of os) ≡ false → has_ops_room v os ≡ false
 no_room v [] h = cc
-no_room v (op ∷ os) h = ap (λ b. b && _ && _) h
+no_room v (op ∷ os) h = ap (λ b. b && has_entry_room v (op ∷ os) && (is_some v.own || has_journal_room v)) h
 
 -- a change for which ids are wanting is refused
 no_ids : (p : Plain) (session : ℕ) (bulk : Bool) (os : List Op) (rows : ℕ) (taken : Option ℕ) → has_ids (view p session) (inserts_of os) ≡ false → change_step p session bulk os rows taken ≡ refuses p refusals.Full
@@ -95,7 +95,7 @@ pub insert_gives : (p : Plain) (sight : Known) (session : ℕ) (name : List ℕ)
 insert_gives p sight session name values ts n place os reply q h t e at is g =
     let here : place ≡ place_in (current p.journal).tables name = at ∙ ap (λ ts. place_in ts n) (t ∙ h.sees.tables) ∙ ap (place_in (current p.journal).tables) e in
     let same : os ≡ inserts (place_in (current p.journal).tables name) p.next_id (values ∷ []) = is ∙ ap (λ place. inserts place p.next_id (values ∷ [])) here in
-    gives_change p sight session (Insert name values) false os 1 None reply q h (subst (λ os. Makes p session (Insert name values) false os 1 None) (sym same) (insert_makes p session name values)) g
+    gives_change p sight session (Insert name values) false os 1 None reply q h (makes_same p session (Insert name values) false _ os 1 1 None None same refl refl (insert_makes p session name values)) g
 
 -- the rows that are loaded, in the words of the statement
 rows_are : (p : Plain) (sight : Known) (session : ℕ) (name : List ℕ) (values : List Value) (ts : List Table) (n : List ℕ) → Allowed p sight session (Bulk name values) → ts ≡ sight.tables.items → n ≡ name → rows_of (length (columns_in ts n)) values ≡ rows_of (length (columns_in (current p.journal).tables name)) values
@@ -106,18 +106,18 @@ pub bulk_gives : (p : Plain) (sight : Known) (session : ℕ) (name : List ℕ) (
 bulk_gives p sight session name values ts n place rows os reply q h t e at count is g =
     let here : place ≡ place_in (current p.journal).tables name = at ∙ ap (λ ts. place_in ts n) (t ∙ h.sees.tables) ∙ ap (place_in (current p.journal).tables) e in
     let cut = rows_are p sight session name values ts n h t e in
-    let same : os ≡ inserts (place_in (current p.journal).tables name) p.next_id (rows_of (length (columns_in (current p.journal).tables name)) values) = is ∙ ap (λ place. inserts place p.next_id _) here ∙ ap (inserts (place_in (current p.journal).tables name) p.next_id) cut in
+    let same : os ≡ inserts (place_in (current p.journal).tables name) p.next_id (rows_of (length (columns_in (current p.journal).tables name)) values) = is ∙ ap (λ place. inserts place p.next_id (rows_of (length (columns_in ts n)) values)) here ∙ ap (inserts (place_in (current p.journal).tables name) p.next_id) cut in
     let many : rows ≡ length (rows_of (length (columns_in (current p.journal).tables name)) values) = count ∙ ap length cut in
     gives_change p sight session (Bulk name values) true os rows None reply q h
-    (subst (λ os. Makes p session (Bulk name values) true os rows None) (sym same) (subst (λ rows. Makes p session (Bulk name values) true _ rows None) (sym many) (bulk_makes p session name values))) g
+    (makes_same p session (Bulk name values) true _ os _ rows None None same many refl (bulk_makes p session name values)) g
 
 pub bulk_full : (p : Plain) (sight : Known) (session : ℕ) (name : List ℕ) (values : List Value) (ts : List Table) (n : List ℕ) (rows : ℕ) (reply : Reply) (q : Plain) → Allowed p sight session (Bulk name values) → ts ≡ sight.tables.items → n ≡ name
     → rows ≡ length (rows_of (length (columns_in ts n)) values) → has_ids (view p session) rows ≡ false → Gives (refuses p refusals.Full) reply q → Gives (step p session (Bulk name values)) reply q
-bulk_full p sight session name values ts n rows reply q h t e count no g =
+bulk_full p sight session name values ts n rows reply q h t e count lacks g =
     let news = rows_of (length (columns_in ts n)) values in
     let os = inserts (place_in ts n) p.next_id news in
     let many : inserts_of os ≡ rows = inserts_of-inserts (place_in ts n) p.next_id news ∙ sym count in
-    bulk_gives p sight session name values ts n (place_in ts n) rows os reply q h t e refl count refl (gives_full p session true os rows None reply q (ap (has_ids (view p session)) many ∙ no) g)
+    bulk_gives p sight session name values ts n (place_in ts n) rows os reply q h t e refl count refl (gives_full p session true os rows None reply q (ap (has_ids (view p session)) many ∙ lacks) g)
 
 -- the rows that a statement finds, in the words of the statement
 found_are : (p : Plain) (sight : Known) (session : ℕ) (name n : List ℕ) (preds ps : List Pred) (ts : List Table) (rows : List (ℕ × Stored)) → IsSight sight p session → ts ≡ sight.tables.items → rows ≡ sight.rows.items → n ≡ name → ps ≡ preds
@@ -135,7 +135,7 @@ delete_gives p sight session name n preds ps ts seen_now hits place rows taken o
     let many : rows ≡ length (found (current p.journal).tables (finmap.entries (seen p session)) name preds) = count ∙ ap length all in
     let one : taken ≡ first_taken (is_taken p session) (found (current p.journal).tables (finmap.entries (seen p session)) name preds) = first ∙ ap (first_taken (is_taken p session)) all in
     gives_change p sight session (Delete name preds) false os rows taken reply q h
-    (subst (λ os. Makes p session (Delete name preds) false os rows taken) (sym same) (subst (λ rows. Makes p session (Delete name preds) false _ rows taken) (sym many) (subst (λ taken. Makes p session (Delete name preds) false _ _ taken) (sym one) (delete_makes p session name preds)))) g
+    (makes_same p session (Delete name preds) false _ os _ rows _ taken same many one (delete_makes p session name preds)) g
 
 pub update_gives : (p : Plain) (sight : Known) (session : ℕ) (name n column c : List ℕ) (value : Value) (preds ps : List Pred) (ts : List Table) (columns : List Column) (seen_now hits : List (ℕ × Stored)) (place rows : ℕ) (taken : Option ℕ) (os : List Op) (reply : Reply) (q : Plain) → Allowed p sight session (Update name column value preds)
     → ts ≡ sight.tables.items → seen_now ≡ sight.rows.items → n ≡ name → c ≡ column → ps ≡ preds → hits ≡ found ts seen_now n ps → place ≡ place_in ts n → columns ≡ columns_in ts n → rows ≡ length hits → taken ≡ first_taken (is_taken p session) hits
@@ -150,13 +150,13 @@ update_gives p sight session name n column c value preds ps ts columns seen_now 
     let many : rows ≡ length (found (current p.journal).tables (finmap.entries (seen p session)) name preds) = count ∙ ap length all in
     let one : taken ≡ first_taken (is_taken p session) (found (current p.journal).tables (finmap.entries (seen p session)) name preds) = first ∙ ap (first_taken (is_taken p session)) all in
     gives_change p sight session (Update name column value preds) false os rows taken reply q h
-    (subst (λ os. Makes p session (Update name column value preds) false os rows taken) (sym same) (subst (λ rows. Makes p session (Update name column value preds) false _ rows taken) (sym many) (subst (λ taken. Makes p session (Update name column value preds) false _ _ taken) (sym one) (update_makes p session name column value preds)))) g
+    (makes_same p session (Update name column value preds) false _ os _ rows _ taken same many one (update_makes p session name column value preds)) g
 
 pub update_full : (p : Plain) (sight : Known) (session : ℕ) (name n column : List ℕ) (value : Value) (preds ps : List Pred) (ts : List Table) (seen_now hits : List (ℕ × Stored)) (rows : ℕ) (reply : Reply) (q : Plain) → Allowed p sight session (Update name column value preds)
     → ts ≡ sight.tables.items → seen_now ≡ sight.rows.items → n ≡ name → ps ≡ preds → hits ≡ found ts seen_now n ps → rows ≡ length hits → has_ids (view p session) rows ≡ false
     → Gives (refuses p refusals.Full) reply q → Gives (step p session (Update name column value preds)) reply q
-update_full p sight session name n column value preds ps ts seen_now hits rows reply q h t r e f found_is count no g =
+update_full p sight session name n column value preds ps ts seen_now hits rows reply q h t r e f found_is count lacks g =
     let os = updates (place_in ts n) p.next_id (changed_value (columns_in ts n) column value) hits in
     let many : inserts_of os ≡ rows = inserts_of-updates (place_in ts n) p.next_id (changed_value (columns_in ts n) column value) hits ∙ sym count in
     update_gives p sight session name n column column value preds ps ts (columns_in ts n) seen_now hits (place_in ts n) rows (first_taken (is_taken p session) hits) os reply q h t r e refl f found_is refl refl count refl refl
-    (gives_full p session false os rows (first_taken (is_taken p session) hits) reply q (ap (has_ids (view p session)) many ∙ no) g)
+    (gives_full p session false os rows (first_taken (is_taken p session) hits) reply q (ap (has_ids (view p session)) many ∙ lacks) g)

@@ -14,6 +14,7 @@ mod rows;
 mod session;
 mod shapes;
 mod sight;
+mod spelled;
 mod stages;
 mod step;
 mod taken;
@@ -21,3 +22,4 @@ mod values;
 mod writes;
 
 pub use oracle::Oracle;
+pub use spelled::is_spelled;

@@ -35,7 +35,7 @@ fn seen_inside(
 ) -> Result<Known, AllocError>
     requires plain { IsPlain (plain_of held.now) }
     requires since { own.now.snapshot ≤ length held.now.entries.items }
-    ensures tables { IfOk result (λ sight. sight.tables ≡ now.tables) }
+    ensures tables { IfOk result (λ sight. sight.tables.items ≡ now.tables.items) }
     ensures commits { IfOk result (λ sight. sight.commits ≡ now.commits) }
     ensures rows { IfOk result (λ sight. sight.rows.items ≡ finmap.entries (seen_by (plain_of held.now).journal (Some own.now))) }
 {

@@ -30,7 +30,10 @@ pub fn stepped(
     let sight = sight_of(alloc, held, session)?;
     let is_open = held.own(session).is_some();
     match early(sight.tables.as_slice(), is_open, st) {
-        Some(why) => refused(alloc, held, why),
+        Some(why) => {
+            let out = refused(alloc, held, why)?;
+            Ok(out)
+        }
         None => allowed(alloc, held, &sight, session, st),
     }
 }

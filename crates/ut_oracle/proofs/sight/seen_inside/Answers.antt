@@ -9,5 +9,5 @@ use Rattle.ut_oracle.proofs.sight.seen_inside.Goals as goal
 
 pub returns-clause-rows : goal.returns-clause-rows
 returns-clause-rows c =
-    let known : IsKnown c.in_ok-then.then (after_all empty_state (take c.args.own.now.snapshot c.args.held.now.entries.items)) = subst (λ es. IsKnown c.in_ok-then.then (after_all empty_state es)) ? c.in_ok-then.ensures.state in
+    let known : IsKnown c.in_ok-then.then (after_all empty_state (take c.args.own.now.snapshot c.args.held.now.entries.items)) = grind (arith, common_steps, c.in_ok-then.ensures.state) in
     seen_rows c.args.held.now.entries.items c.args.own.now _ c.in_ok-then.then known (c.in_ok-apply_all.ensures ∙ ap (listed_all c.in_ok-then.then.rows.items) c.as_slice.ensures)
