@@ -68,12 +68,7 @@ fn no_stages(alloc: Global) -> TableStages
 }
 
 /// `begin`
-pub fn begin(
-    alloc: Global,
-    held: &Held,
-    sight: &Known,
-    session: u8,
-) -> Result<Outcome, AllocError>
+pub fn begin(alloc: Global, held: &Held, sight: &Known, session: u8) -> Result<Outcome, AllocError>
     requires { Allowed (plain_of held.now) sight.now session Statement.Begin }
     ensures { IfOk result (λ out. Gives (step (plain_of held.now) session Statement.Begin) out.reply (plain_of out.held)) }
 {
@@ -90,12 +85,7 @@ pub fn begin(
 }
 
 /// `abort`
-pub fn abort(
-    alloc: Global,
-    held: &Held,
-    sight: &Known,
-    session: u8,
-) -> Result<Outcome, AllocError>
+pub fn abort(alloc: Global, held: &Held, sight: &Known, session: u8) -> Result<Outcome, AllocError>
     requires { Allowed (plain_of held.now) sight.now session Statement.Abort }
     ensures { IfOk result (λ out. Gives (step (plain_of held.now) session Statement.Abort) out.reply (plain_of out.held)) }
 {
@@ -108,12 +98,7 @@ pub fn abort(
 }
 
 /// `commit`
-pub fn commit(
-    alloc: Global,
-    held: &Held,
-    sight: &Known,
-    session: u8,
-) -> Result<Outcome, AllocError>
+pub fn commit(alloc: Global, held: &Held, sight: &Known, session: u8) -> Result<Outcome, AllocError>
     requires { Allowed (plain_of held.now) sight.now session Statement.Commit }
     ensures { IfOk result (λ out. Gives (step (plain_of held.now) session Statement.Commit) out.reply (plain_of out.held)) }
 {

@@ -88,8 +88,14 @@ fn is_row(table: &Name, values: &[Value]) -> bool
 fn are_some_values(values: &[Value]) -> bool
     ensures { result ≡ are_some_values values.now }
 {
-    let all = values.iter().all(|value| is_value(value));
+    let all = are_values(values);
     1 <= values.len() && all
+}
+
+fn are_values(values: &[Value]) -> bool
+    ensures { result ≡ list_all is_value values.now }
+{
+    values.iter().all(|value| is_value(value))
 }
 
 fn is_pred(pred: &Pred) -> bool
@@ -128,8 +134,14 @@ fn are_names(names: &Option<Seq<Name>>) -> bool
 fn are_some_names(names: &[Name]) -> bool
     ensures { result ≡ (nat_le 1 (length names.now) && list_all is_name names.now) }
 {
-    let all = names.iter().all(|name| is_name(name));
+    let all = all_names(names);
     1 <= names.len() && all
+}
+
+fn all_names(names: &[Name]) -> bool
+    ensures { result ≡ list_all is_name names.now }
+{
+    names.iter().all(|name| is_name(name))
 }
 
 fn is_query(query: &Query) -> bool
@@ -168,8 +180,6 @@ fn is_query(query: &Query) -> bool
             left_column,
             right,
             right_column,
-        } => {
-            is_name(left) && is_name(left_column) && is_name(right) && is_name(right_column)
-        }
+        } => { is_name(left) && is_name(left_column) && is_name(right) && is_name(right_column) }
     }
 }

@@ -12,9 +12,7 @@ use crate::shapes::{merge_l1, shape};
 use crate::sight::sight_of;
 use crate::writes::{bulk, delete, insert, update};
 use std::alloc::{AllocError, Global};
-use ut_plain::{
-    Query, Refusal, Statement, Table, is_supported, kinds_fit, names_known, state_why,
-};
+use ut_plain::{Query, Refusal, Statement, Table, is_supported, kinds_fit, names_known, state_why};
 
 /// What a statement of a session comes to.
 pub fn stepped(
@@ -80,9 +78,7 @@ fn allowed(
             column,
             value,
             preds,
-        } => update(
-            alloc, held, sight, session, table, column, value, preds,
-        ),
+        } => update(alloc, held, sight, session, table, column, value, preds),
         Statement::Delete { table, preds } => delete(alloc, held, sight, session, table, preds),
         Statement::Begin => begin(alloc, held, sight, session),
         Statement::Commit => commit(alloc, held, sight, session),
