@@ -12,21 +12,11 @@ const LAST_SESSION: u8 = 16;
 /// A store that answers lines.
 pub trait Answers {
     /// Puts the answer to a line at the end. A comment has none.
-    fn answer(
-        &mut self,
-        alloc: Global,
-        line: &[u8],
-        out: &mut Vec<u8>,
-    ) -> Result<(), AllocError>;
+    fn answer(&mut self, alloc: Global, line: &[u8], out: &mut Vec<u8>) -> Result<(), AllocError>;
 }
 
 impl Answers for Oracle {
-    fn answer(
-        &mut self,
-        alloc: Global,
-        line: &[u8],
-        out: &mut Vec<u8>,
-    ) -> Result<(), AllocError> {
+    fn answer(&mut self, alloc: Global, line: &[u8], out: &mut Vec<u8>) -> Result<(), AllocError> {
         let syntax = Reply::Refused(Refusal::Syntax);
         match parse_line(alloc, line, false) {
             Err(_) => Err(AllocError),

@@ -1,9 +1,8 @@
 //! Worked rows: lines and their replies, to be run on a store.
 #![tactic(auto)]
 
-pub mod rows;
-
 mod answers;
+pub mod rows;
 mod scripts;
 
 pub use answers::{Answers, first_apart, first_wrong};

@@ -69,7 +69,10 @@ pub const PAIRS_ARE_JOINED_AND_GROUPS_SUMMED: &[Row] = &[
     ("1 create U b:int c:text", "1 ok commit 2"),
     ("1 bulk T 2 1 2", "1 ok 3 commit 3"),
     ("1 bulk U 2 'x' 2 'y'", "1 ok 2 commit 4"),
-    ("1 join T a U b", "1 rows 4\n2 2 'x'\n2 2 'y'\n2 2 'x'\n2 2 'y'"),
+    (
+        "1 join T a U b",
+        "1 rows 4\n2 2 'x'\n2 2 'y'\n2 2 'x'\n2 2 'y'",
+    ),
     ("1 join T a U c", "1 refused type"),
     ("1 create V k:int w:int", "1 ok commit 5"),
     ("1 bulk V 1 5 0 -7 1 2", "1 ok 3 commit 6"),

@@ -18,7 +18,8 @@ struct Dice {
 impl Dice {
     /// The dice of one line.
     fn new(seed: u64, line: u32) -> Dice {
-        let mixed = seed.wrapping_mul(6364136223846793005) ^ u64::from(line).wrapping_mul(1442695040888963407);
+        let mixed = seed.wrapping_mul(6364136223846793005)
+            ^ u64::from(line).wrapping_mul(1442695040888963407);
         let mut dice = Dice { state: mixed | 1 };
         for _ in 0..4 {
             dice.turn();

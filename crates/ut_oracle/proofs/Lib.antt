@@ -10,3 +10,4 @@ pub mod TakenLemmas
 pub mod WriteLemmas
 pub mod PartLemmas
 pub mod ShapeLemmas
+pub mod ReplayLemmas

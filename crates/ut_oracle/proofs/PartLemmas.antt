@@ -1,5 +1,6 @@
 -- No statement makes a part of main.
-use Rattle.std.proofs.Common.{◌≡◌, ℕ, zero, suc, Bool, true, false, ◌&&◌, List, [], ◌∷◌, ◌++◌, set, Option, None, Some, refl, sym, subst, IsTrue}
+use Rattle.std.proofs.Common.{◌≡◌, ◌≤◌, ◌∙◌, ℕ, zero, suc, Bool, true, false, ◌&&◌, nat_eq, List, [], ◌∷◌, ◌++◌, length, map, set, ap, arith, Option, None, Some, refl, sym, subst, IsTrue}
+use Rattle.std.proofs.lemmas.List.{length-map}
 use Rattle.std.specs.Option.{unwrap_or}
 use Rattle.std.specs.List.{list_all, slice_get}
 use Rattle.ut_value.specs.declared.entry.Op.{Op}
@@ -14,7 +15,10 @@ use Rattle.ut_plain.specs.declared.reply.Refusal.{Refusal}
 use Rattle.ut_plain.specs.Tables.{place_in}
 use Rattle.ut_plain.specs.Journal.{current}
 use Rattle.ut_plain.specs.Stages.{Stages, no_stages, stages_at, with_stages, with_inserts, entered, placed, moved}
-use Rattle.ut_plain.specs.Plain.{Plain, open_at}
+use Rattle.ut_value.specs.declared.entry.Entry.{Entry}
+use Rattle.ut_value.specs.declared.entry.Entry.TheVariants as entries
+use Rattle.ut_plain.specs.Restart.{buried, with_dead, replayed_ops, replayed}
+use Rattle.ut_plain.specs.Plain.{Plain, open_at, opened_store}
 use Rattle.ut_plain.specs.View.{view}
 use Rattle.ut_plain.specs.Made.{made}
 use Rattle.ut_plain.specs.Refusals.{refusal}
@@ -23,8 +27,9 @@ use Rattle.ut_plain.proofs.BoolLemmas.{and_left, and_right}
 use Rattle.ut_plain.proofs.ListLemmas.{list_all_set, list_all_append}
 use Rattle.ut_plain.specs.Spelled.{is_spelled}
 use Rattle.ut_plain.specs.Reached.{IsPlain}
-use Rattle.ut_plain.specs.Laws.{StepIsPlain}
+use Rattle.ut_plain.specs.Laws.{StepIsPlain, OpenedStoreIsPlain}
 use Rattle.ut_plain.specs.declared.reply.Reply.{Reply}
+use Rattle.ut_oracle.proofs.ReplayLemmas.{load_few}
 use Rattle.ut_oracle.specs.declared.held.Held.{Held}
 use Rattle.ut_oracle.specs.Store.{plain_of, has_no_part, have_no_part, IsHeld, Gives}
 
@@ -83,4 +88,29 @@ pub held_step : (old new : Held) (session : ℕ) (st : Statement) (reply : Reply
 held_step old new session st reply law h spelled g = record {
   plain = subst IsPlain (sym g.state) (law (plain_of old) session st h.plain spelled);
   parts = subst (λ (p : Plain). IsTrue (have_no_part p.stages)) (sym g.state) (parts-step (plain_of old) session st h.parts);
+}
+
+-- ---- a store that is opened
+
+parts-with_dead : (id : ℕ) (t : TableStages) → IsTrue (has_no_part t) → IsTrue (has_no_part (with_dead id t))
+parts-with_dead id t h = ap (λ n. nat_eq n 0) (length-map t.parts (map (buried id))) ∙ h
+
+parts-replayed_ops : (stages : Stages) (os : List Op) → IsTrue (have_no_part stages) → IsTrue (have_no_part (replayed_ops stages os))
+parts-replayed_ops stages [] h = h
+parts-replayed_ops stages (ops.Insert table id values ∷ os) h =
+    parts-replayed_ops (with_stages (entered false (placed id values)) table stages) os (list_all_set has_no_part stages table (entered false (placed id values) (stages_at stages table)) h (parts_at stages table h))
+parts-replayed_ops stages (ops.Delete table id ∷ os) h =
+    parts-replayed_ops (with_stages (with_dead id) table stages) os (list_all_set has_no_part stages table (with_dead id (stages_at stages table)) h (parts-with_dead id (stages_at stages table) (parts_at stages table h)))
+
+parts-replayed : (stages : Stages) (es : List Entry) → IsTrue (have_no_part stages) → IsTrue (have_no_part (replayed stages es))
+parts-replayed stages [] h = h
+parts-replayed stages (entries.Create name columns ∷ es) h = parts-replayed (stages ++ no_stages ∷ []) es (list_all_append has_no_part stages (no_stages ∷ []) h refl)
+parts-replayed stages (entries.Txn os ∷ es) h = parts-replayed (replayed_ops stages os) es (parts-replayed_ops stages os h)
+parts-replayed stages (entries.Begun n table kind ∷ es) h = parts-replayed stages es h
+parts-replayed stages (entries.Ended n ∷ es) h = parts-replayed stages es h
+
+pub held_opened : (old new : Held) (limit : ℕ) → OpenedStoreIsPlain → IsHeld old → limit ≤ 2147483648 → plain_of new ≡ opened_store [] (plain_of old).journal limit → IsHeld new
+held_opened old new limit law h few e = record {
+  plain = subst IsPlain (sym e) (law [] (plain_of old).journal limit (record { base = h.plain.base; journal = h.plain.journal; short = h.plain.short; load = load_few (plain_of old) h.plain; staged = refl; places = omega arith }) few);
+  parts = subst (λ (p : Plain). IsTrue (have_no_part p.stages)) (sym e) (parts-replayed [] old.entries.items refl);
 }

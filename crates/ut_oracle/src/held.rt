@@ -88,7 +88,8 @@ impl Held {
     }
 }
 
-fn nobody(alloc: Global) -> Result<Vec<Option<OpenTransaction>>, AllocError>
+/// No open transactions.
+pub fn nobody(alloc: Global) -> Result<Vec<Option<OpenTransaction>>, AllocError>
     ensures { IfOk result (λ sessions. sessions.items ≡ no_sessions) }
 {
     let mut sessions = Vec::new(alloc);
@@ -98,7 +99,8 @@ fn nobody(alloc: Global) -> Result<Vec<Option<OpenTransaction>>, AllocError>
     Ok(sessions)
 }
 
-fn entries_copied(alloc: Global, entries: &[Entry]) -> Result<Vec<Entry>, AllocError>
+/// A copy of the entries.
+pub fn entries_copied(alloc: Global, entries: &[Entry]) -> Result<Vec<Entry>, AllocError>
     ensures { IfOk result (λ copy. copy.items ≡ entries.now) }
 {
     let mut copies = Vec::new(alloc);

@@ -9,6 +9,8 @@ mod made;
 mod oracle;
 mod outcome;
 mod query;
+mod reopen;
+mod replay;
 mod room;
 mod rows;
 mod session;

@@ -1,12 +1,13 @@
 //! The store as its sessions know it.
-ghost use Rattle.std.specs.Prelude.{◌≡◌, ◌≤◌, ◌<◌, IsTrue, IfOk, OnErr};
-ghost use Rattle.ut_plain.specs.Plain.{new_store};
+ghost use Rattle.std.specs.Prelude.{◌≡◌, ◌≤◌, ◌<◌, [], IsTrue, IfOk, OnErr};
+ghost use Rattle.ut_plain.specs.Plain.{new_store, opened_store};
 ghost use Rattle.ut_plain.specs.Spelled.{is_spelled};
 ghost use Rattle.ut_plain.specs.Step.{step};
 ghost use Rattle.ut_oracle.specs.Store.{Gives};
 
 use crate::held::Held;
 use crate::outcome::Outcome;
+use crate::reopen::reopened;
 use crate::step::stepped;
 use std::alloc::{AllocError, Global};
 use std::marker::Model;
@@ -44,6 +45,16 @@ impl Oracle {
     {
         plain_laws();
         let held = Held::new(alloc, rows_limit)?;
+        Ok(Oracle { held })
+    }
+
+    /// The store that is opened with this one's journal, its open transactions forgotten.
+    pub fn reopened(&self, alloc: Global, rows_limit: u32) -> Result<Oracle, AllocError>
+        requires { rows_limit ≤ 2147483648 }
+        ensures { IfOk result (λ oracle. oracle ≡ opened_store [] self.now.journal rows_limit) }
+    {
+        plain_laws();
+        let held = reopened(alloc, &self.held, rows_limit)?;
         Ok(Oracle { held })
     }
 

@@ -55,7 +55,8 @@ fn created(
     })
 }
 
-fn no_stages(alloc: Global) -> TableStages
+/// A table without rows.
+pub fn no_stages(alloc: Global) -> TableStages
     ensures { result ≡ no_stages }
 {
     TableStages {

@@ -28,7 +28,8 @@ fn enter(stage: &mut TableStages, bulk: bool, row: Placed) -> Result<(), AllocEr
     }
 }
 
-fn place_row(
+/// The stages with the row that an operation inserts.
+pub fn place_row(
     alloc: Global,
     stages: &mut Vec<TableStages>,
     bulk: bool,
