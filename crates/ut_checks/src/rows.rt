@@ -263,3 +263,34 @@ pub const FULL_COMES_BEFORE_CONFLICT: &[Row] = &[
     ("1 delete T where k = 1", "1 refused conflict 1"),
     ("1 commit", "1 ok"),
 ];
+
+/// The store of the selected row, opened again.
+pub const THE_ROW_IS_THERE_AGAIN: &[Row] = &[
+    ("1 select T *", "1 rows 1\n5 'a'"),
+    ("0 shape T", "0 shape l1 1 l2 0 closed none parts none"),
+];
+
+/// The store with rows in two stages, opened again: all stand in the first.
+pub const ALL_ROWS_STAND_IN_THE_FIRST_STAGE: &[Row] = &[
+    ("0 shape T", "0 shape l1 3 l2 0 closed none parts none"),
+    ("1 select T *", "1 rows 3\n1\n2\n3"),
+];
+
+/// A transaction that is open where the input ends.
+pub const A_TRANSACTION_STAYS_OPEN: &[Row] = &[
+    ("1 create T k:int", "1 ok commit 1"),
+    ("1 insert T 1", "1 ok 1 commit 2"),
+    ("1 delete T", "1 ok 1 commit 3"),
+    ("1 begin", "1 ok"),
+    ("1 insert T 2", "1 ok 1"),
+];
+
+/// Its store, opened again: the transaction is forgotten, its id given again, and the deleted row keeps its place.
+pub const AN_OPEN_TRANSACTION_IS_FORGOTTEN: &[Row] = &[
+    ("0 shape T", "0 shape l1 1 l2 0 closed none parts none"),
+    ("1 commit", "1 refused closed"),
+    ("1 count T", "1 count 0"),
+    ("1 insert T 8", "1 ok 1 commit 4"),
+    ("1 insert T 9", "1 refused full"),
+    ("1 select T *", "1 rows 1\n8"),
+];

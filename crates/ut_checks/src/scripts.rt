@@ -6,8 +6,15 @@ use std::alloc::AllocError;
 /// So many lines has a script.
 pub const LINES: u32 = 60;
 
-/// The tables that a script makes first.
-const CREATES: [&str; 2] = ["1 create T k:int v:int", "2 create U k:int v:text"];
+/// The first lines of each script: two tables with rows, and two open transactions.
+const FIRST: [&str; 6] = [
+    "1 create T k:int v:int",
+    "2 create U k:int v:text",
+    "1 bulk T 0 7 1 7 2 -3 3 -3",
+    "2 bulk U 0 'a' 1 'b' 2 'a' 3 'b'",
+    "1 begin",
+    "2 begin",
+];
 
 /// Numbers that follow from a seed, by xorshift.
 #[derive(Drop)]
@@ -45,17 +52,18 @@ impl Dice {
 
 /// Puts a line of the script of a seed at the end of `out`.
 pub fn script_line(seed: u64, line: u32, out: &mut Vec<u8>) -> Result<(), AllocError> {
-    if line < 2 {
-        return put(out, CREATES[line as usize]);
+    if line < 6 {
+        return put(out, FIRST[line as usize]);
     }
     let mut dice = Dice::new(seed, line);
     if dice.digit(8) == 0 {
         return put_store(&mut dice, out);
     }
     put_digit(out, 1 + dice.digit(4))?;
-    match dice.digit(4) {
+    match dice.digit(8) {
         0 => put_transaction(&mut dice, out),
         1 => put_question(&mut dice, out),
+        2 => put_question(&mut dice, out),
         _ => put_change(&mut dice, out),
     }
 }
@@ -77,14 +85,16 @@ fn put_table(dice: &mut Dice, out: &mut Vec<u8>) -> Result<(), AllocError> {
     }
 }
 
-/// A key and a value, which half of the tables have.
-fn put_row(dice: &mut Dice, out: &mut Vec<u8>) -> Result<(), AllocError> {
+/// A key and a value, now and then of the wrong kind.
+fn put_row(dice: &mut Dice, is_text: bool, out: &mut Vec<u8>) -> Result<(), AllocError> {
     put(out, " ")?;
     put_digit(out, dice.digit(4))?;
-    match dice.digit(3) {
-        0 => put(out, " 'a'"),
-        1 => put(out, " 7"),
-        _ => put(out, " -3"),
+    let is_wrong = dice.digit(16) == 0;
+    match (is_text != is_wrong, dice.digit(2)) {
+        (true, 0) => put(out, " 'a'"),
+        (true, _) => put(out, " 'b'"),
+        (false, 0) => put(out, " 7"),
+        (false, _) => put(out, " -3"),
     }
 }
 
@@ -114,11 +124,11 @@ fn put_store(dice: &mut Dice, out: &mut Vec<u8>) -> Result<(), AllocError> {
 }
 
 fn put_transaction(dice: &mut Dice, out: &mut Vec<u8>) -> Result<(), AllocError> {
-    match dice.digit(5) {
-        0 => put(out, " begin"),
-        1 => put(out, " begin"),
-        2 => put(out, " abort"),
-        _ => put(out, " commit"),
+    match dice.digit(6) {
+        0 => put(out, " abort"),
+        1 => put(out, " commit"),
+        2 => put(out, " commit"),
+        _ => put(out, " begin"),
     }
 }
 
@@ -143,29 +153,28 @@ fn put_question(dice: &mut Dice, out: &mut Vec<u8>) -> Result<(), AllocError> {
 }
 
 fn put_change(dice: &mut Dice, out: &mut Vec<u8>) -> Result<(), AllocError> {
-    match dice.digit(4) {
-        0 => put_insert(dice, out),
-        1 => put_load(dice, out),
-        2 => put_update(dice, out),
-        _ => {
+    match dice.digit(8) {
+        0 => put_rows(dice, 1, out),
+        1 => put_rows(dice, 1, out),
+        2 => put_rows(dice, 2, out),
+        3 => {
             put(out, " delete")?;
             put_table(dice, out)?;
             put_condition(dice, out)
         }
+        _ => put_update(dice, out),
     }
 }
 
-fn put_insert(dice: &mut Dice, out: &mut Vec<u8>) -> Result<(), AllocError> {
-    put(out, " insert")?;
-    put_table(dice, out)?;
-    put_row(dice, out)
-}
-
-fn put_load(dice: &mut Dice, out: &mut Vec<u8>) -> Result<(), AllocError> {
-    put(out, " bulk")?;
-    put_table(dice, out)?;
-    put_row(dice, out)?;
-    put_row(dice, out)
+/// One row is inserted, more are loaded.
+fn put_rows(dice: &mut Dice, rows: u8, out: &mut Vec<u8>) -> Result<(), AllocError> {
+    let is_text = dice.digit(2) == 0;
+    put(out, if rows == 1 { " insert" } else { " bulk" })?;
+    put(out, if is_text { " U" } else { " T" })?;
+    for _ in 0..rows {
+        put_row(dice, is_text, out)?;
+    }
+    Ok(())
 }
 
 fn put_update(dice: &mut Dice, out: &mut Vec<u8>) -> Result<(), AllocError> {

@@ -1,8 +1,11 @@
 //! Each table of rows on the slow store.
-use crate::answers::first_wrong;
+use crate::answers::{first_apart, first_wrong};
 use crate::rows;
+use crate::scripts::{LINES, script_line};
 use std::test::Fail;
 use ut_oracle::Oracle;
+use ut_plain::Parsed;
+use ut_script::parse_line;
 
 /// Ids enough for any table.
 const AMPLE: u32 = 1000;
@@ -212,5 +215,55 @@ fn full_comes_before_conflict(rt: HostRuntime) -> Result<(), Fail> {
         first_wrong(rt.alloc(), &mut store, rows::FULL_COMES_BEFORE_CONFLICT)?,
         None
     );
+    Ok(())
+}
+
+#[test]
+fn the_row_is_there_again(rt: HostRuntime) -> Result<(), Fail> {
+    let mut store = Oracle::new(rt.alloc(), AMPLE)?;
+    assert_eq!(rt; first_wrong(rt.alloc(), &mut store, rows::A_ROW_IS_SELECTED)?, None);
+    let mut again = store.reopened(rt.alloc(), AMPLE)?;
+    assert_eq!(rt; first_wrong(rt.alloc(), &mut again, rows::THE_ROW_IS_THERE_AGAIN)?, None);
+    Ok(())
+}
+
+#[test]
+fn all_rows_stand_in_the_first_stage(rt: HostRuntime) -> Result<(), Fail> {
+    let mut store = Oracle::new(rt.alloc(), AMPLE)?;
+    assert_eq!(rt; first_wrong(rt.alloc(), &mut store, rows::ROWS_STAND_IN_TWO_STAGES)?, None);
+    let mut again = store.reopened(rt.alloc(), AMPLE)?;
+    assert_eq!(
+        rt; first_wrong(rt.alloc(), &mut again, rows::ALL_ROWS_STAND_IN_THE_FIRST_STAGE)?, None
+    );
+    Ok(())
+}
+
+#[test]
+fn an_open_transaction_is_forgotten(rt: HostRuntime) -> Result<(), Fail> {
+    let mut store = Oracle::new(rt.alloc(), AMPLE)?;
+    assert_eq!(rt; first_wrong(rt.alloc(), &mut store, rows::A_TRANSACTION_STAYS_OPEN)?, None);
+    let mut again = store.reopened(rt.alloc(), 2)?;
+    assert_eq!(
+        rt; first_wrong(rt.alloc(), &mut again, rows::AN_OPEN_TRANSACTION_IS_FORGOTTEN)?, None
+    );
+    Ok(())
+}
+
+#[test]
+fn scripts_are_lines_of_the_grammar(rt: HostRuntime) -> Result<(), Fail> {
+    for number in 0..LINES {
+        let mut line = Vec::new(rt.alloc());
+        script_line(7, number, &mut line)?;
+        let parsed = parse_line(rt.alloc(), line.as_slice(), false)?;
+        assert!(rt; matches!(parsed, Parsed::Good(_, _)), "line {number}");
+    }
+    Ok(())
+}
+
+#[test]
+fn alike_stores_answer_alike(rt: HostRuntime) -> Result<(), Fail> {
+    let mut one = Oracle::new(rt.alloc(), AMPLE)?;
+    let mut other = Oracle::new(rt.alloc(), AMPLE)?;
+    assert_eq!(rt; first_apart(rt.alloc(), &mut one, &mut other, 7)?, None);
     Ok(())
 }
