@@ -221,19 +221,33 @@ fn full_comes_before_conflict(rt: HostRuntime) -> Result<(), Fail> {
 #[test]
 fn the_row_is_there_again(rt: HostRuntime) -> Result<(), Fail> {
     let mut store = Oracle::new(rt.alloc(), AMPLE)?;
-    assert_eq!(rt; first_wrong(rt.alloc(), &mut store, rows::A_ROW_IS_SELECTED)?, None);
+    assert_eq!(rt;
+        first_wrong(rt.alloc(), &mut store, rows::A_ROW_IS_SELECTED)?,
+        None
+    );
     let mut again = store.reopened(rt.alloc(), AMPLE)?;
-    assert_eq!(rt; first_wrong(rt.alloc(), &mut again, rows::THE_ROW_IS_THERE_AGAIN)?, None);
+    assert_eq!(rt;
+        first_wrong(rt.alloc(), &mut again, rows::THE_ROW_IS_THERE_AGAIN)?,
+        None
+    );
     Ok(())
 }
 
 #[test]
 fn all_rows_stand_in_the_first_stage(rt: HostRuntime) -> Result<(), Fail> {
     let mut store = Oracle::new(rt.alloc(), AMPLE)?;
-    assert_eq!(rt; first_wrong(rt.alloc(), &mut store, rows::ROWS_STAND_IN_TWO_STAGES)?, None);
+    assert_eq!(rt;
+        first_wrong(rt.alloc(), &mut store, rows::ROWS_STAND_IN_TWO_STAGES)?,
+        None
+    );
     let mut again = store.reopened(rt.alloc(), AMPLE)?;
-    assert_eq!(
-        rt; first_wrong(rt.alloc(), &mut again, rows::ALL_ROWS_STAND_IN_THE_FIRST_STAGE)?, None
+    assert_eq!(rt;
+        first_wrong(
+            rt.alloc(),
+            &mut again,
+            rows::ALL_ROWS_STAND_IN_THE_FIRST_STAGE
+        )?,
+        None
     );
     Ok(())
 }
@@ -241,10 +255,18 @@ fn all_rows_stand_in_the_first_stage(rt: HostRuntime) -> Result<(), Fail> {
 #[test]
 fn an_open_transaction_is_forgotten(rt: HostRuntime) -> Result<(), Fail> {
     let mut store = Oracle::new(rt.alloc(), AMPLE)?;
-    assert_eq!(rt; first_wrong(rt.alloc(), &mut store, rows::A_TRANSACTION_STAYS_OPEN)?, None);
+    assert_eq!(rt;
+        first_wrong(rt.alloc(), &mut store, rows::A_TRANSACTION_STAYS_OPEN)?,
+        None
+    );
     let mut again = store.reopened(rt.alloc(), 2)?;
-    assert_eq!(
-        rt; first_wrong(rt.alloc(), &mut again, rows::AN_OPEN_TRANSACTION_IS_FORGOTTEN)?, None
+    assert_eq!(rt;
+        first_wrong(
+            rt.alloc(),
+            &mut again,
+            rows::AN_OPEN_TRANSACTION_IS_FORGOTTEN
+        )?,
+        None
     );
     Ok(())
 }

@@ -1,13 +1,11 @@
 -- What is known of states.
-use Rattle.std.proofs.Common.{◌≡◌, ℕ, ◌+◌, List, [], ◌∷◌, length, sym, ap, ◌∙◌, refl, arith}
+use Rattle.std.proofs.Common.{◌≡◌, ◌+◌, List, [], ◌∷◌, length, sym, ap, ◌∙◌, refl, arith}
 use Rattle.std.specs.Ordering.{nat_cmp}
 use Rattle.std.specs.FinMap as finmap
 use Rattle.ut_value.specs.declared.entry.Op.{Op}
 use Rattle.ut_value.specs.declared.entry.Entry.TheVariants as entries
-use Rattle.ut_plain.specs.declared.table.Table.{Table}
 use Rattle.ut_plain.specs.declared.table.Stored.{Stored}
-use Rattle.ut_plain.specs.Rows.{Rows}
-use Rattle.ut_plain.specs.State.{State, empty_state, after}
+use Rattle.ut_plain.specs.State.{empty_state}
 use Rattle.ut_oracle.specs.declared.known.Known.{Known}
 use Rattle.ut_oracle.specs.Listed.{listed_all}
 use Rattle.ut_oracle.specs.Known.{IsKnown, Follows}

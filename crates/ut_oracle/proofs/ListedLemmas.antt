@@ -1,13 +1,13 @@
 -- A row that is put in its place, and the operations on the list of rows.
-use Rattle.std.proofs.Common.{◌≡◌, ◌≢◌, ℕ, zero, suc, ◌+◌, ◌<◌, ◌≤◌, Bool, T, true, false, not, cond, List, [], ◌∷◌, ◌++◌, length, take, drop, set, get_or, Option, None, Some, refl, sym, ap, ◌∙◌, subst, arith, nat_eq, eqb-true, eq-eqb}
-use Rattle.std.specs.Ordering.{nat_cmp, eq_by_cmp, is_eq}
+use Rattle.std.proofs.Common.{◌≡◌, ℕ, zero, suc, ◌<◌, Bool, true, false, not, cond, List, [], ◌∷◌, ◌++◌, length, take, drop, set, get_or, Option, None, refl, sym, ap, ◌∙◌, arith, nat_eq}
+use Rattle.std.specs.Ordering.{nat_cmp}
 use Rattle.std.specs.Cmp.{nat_cmp_is, nat_cmp_total, unsigned_tied, ranked}
-use Rattle.std.specs.List.{filter, insert}
+use Rattle.std.specs.List.{filter}
 use Rattle.std.specs.FinMap as finmap
-use Rattle.std.specs.FinMap.{find, nat_cmp-IsAntisymmetric}
-use Rattle.std.specs.FinMap.Entries.{put, by_order, is_sorted, where_key, is_sorted-where_key, find-where_key, same_entries}
+use Rattle.std.specs.FinMap.{nat_cmp-IsAntisymmetric}
+use Rattle.std.specs.FinMap.Entries.{put, by_order, is_sorted-where_key, find-where_key, same_entries}
 use Rattle.std.specs.declared.cmp.Ordering.{Ordering}
-use Rattle.std.specs.declared.cmp.Ordering.TheVariants.{Less, Equal, Greater}
+use Rattle.std.specs.declared.cmp.Ordering.TheVariants.{Equal}
 use Rattle.ut_value.specs.declared.entry.Op.{Op}
 use Rattle.ut_value.specs.declared.entry.Op.TheVariants as ops
 use Rattle.ut_plain.specs.declared.table.Stored.{Stored}
@@ -16,27 +16,6 @@ use Rattle.ut_oracle.specs.Listed.{listed, listed_all}
 
 put_step : (id : ℕ) (v : Stored) (e : ℕ × Stored) (es : List (ℕ × Stored)) (o : Ordering) → nat_cmp id e.0 ≡ o → put nat_cmp id v (e ∷ es) ≡ by_order o ((id, v) ∷ e ∷ es) ((e.0, v) ∷ es) (e ∷ put nat_cmp id v es)
 put_step id v e es o h = ap (λ o. by_order o ((id, v) ∷ e ∷ es) ((e.0, v) ∷ es) (e ∷ put nat_cmp id v es)) h
-
-put_past : (rows : List (ℕ × Stored)) (i id : ℕ) (v : Stored) (d : ℕ × Stored) → i < length rows → (get_or rows i d).0 < id → take i rows ++ put nat_cmp id v (drop i rows) ≡ take (suc i) rows ++ put nat_cmp id v (drop (suc i) rows)
-put_past [] i id v d h k = absurd (omega arith)
-put_past (e ∷ es) zero id v d h k = put_step id v e es Greater (sym (nat_cmp_is id e.0 Greater k))
-put_past (e ∷ es) (suc i) id v d h k = ap (λ xs. e ∷ xs) (put_past es i id v d (omega arith) k)
-
--- the rows in front of a place are all before an id
-pub put_more : (rows : List (ℕ × Stored)) (i id : ℕ) (v : Stored) (d : ℕ × Stored) → i < length rows → (get_or rows i d).0 < id → put nat_cmp id v rows ≡ take i rows ++ put nat_cmp id v (drop i rows) → put nat_cmp id v rows ≡ take (i + 1) rows ++ put nat_cmp id v (drop (i + 1) rows)
-put_more rows i id v d h k p = let one : suc i ≡ i + 1 = omega arith in p ∙ put_past rows i id v d h k ∙ ap (λ n. take n rows ++ put nat_cmp id v (drop n rows)) one
-
-put_here : (rows : List (ℕ × Stored)) (i id : ℕ) (v : Stored) → ((d : ℕ × Stored) → i < length rows → id < (get_or rows i d).0) → take i rows ++ put nat_cmp id v (drop i rows) ≡ take i rows ++ (id, v) ∷ drop i rows
-put_here [] zero id v h = refl
-put_here [] (suc i) id v h = refl
-put_here (e ∷ es) zero id v h = put_step id v e es Less (sym (nat_cmp_is id e.0 Less (h e (omega arith))))
-put_here (e ∷ es) (suc i) id v h = ap (λ xs. e ∷ xs) (put_here es i id v (λ d lt. h d (omega arith)))
-
-pub put_new : (rows : List (ℕ × Stored)) (i id : ℕ) (v : Stored) → put nat_cmp id v rows ≡ take i rows ++ put nat_cmp id v (drop i rows) → ((d : ℕ × Stored) → i < length rows → id ≤ (get_or rows i d).0) → ((d : ℕ × Stored) → i < length rows → (get_or rows i d).0 ≢ id) → put nat_cmp id v rows ≡ insert rows i (id, v)
-put_new rows i id v p h n = p ∙ put_here rows i id v (λ d lt. lower id (get_or rows i d).0 (h d lt) (n d lt))
-  where
-    lower : (a b : ℕ) → a ≤ b → b ≢ a → a < b
-    lower a b le ne = omega arith
 
 put_same : (rows : List (ℕ × Stored)) (i id : ℕ) (v : Stored) (d : ℕ × Stored) → i < length rows → (get_or rows i d).0 ≡ id → take i rows ++ put nat_cmp id v (drop i rows) ≡ set rows i (id, v)
 put_same [] i id v d h k = absurd (omega arith)
@@ -47,15 +26,6 @@ pub put_over : (rows : List (ℕ × Stored)) (i id : ℕ) (v : Stored) (d : ℕ 
 put_over rows i id v d p h k = p ∙ put_same rows i id v d h k
 
 -- ---- the list of rows follows the map
-
-nat_eq_turned : (a b : ℕ) → nat_eq a b ≡ nat_eq b a
-nat_eq_turned a b = by (nat_eq a b) refl (nat_eq b a) refl
-  where
-    by : (x : Bool) → nat_eq a b ≡ x → (y : Bool) → nat_eq b a ≡ y → x ≡ y
-    by true e true f = refl
-    by true e false f = sym (eq-eqb b a (sym (eqb-true a b e))) ∙ f
-    by false e true f = sym e ∙ eq-eqb a b (sym (eqb-true b a f))
-    by false e false f = refl
 
 entries-remove : (m : Rows) (id : ℕ) → finmap.entries (finmap.remove m id) ≡ filter (λ e. not (nat_eq e.0 id)) (finmap.entries m)
 entries-remove m id =

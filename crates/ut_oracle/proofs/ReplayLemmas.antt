@@ -1,5 +1,5 @@
 -- Entries that are replayed one after the other, and the state of a store that is opened with them.
-use Rattle.std.proofs.Common.{◌≡◌, ℕ, ◌+◌, ◌<◌, ◌≤◌, max, List, [], ◌∷◌, ◌++◌, length, false, None, refl, sym, ap, ◌∙◌, arith}
+use Rattle.std.proofs.Common.{◌≡◌, ℕ, ◌+◌, ◌≤◌, max, List, [], ◌∷◌, ◌++◌, length, false, None, refl, ap, ◌∙◌, arith}
 use Rattle.std.specs.Ordering.{nat_cmp}
 use Rattle.std.specs.List.{sum_by}
 use Rattle.std.specs.FinMap as finmap
@@ -53,7 +53,3 @@ opened_is copy es opening next load limit sessions stages c o s n l t =
 
 pub load_few : (p : Plain) → IsPlain p → load_of p.journal ≤ 2147483648
 load_few p h = let load = h.load in let last = h.last in omega (arith, load, last)
-
--- the sum over the entries is within the load
-pub inserts_few : (es : List Entry) (p : Plain) → IsPlain p → p.journal ≡ record { base = empty_state; entries = es } → sum_by entry_inserts es < 4294967296
-inserts_few es p h e = let few = load_few p h in omega (arith, few, ap load_of e)

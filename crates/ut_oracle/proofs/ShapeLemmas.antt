@@ -1,21 +1,18 @@
 -- Merges of the first stage, and how many rows stand in each.
-use Rattle.std.proofs.Common.{◌≡◌, ℕ, ◌+◌, ◌<◌, ◌≤◌, min, Bool, true, List, [], ◌∷◌, length, get_or, Option, None, Some, refl, sym, ap, ◌∙◌, subst, arith, IsTrue}
+use Rattle.std.proofs.Common.{◌≡◌, ℕ, ◌<◌, min, List, length, get_or, refl, sym, ap, ◌∙◌, arith}
 use Rattle.std.specs.Option.{unwrap_or}
-use Rattle.std.specs.List.{slice_get}
 use Rattle.std.proofs.lemmas.Option.{slice_get_read}
-use Rattle.std.proofs.lemmas.List.Sums.{get_or-le-sum_by}
 use Rattle.ut_plain.specs.declared.table.Table.{Table}
 use Rattle.ut_plain.specs.declared.stage.TableStages.{TableStages}
 use Rattle.ut_plain.specs.declared.statement.Statement.TheVariants.{MergeL1, Shape}
 use Rattle.ut_plain.specs.declared.reply.Reply.{Reply}
 use Rattle.ut_plain.specs.declared.reply.Reply.TheVariants as replies
-use Rattle.ut_plain.specs.Tables.{place_of, place_in}
+use Rattle.ut_plain.specs.Tables.{place_in}
 use Rattle.ut_plain.specs.Journal.{current}
-use Rattle.ut_plain.specs.Stages.{Stages, no_stages, stages_at, with_stages, moved, moved_count, shape_of, places_of, all_places}
+use Rattle.ut_plain.specs.Stages.{Stages, no_stages, stages_at, with_stages, moved, moved_count, shape_of}
 use Rattle.ut_plain.specs.Plain.{Plain}
-use Rattle.ut_plain.specs.View.{view}
 use Rattle.ut_plain.specs.Reached.{IsPlain}
-use Rattle.ut_plain.specs.Step.{Stepped, step, merged_l1}
+use Rattle.ut_plain.specs.Step.{step}
 use Rattle.ut_plain.proofs.ListLemmas.{position_below}
 use Rattle.ut_plain.proofs.TableLemmas.{IsThere, At, there}
 use Rattle.ut_value.specs.Text.{same_bytes}
@@ -27,14 +24,6 @@ use Rattle.ut_oracle.proofs.WriteLemmas.{names_passed}
 -- the stages at a place that is there
 pub stage_read : (stages : Stages) (i : ℕ) (t : TableStages) → i < length stages → t ≡ get_or stages i t → t ≡ stages_at stages i
 stage_read stages i t h e = sym (ap (λ o. unwrap_or o no_stages) (slice_get_read stages (length stages) i t refl h e))
-
--- fewer rows stand in a table's stages than there are ids
-pub few_places : (p : Plain) (i : ℕ) (t : TableStages) → IsPlain p → i < length p.stages → t ≡ get_or p.stages i t → places_of t < 4294967296
-few_places p i t h lt e =
-    let part = get_or-le-sum_by places_of p.stages i t lt in
-    let places = h.places in
-    let last = h.last in
-    omega (arith, part, places, last, ap places_of e)
 
 place_below : (ts : List Table) (name : List ℕ) → IsThere ts name → place_in ts name < length ts
 place_below ts name (At place cs e k) =

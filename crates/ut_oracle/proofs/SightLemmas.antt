@@ -1,9 +1,8 @@
 -- What a session sees is worked out from the entries, and has no more rows than there are ids.
-use Rattle.std.proofs.Common.{◌≡◌, ℕ, zero, suc, ◌+◌, ◌-◌, ◌<◌, ◌≤◌, max, not, nat_eq, List, [], ◌∷◌, length, take, Option, None, Some, refl, sym, ap, ◌∙◌, subst, arith}
+use Rattle.std.proofs.Common.{◌≡◌, ℕ, zero, suc, ◌+◌, ◌-◌, ◌<◌, ◌≤◌, max, not, nat_eq, List, [], ◌∷◌, length, take, Option, None, Some, sym, ap, ◌∙◌, arith}
 use Rattle.std.specs.Ordering.{nat_cmp}
-use Rattle.std.specs.declared.cmp.Ordering.{Ordering}
 use Rattle.std.specs.declared.cmp.Ordering.TheVariants.{Less, Equal, Greater}
-use Rattle.std.specs.List.{filter, sum_by}
+use Rattle.std.specs.List.{sum_by}
 use Rattle.std.specs.FinMap as finmap
 use Rattle.std.specs.FinMap.Entries.{put, by_order}
 use Rattle.std.proofs.lemmas.List.Sums.{sum_by-cons, sum_by-take-le}
@@ -15,7 +14,7 @@ use Rattle.ut_plain.specs.declared.table.Stored.{Stored}
 use Rattle.ut_plain.specs.declared.transaction.OpenTransaction.{OpenTransaction}
 use Rattle.ut_plain.specs.Rows.{Rows, with_ops, op_inserts, inserts_of}
 use Rattle.ut_plain.specs.State.{State, empty_state, after, entry_inserts}
-use Rattle.ut_plain.specs.Journal.{Journal, after_all, current, load_of, empty_journal, journal_len}
+use Rattle.ut_plain.specs.Journal.{Journal, after_all, load_of, empty_journal}
 use Rattle.ut_plain.specs.Stages.{Stages}
 use Rattle.ut_plain.specs.Plain.{Plain, Sessions, Idle, new_store, no_sessions, open_at, open_inserts, inserts_open, seen_by, seen}
 use Rattle.ut_plain.specs.Reached.{IsPlain}

@@ -1,29 +1,22 @@
 -- What a step is, by the refusals that come early and those that come late.
-use Rattle.std.proofs.Common.{◌≡◌, ℕ, ◌+◌, ◌<◌, Bool, true, false, ◌&&◌, List, [], ◌∷◌, ◌++◌, length, Option, None, Some, refl, sym, ap, ◌∙◌, arith}
+use Rattle.std.proofs.Common.{◌≡◌, ℕ, Bool, true, false, List, Option, None, Some, refl, sym, ap, ◌∙◌}
 use Rattle.std.specs.Option.{option_map, is_some}
 use Rattle.ut_value.specs.declared.value.Value.{Value}
-use Rattle.ut_value.specs.declared.value.Column.{Column}
 use Rattle.ut_value.specs.declared.entry.Op.{Op}
-use Rattle.ut_value.specs.declared.entry.Entry.TheVariants as entries
-use Rattle.ut_plain.specs.declared.table.Table.{Table}
-use Rattle.ut_plain.specs.declared.transaction.OpenTransaction.{OpenTransaction}
 use Rattle.ut_plain.specs.declared.statement.Pred.{Pred}
 use Rattle.ut_plain.specs.declared.statement.Statement.{Statement}
-use Rattle.ut_plain.specs.declared.statement.Statement.TheVariants as statements
 use Rattle.ut_plain.specs.declared.statement.Statement.TheVariants.{Insert, Bulk, Update, Delete}
 use Rattle.ut_plain.specs.declared.reply.Reply.{Reply}
-use Rattle.ut_plain.specs.declared.reply.Reply.TheVariants as replies
 use Rattle.ut_plain.specs.declared.reply.Refusal.{Refusal}
 use Rattle.ut_plain.specs.declared.reply.Refusal.TheVariants as refusals
 use Rattle.ut_plain.specs.Journal.{current}
-use Rattle.ut_plain.specs.Plain.{Plain, open_at, with_entry}
+use Rattle.ut_plain.specs.Plain.{Plain, open_at}
 use Rattle.ut_plain.specs.View.{View, view}
 use Rattle.ut_plain.specs.Made.{made, changes}
 use Rattle.ut_plain.specs.Names.{names_known}
 use Rattle.ut_plain.specs.Kinds.{kinds_fit}
-use Rattle.ut_plain.specs.Limits.{has_room, has_ops_room}
 use Rattle.ut_plain.specs.Refusals.{is_supported, state_why, unless, or_else, conflict, refusal}
-use Rattle.ut_plain.specs.Step.{Stepped, step, step_by, effect_of, with_txn}
+use Rattle.ut_plain.specs.Step.{Stepped, step, step_by, effect_of}
 use Rattle.ut_oracle.specs.declared.known.Known.{Known}
 use Rattle.ut_oracle.specs.Store.{Gives, Allowed, early, late, refuses, change_by, change_step}
 
@@ -53,19 +46,9 @@ late_step p sight session st h = ap (λ o. step_by o p session st) (refusal_part
 gives_by : (p : Plain) (session : ℕ) (st : Statement) (does : Stepped) (reply : Reply) (q : Plain) → step p session st ≡ does → Gives does reply q → Gives (step p session st) reply q
 gives_by p session st does reply q is g = record { answer = g.answer ∙ ap (λ (s : Stepped). s.reply) (sym is); state = g.state ∙ ap (λ (s : Stepped). s.plain) (sym is) }
 
--- a statement that a late refusal meets
-pub gives_refused : (p : Plain) (sight : Known) (session : ℕ) (st : Statement) (why : Refusal) (reply : Reply) (q : Plain) → Allowed p sight session st → late (view p session) st ≡ Some why → Gives (refuses p why) reply q → Gives (step p session st) reply q
-gives_refused p sight session st why reply q h l g = gives_by p session st (refuses p why) reply q (late_step p sight session st h ∙ ap (λ o. step_by o p session st) l) g
-
 -- a statement that none meets
 pub gives_effect : (p : Plain) (sight : Known) (session : ℕ) (st : Statement) (reply : Reply) (q : Plain) → Allowed p sight session st → late (view p session) st ≡ None → Gives (effect_of p session st) reply q → Gives (step p session st) reply q
 gives_effect p sight session st reply q h l g = gives_by p session st (effect_of p session st) reply q (late_step p sight session st h ∙ ap (λ o. step_by o p session st) l) g
-
-pub late_full : (v : View) (st : Statement) → has_room v st ≡ false → late v st ≡ Some refusals.Full
-late_full v st h = ap (λ b. or_else (unless b refusals.Full) (option_map refusals.Conflict (conflict v st))) h
-
-pub late_none : (v : View) (st : Statement) → has_room v st ≡ true → conflict v st ≡ None → late v st ≡ None
-late_none v st h k = ap (λ b. or_else (unless b refusals.Full) (option_map refusals.Conflict (conflict v st))) h ∙ ap (option_map refusals.Conflict) k
 
 -- ---- changes of rows
 
@@ -106,9 +89,3 @@ delete_makes p session name preds = record { does = deleted_by (late (view p ses
 
 pub gives_change : (p : Plain) (sight : Known) (session : ℕ) (st : Statement) (bulk : Bool) (os : List Op) (rows : ℕ) (taken : Option ℕ) (reply : Reply) (q : Plain) → Allowed p sight session st → Makes p session st bulk os rows taken → Gives (change_step p session bulk os rows taken) reply q → Gives (step p session st) reply q
 gives_change p sight session st bulk os rows taken reply q h m g = gives_by p session st (change_step p session bulk os rows taken) reply q (late_step p sight session st h ∙ m.does) g
-
--- ---- one entry of operations
-
-pub with_txn_some : (p : Plain) (os : List Op) → 0 < length os → with_txn p os ≡ with_entry p (entries.Txn os)
-with_txn_some p [] h = absurd (omega arith)
-with_txn_some p (o ∷ os) h = refl

@@ -1,12 +1,11 @@
 -- The statements that change rows come to their changes.
-use Rattle.std.proofs.Common.{◌≡◌, ℕ, zero, suc, ◌+◌, ◌<◌, ◌≤◌, Bool, true, false, ◌&&◌, ◌||◌, nat_eq, nat_le, List, [], ◌∷◌, length, Option, None, Some, refl, sym, ap, ◌∙◌, subst, arith, IsTrue, eqb-true, leb-true}
-use Rattle.std.specs.Option.{option_map, is_some, unwrap_or}
-use Rattle.std.specs.List.{filter}
+use Rattle.std.proofs.Common.{◌≡◌, ℕ, ◌<◌, ◌≤◌, Bool, true, false, ◌&&◌, ◌||◌, nat_eq, nat_le, List, [], ◌∷◌, length, Option, None, refl, sym, ap, ◌∙◌, subst, arith, IsTrue, leb-true}
+use Rattle.std.specs.Option.{option_map, is_some}
 use Rattle.std.specs.FinMap as finmap
 use Rattle.ut_value.specs.declared.value.Value.{Value}
 use Rattle.ut_value.specs.declared.value.Column.{Column}
 use Rattle.ut_value.specs.declared.entry.Op.{Op}
-use Rattle.ut_value.specs.Spelling.{is_count, is_column, names_differ, are_columns}
+use Rattle.ut_value.specs.Spelling.{is_count, names_differ, are_columns}
 use Rattle.ut_plain.specs.declared.table.Table.{Table}
 use Rattle.ut_plain.specs.declared.table.Stored.{Stored}
 use Rattle.ut_plain.specs.declared.statement.Pred.{Pred}
@@ -15,19 +14,16 @@ use Rattle.ut_plain.specs.declared.statement.Statement.TheVariants.{Insert, Bulk
 use Rattle.ut_plain.specs.declared.reply.Reply.{Reply}
 use Rattle.ut_plain.specs.declared.reply.Refusal.{Refusal}
 use Rattle.ut_plain.specs.declared.reply.Refusal.TheVariants as refusals
-use Rattle.ut_plain.specs.declared.reply.Why.{Why}
 use Rattle.ut_plain.specs.Tables.{place_in, columns_in}
 use Rattle.ut_plain.specs.Rows.{table_rows, inserts_of}
 use Rattle.ut_plain.specs.Condition.{found, meets}
 use Rattle.ut_plain.specs.Journal.{current}
-use Rattle.ut_plain.specs.Plain.{Plain, open_at, seen, is_taken}
+use Rattle.ut_plain.specs.Plain.{Plain, seen, is_taken}
 use Rattle.ut_plain.specs.View.{View, view}
 use Rattle.ut_plain.specs.Names.{names_known}
-use Rattle.ut_plain.specs.Kinds.{kinds_fit}
-use Rattle.ut_plain.specs.Made.{made, changes, rows_of, inserts, updates, deletes_all, changed_value}
+use Rattle.ut_plain.specs.Made.{rows_of, inserts, updates, deletes_all, changed_value}
 use Rattle.ut_plain.specs.Limits.{has_ids, has_entry_room, has_journal_room, has_ops_room}
-use Rattle.ut_plain.specs.Refusals.{is_supported, state_why, unless, or_else, first_taken}
-use Rattle.ut_plain.specs.Reached.{IsPlain}
+use Rattle.ut_plain.specs.Refusals.{is_supported, unless, or_else, first_taken}
 use Rattle.ut_plain.specs.Step.{step}
 use Rattle.ut_plain.proofs.BoolLemmas.{and_left}
 use Rattle.ut_plain.proofs.StateLaws.{IsState-current}
@@ -35,9 +31,9 @@ use Rattle.ut_plain.proofs.TableLemmas.{there}
 use Rattle.ut_plain.proofs.PassedLemmas.{IsTable, table_is}
 use Rattle.ut_plain.proofs.MadeLemmas.{inserts_of-inserts, inserts_of-updates}
 use Rattle.ut_oracle.specs.declared.known.Known.{Known}
-use Rattle.ut_oracle.specs.Store.{Gives, IsSight, Allowed, early, refuses, change_by, change_step}
+use Rattle.ut_oracle.specs.Store.{Gives, IsSight, Allowed, refuses, change_by, change_step}
 use Rattle.ut_oracle.proofs.FilterLemmas.{length-filter_le}
-use Rattle.ut_oracle.proofs.StepLemmas.{Makes, makes_same, insert_makes, bulk_makes, update_makes, delete_makes, gives_change}
+use Rattle.ut_oracle.proofs.StepLemmas.{makes_same, insert_makes, bulk_makes, update_makes, delete_makes, gives_change}
 
 -- ---- what an allowed statement has passed
 

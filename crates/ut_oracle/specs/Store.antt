@@ -1,5 +1,5 @@
 -- The plain state that the slow program stands for, and what it answers.
-use Rattle.std.specs.Prelude.{ℕ, ◌+◌, ◌<◌, ◌≤◌, ◌≡◌, Bool, List, [], length, Option, None, Some, is_some, nat_eq, IsTrue}
+use Rattle.std.specs.Prelude.{ℕ, ◌+◌, ◌<◌, ◌≤◌, ◌≡◌, Bool, List, length, Option, None, Some, is_some, nat_eq, IsTrue}
 use Rattle.std.specs.Option.{option_map}
 use Rattle.std.specs.List.{list_all}
 use Rattle.std.specs.FinMap as finmap

@@ -11,7 +11,6 @@ ghost use Rattle.ut_plain.specs.Step.{with_txn, with_made, said_changed, said_al
 ghost use Rattle.ut_oracle.specs.Store.{plain_of, Gives, change_step, changed_by};
 
 use crate::held::Held;
-use crate::known::Known;
 use crate::outcome::{Outcome, refused};
 use crate::room::{has_ops_room, inserts_of};
 use crate::stages::{place_all, stages_copied};

@@ -1,5 +1,5 @@
 //! The state of a journal, worked out from its entries.
-ghost use Rattle.std.specs.Prelude.{◌≡◌, ◌≤◌, ◌<◌, ◌+◌, length, IfOk};
+ghost use Rattle.std.specs.Prelude.{◌≤◌, ◌<◌, ◌+◌, length, IfOk};
 ghost use Rattle.ut_plain.specs.State.{empty_state, after};
 ghost use Rattle.ut_plain.specs.Journal.{after_all};
 ghost use Rattle.ut_oracle.specs.Known.{IsKnown, Follows};

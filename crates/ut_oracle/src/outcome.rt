@@ -1,5 +1,5 @@
 //! What a statement comes to: its reply, and what the store holds then.
-ghost use Rattle.std.specs.Prelude.{◌≡◌, IfOk};
+ghost use Rattle.std.specs.Prelude.{IfOk};
 ghost use Rattle.ut_oracle.specs.Store.{plain_of, refuses, Gives};
 
 use crate::held::Held;

@@ -1,5 +1,5 @@
 //! What a store holds that is opened with the entries of another.
-ghost use Rattle.std.specs.Prelude.{◌≡◌, ◌≤◌, ◌<◌, [], ◌∷◌, IfOk};
+ghost use Rattle.std.specs.Prelude.{◌≡◌, ◌<◌, [], ◌∷◌, IfOk};
 ghost use Rattle.std.specs.List.{sum_by};
 ghost use Rattle.ut_plain.specs.Rows.{next_after};
 ghost use Rattle.ut_plain.specs.State.{empty_state, entry_inserts};

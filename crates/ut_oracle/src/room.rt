@@ -1,5 +1,5 @@
 //! The limits that a statement keeps to.
-ghost use Rattle.std.specs.Prelude.{◌≡◌, ◌+◌, ◌<◌, ◌++◌, List, length, nat_le, IfSome, IfNone};
+ghost use Rattle.std.specs.Prelude.{◌≡◌, ◌+◌, ◌<◌, ◌++◌, length, nat_le, IfSome, IfNone};
 ghost use Rattle.std.specs.List.{sum_by};
 ghost use Rattle.ut_value.specs.declared.entry.Op.{Op};
 ghost use Rattle.ut_value.specs.declared.entry.Entry.TheVariants.{Txn};
@@ -7,7 +7,6 @@ ghost use Rattle.ut_value.specs.Spelling.{value_len, op_len, ops_len, entry_len}
 ghost use Rattle.ut_plain.specs.Rows.{op_inserts, inserts_of};
 ghost use Rattle.ut_plain.specs.View.{view, own_ops};
 ghost use Rattle.ut_plain.specs.Limits.{has_journal_room, has_ids, has_ops_room};
-ghost use Rattle.ut_plain.specs.Reached.{IsPlain};
 ghost use Rattle.ut_oracle.specs.Store.{plain_of};
 
 use crate::held::Held;

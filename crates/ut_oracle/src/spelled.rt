@@ -1,5 +1,5 @@
 //! Which statements a line can spell. Names and values keep their rules by themselves: only numbers can be wrong.
-ghost use Rattle.std.specs.Prelude.{◌≡◌, ◌&&◌, List, ℕ, nat_le, length};
+ghost use Rattle.std.specs.Prelude.{◌≡◌, ◌&&◌, nat_le, length};
 ghost use Rattle.std.specs.List.{list_all};
 ghost use Rattle.ut_value.specs.KeyBytes.{is_value};
 ghost use Rattle.ut_value.specs.Spelling.{is_count, is_column};

@@ -1,5 +1,5 @@
 //! Which rows were deleted behind a session's back.
-ghost use Rattle.std.specs.Prelude.{◌≡◌, ◌<◌, List, ℕ, drop, length};
+ghost use Rattle.std.specs.Prelude.{◌≡◌, ◌<◌, drop, length};
 ghost use Rattle.std.specs.List.{list_any};
 ghost use Rattle.ut_plain.specs.Rows.{deletes, op_deletes};
 ghost use Rattle.ut_plain.specs.State.{entry_deletes};

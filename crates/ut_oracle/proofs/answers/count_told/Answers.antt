@@ -1,4 +1,4 @@
-use Rattle.std.proofs.Common.{◌≡◌, ◌≤◌, length, ap, ◌∙◌, arith, nat_eq}
+use Rattle.std.proofs.Common.{◌≡◌, length, ap, ◌∙◌, arith, nat_eq}
 use Rattle.ut_plain.specs.Tables.{columns_in, place_in}
 use Rattle.ut_plain.specs.Rows.{table_rows}
 use Rattle.ut_plain.specs.Condition.{found, meets}

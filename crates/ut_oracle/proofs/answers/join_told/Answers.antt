@@ -1,4 +1,4 @@
-use Rattle.std.proofs.Common.{◌≡◌, [], ap, ◌∙◌}
+use Rattle.std.proofs.Common.{[], ap, ◌∙◌}
 use Rattle.ut_plain.specs.Tables.{columns_in}
 use Rattle.ut_plain.specs.Condition.{found}
 use Rattle.ut_plain.specs.Query.{joined}

@@ -1,4 +1,4 @@
-use Rattle.std.proofs.Common.{◌≡◌, ◌++◌, map, ap, ◌∙◌, arith}
+use Rattle.std.proofs.Common.{◌++◌, map, arith}
 use Rattle.std.specs.List.{filter}
 use Rattle.ut_plain.specs.Condition.{value_in}
 use Rattle.ut_plain.specs.Query.{same_value}

@@ -1,7 +1,7 @@
 use Rattle.std.proofs.Common.{◌≡◌, ◌++◌, drop, map}
 use Rattle.std.specs.List.{filter}
 use Rattle.ut_plain.specs.Condition.{value_in}
-use Rattle.ut_plain.specs.Query.{same_value, joined}
+use Rattle.ut_plain.specs.Query.{same_value}
 use Rattle.ut_oracle.proofs.answers.pairs_of.Given as goal
 
 -- those so far and those that are left are all

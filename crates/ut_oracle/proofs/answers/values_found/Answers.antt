@@ -1,8 +1,7 @@
-use Rattle.std.proofs.Common.{◌≡◌, ap, ◌∙◌, subst, IfOk, map, List}
+use Rattle.std.proofs.Common.{ap, ◌∙◌}
 use Rattle.ut_plain.specs.Tables.{columns_in}
 use Rattle.ut_plain.specs.Condition.{found}
-use Rattle.ut_plain.specs.Query.{column_values, picked, groups, joined}
-use Rattle.ut_plain.specs.declared.reply.Reply.TheVariants as replies
+use Rattle.ut_plain.specs.Query.{column_values}
 use Rattle.ut_oracle.proofs.answers.values_found.Goals as goal
 
 pub returns : goal.returns

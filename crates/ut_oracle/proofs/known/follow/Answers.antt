@@ -1,4 +1,4 @@
-use Rattle.std.proofs.Common.{◌≡◌, ◌+◌, sym, ap, ◌∙◌, subst, refl}
+use Rattle.std.proofs.Common.{◌+◌, sym, ap, ◌∙◌, subst, refl}
 use Rattle.ut_oracle.specs.Listed.{listed_all}
 use Rattle.ut_oracle.specs.Known.{Follows}
 use Rattle.ut_oracle.proofs.KnownLemmas.{txn_follows}

@@ -1,5 +1,4 @@
-use Rattle.std.proofs.Common.{◌≡◌, ◌<◌, ◌+◌, min, length, take, drop, arith}
-use Rattle.ut_plain.specs.Made.{rows_of}
+use Rattle.std.proofs.Common.{◌≡◌, min, length, take, drop, arith}
 use Rattle.ut_oracle.proofs.MadeLemmas.{row_counted, row_inserted}
 use Rattle.ut_oracle.proofs.made.load.Goals as goal
 

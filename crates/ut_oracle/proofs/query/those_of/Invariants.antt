@@ -1,8 +1,6 @@
-use Rattle.std.proofs.Common.{◌≡◌, ◌++◌, drop, map}
-use Rattle.std.specs.List.{filter_map}
+use Rattle.std.proofs.Common.{◌≡◌, ◌++◌, drop}
 use Rattle.ut_plain.specs.Rows.{table_rows}
-use Rattle.ut_plain.specs.Condition.{value_in, those}
-use Rattle.ut_plain.specs.Query.{picked, column_values, with_value, total}
+use Rattle.ut_plain.specs.Condition.{those}
 use Rattle.ut_oracle.proofs.query.those_of.Given as goal
 
 -- those so far and those that are left are all

@@ -1,8 +1,5 @@
-use Rattle.std.proofs.Common.{◌≡◌, ◌++◌, drop, map}
-use Rattle.std.specs.List.{filter_map}
-use Rattle.ut_plain.specs.Rows.{table_rows}
-use Rattle.ut_plain.specs.Condition.{value_in, those}
-use Rattle.ut_plain.specs.Query.{picked, column_values, with_value, total}
+use Rattle.std.proofs.Common.{◌≡◌, ◌++◌, drop}
+use Rattle.ut_plain.specs.Query.{with_value}
 use Rattle.ut_oracle.proofs.query.with_value.Given as goal
 
 -- those so far and those that are left are all

@@ -1,9 +1,8 @@
-use Rattle.std.proofs.Common.{◌≡◌, ◌∙◌, refl, sym, arith, ap, length, min, get_or}
+use Rattle.std.proofs.Common.{◌≡◌, arith, ap, length, min, get_or}
 use Rattle.std.proofs.lemmas.Grind.{common_steps}
 use Rattle.ut_plain.specs.declared.statement.Statement.TheVariants.{MergeL1}
 use Rattle.ut_oracle.specs.Store.{plain_of}
 use Rattle.ut_plain.specs.Tables.{place_in}
-use Rattle.ut_plain.specs.Stages.{with_stages, moved}
 use Rattle.ut_oracle.proofs.WriteLemmas.{few_tables}
 use Rattle.ut_oracle.proofs.ShapeLemmas.{merge_gives, restaged}
 use Rattle.ut_oracle.proofs.shapes.merge_l1.Goals as goal

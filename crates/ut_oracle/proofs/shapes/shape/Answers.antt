@@ -1,4 +1,4 @@
-use Rattle.std.proofs.Common.{◌≡◌, ◌∙◌, refl, sym, arith, ap, length, get_or, subst}
+use Rattle.std.proofs.Common.{◌≡◌, arith, ap, length, get_or, subst}
 use Rattle.std.proofs.lemmas.Grind.{common_steps}
 use Rattle.ut_plain.specs.declared.statement.Statement.TheVariants.{Shape}
 use Rattle.ut_oracle.specs.Store.{plain_of, Gives}

@@ -1,4 +1,4 @@
-use Rattle.std.proofs.Common.{◌≡◌, ◌<◌, ◌∙◌, refl, sym, arith, ap, length}
+use Rattle.std.proofs.Common.{◌≡◌, ◌∙◌, sym, arith, ap, length}
 use Rattle.ut_plain.specs.declared.statement.Statement.TheVariants.{Bulk}
 use Rattle.ut_oracle.specs.Store.{plain_of}
 use Rattle.ut_plain.specs.Tables.{columns_in, place_in}

@@ -1,4 +1,4 @@
-use Rattle.std.proofs.Common.{◌≡◌, ◌∙◌, refl, sym, arith, ap, length}
+use Rattle.std.proofs.Common.{◌≡◌, ◌∙◌, sym, arith, ap, length}
 use Rattle.std.proofs.lemmas.Grind.{common_steps}
 use Rattle.ut_plain.specs.declared.statement.Statement.TheVariants.{Delete}
 use Rattle.ut_oracle.specs.Store.{plain_of}

@@ -1,4 +1,4 @@
-use Rattle.std.proofs.Common.{◌≡◌, ◌∙◌, refl, sym, arith, ap, length}
+use Rattle.std.proofs.Common.{arith, ap, length}
 use Rattle.ut_plain.specs.declared.statement.Statement.TheVariants.{Insert}
 use Rattle.ut_oracle.specs.Store.{plain_of}
 use Rattle.ut_oracle.proofs.WriteLemmas.{few_tables, insert_gives}

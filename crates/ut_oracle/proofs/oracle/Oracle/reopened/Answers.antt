@@ -1,6 +1,3 @@
-use Rattle.std.proofs.Common.{◌≡◌, [], ap, sym, ◌∙◌}
-use Rattle.ut_plain.specs.Plain.{Plain, opened_store}
-use Rattle.ut_oracle.specs.Store.{plain_of}
 use Rattle.ut_oracle.proofs.PartLemmas.{held_opened}
 use Rattle.ut_oracle.proofs.oracle.Oracle.reopened.Goals as goal
 
