@@ -8,6 +8,7 @@ use Rattle.ut_plain.specs.Plain.{new_store, opened_store}
 use Rattle.ut_logged.specs.Logged.{Logged}
 use Rattle.ut_logged.specs.Readings.{HoldsJournal, HoldsPrefix}
 use Rattle.ut_logged.specs.Runs.{Runs, Opens, NotMadeOrEmpty}
+use Rattle.ut_app.specs.declared.words.Start.{Start}
 use Rattle.ut_app.specs.declared.words.Start.TheVariants.{New, Open}
 use Rattle.ut_app.specs.Keeping.{Begins, Kept, SinceEntry, HoldsRun, NothingPending}
 use Rattle.ut_app.specs.Serving.{rows_limit}
@@ -57,3 +58,8 @@ begun_open entry now e same opens leaves = record {
     no_more = omega arith;
     acknowledged = tt;
     since_entry = since_opened entry now leaves opens.journal (opens.said told) } }
+
+-- what is read is what a run begins with
+pub seen_run : (start : Start) (entry : View) (first : Journal) → Begins start first entry.seen → NothingPending entry → (c : Image) → entry.crash_states c → HoldsRun start first (journal_len first) c
+seen_run New entry first begins nothing c h = inr (λ made. begins.1 (subst (λ (i : Image). IsMade i.pages) (nothing c h) made))
+seen_run Open entry first begins nothing c h = subst (λ (i : Image). HoldsPrefix first (journal_len first) i) (sym (nothing c h)) (whole_of first entry.seen begins)

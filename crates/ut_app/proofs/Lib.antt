@@ -8,3 +8,4 @@ pub mod TellLemmas
 pub mod MarkLemmas
 pub mod ServeLemmas
 pub mod EndsLemmas
+pub mod RunLemmas

@@ -55,26 +55,26 @@ progress-start start input before entry now store marks acks journal begun none 
       length_is = is ∙ begun.runs.stands.counts.entries })
 
 -- a line with no answer
-record QuietTurn (p : Plain) (line : Parsed) (was : View) (acks : List Ack) (held : Option (List ℕ)) (marks : List ℕ) (new : Logged) (now : View) (acks_now : List Ack) (journal_now : ℕ) (held_now : Option (List ℕ)) (marks_now : List ℕ) : Type 0 where
-  plain : Plain
-  answers : AnswersLine p line [] plain
-  runs : Runs new now plain
-  keeps : Keeps was now plain.journal (journal_len p.journal)
-  acks_are : acks_now ≡ acks
-  length_is : journal_now ≡ journal_len plain.journal
-  held_is : held_now ≡ held
-  marks_are : marks_now ≡ marks
+pub record QuietTurn (p : Plain) (line : Parsed) (was : View) (acks : List Ack) (held : Option (List ℕ)) (marks : List ℕ) (new : Logged) (now : View) (acks_now : List Ack) (journal_now : ℕ) (held_now : Option (List ℕ)) (marks_now : List ℕ) : Type 0 where
+  pub plain : Plain
+  pub answers : AnswersLine p line [] plain
+  pub runs : Runs new now plain
+  pub keeps : Keeps was now plain.journal (journal_len p.journal)
+  pub acks_are : acks_now ≡ acks
+  pub length_is : journal_now ≡ journal_len plain.journal
+  pub held_is : held_now ≡ held
+  pub marks_are : marks_now ≡ marks
 
 -- one with an answer, which was written
-record ToldTurn (p : Plain) (line : Parsed) (was : View) (acks : List Ack) (held : Option (List ℕ)) (marks : List ℕ) (new : Logged) (now : View) (acks_now : List Ack) (journal_now : ℕ) (held_now : Option (List ℕ)) (marks_now : List ℕ) : Type 0 where
-  answer : Answer
-  plain : Plain
-  answers : AnswersLine p line (answer ∷ []) plain
-  runs : Runs new now plain
-  keeps : Keeps was now plain.journal (journal_len p.journal)
-  acks_are : acks_now ≡ acks ++ record { journal = journal_len plain.journal; moment = now.moment } ∷ []
-  length_is : journal_now ≡ journal_len plain.journal
-  writes : Writes {T = Unit {0}} {E = fails.Failed} held marks (answer_text answer) now.moment (Ok tt) held_now marks_now
+pub record ToldTurn (p : Plain) (line : Parsed) (was : View) (acks : List Ack) (held : Option (List ℕ)) (marks : List ℕ) (new : Logged) (now : View) (acks_now : List Ack) (journal_now : ℕ) (held_now : Option (List ℕ)) (marks_now : List ℕ) : Type 0 where
+  pub answer : Answer
+  pub plain : Plain
+  pub answers : AnswersLine p line (answer ∷ []) plain
+  pub runs : Runs new now plain
+  pub keeps : Keeps was now plain.journal (journal_len p.journal)
+  pub acks_are : acks_now ≡ acks ++ record { journal = journal_len plain.journal; moment = now.moment } ∷ []
+  pub length_is : journal_now ≡ journal_len plain.journal
+  pub writes : Writes {T = Unit {0}} {E = fails.Failed} held marks (answer_text answer) now.moment (Ok tt) held_now marks_now
 
 abbrev is_ok : Result (Unit {0}) TurnEnd → Type 0
 is_ok (Ok x) = Unit {0}
@@ -83,7 +83,7 @@ is_ok (Err e) = ⊥
 not_err : (r : Result (Unit {0}) TurnEnd) (e : TurnEnd) → r ≡ Ok tt → r ≡ Err e → ⊥
 not_err r e h k = subst is_ok (sym h ∙ k) tt
 
-ok_turn : (p : Plain) (line : Parsed) (was : View) (acks : List Ack) (journal : ℕ) (held : Option (List ℕ)) (marks : List ℕ) (result : Result (Unit {0}) TurnEnd) (new : Logged) (now : View) (acks_now : List Ack) (journal_now : ℕ) (held_now : Option (List ℕ)) (marks_now : List ℕ) → result ≡ Ok tt
+pub ok_turn : (p : Plain) (line : Parsed) (was : View) (acks : List Ack) (journal : ℕ) (held : Option (List ℕ)) (marks : List ℕ) (result : Result (Unit {0}) TurnEnd) (new : Logged) (now : View) (acks_now : List Ack) (journal_now : ℕ) (held_now : Option (List ℕ)) (marks_now : List ℕ) → result ≡ Ok tt
     → Turn p line was (record { acks = acks; journal = journal }) (record { held = held; marks = marks }) result new now (record { acks = acks_now; journal = journal_now }) (record { held = held_now; marks = marks_now })
     → QuietTurn p line was acks held marks new now acks_now journal_now held_now marks_now ⊎ ToldTurn p line was acks held marks new now acks_now journal_now held_now marks_now
 ok_turn p line was acks journal held marks result new now acks_now journal_now held_now marks_now ok (Quiet q r answers runs keeps n s) =

@@ -102,7 +102,6 @@ IsEarly Exists = Unit {0}
 IsEarly Damaged = Unit {0}
 IsEarly DiskFault = Unit {0}
 IsEarly Memory = Unit {0}
-IsEarly Usage = Unit {0}
 IsEarly _ = ⊥
 
 -- what was answered, written and kept of an input that is told

@@ -7,4 +7,5 @@ pub mod Turning
 pub mod Serving
 pub mod Ends
 pub mod Beginning
+pub mod Going
 pub mod Top

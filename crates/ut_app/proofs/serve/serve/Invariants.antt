@@ -1,9 +1,14 @@
-use Rattle.std.proofs.Common.{◌≡◌, ◌≤◌, ℕ, ◌+◌, ◌-◌, ◌*◌, ◌<◌, length}
-use Rattle.ut_app.specs.Ends.{Run}
+use Rattle.std.proofs.Common.{◌-◌}
+use Rattle.ut_app.specs.Going.{Going}
 use Rattle.ut_app.proofs.serve.serve.Given as goal
 
 abbrev pub invariant-loop-replies : goal.invariant-loop-replies
-invariant-loop-replies g l = ?
+invariant-loop-replies g l = record {
+  going : Going l.fn.start
+      (record { source = g.S.Source.left l.fn.source; reads = g.S.Source.faults l.fn.source; sink = g.K.Sink.held l.fn.sink; marks = g.K.Sink.moments l.fn.sink; writes = g.K.Sink.faults l.fn.sink; disk = g.D.Disk.view l.fn.disk })
+      (record { source = g.S.Source.left l.source; reads = g.S.Source.faults l.source; sink = g.K.Sink.held l.sink; marks = g.K.Sink.moments l.sink; writes = g.K.Sink.faults l.sink; disk = g.D.Disk.view l.disk })
+      l.count l.lines l.store l.replies.acks.items l.replies.journal;
+}
 
 abbrev pub decreases-loop-replies : goal.decreases-loop-replies
-decreases-loop-replies g l = ?
+decreases-loop-replies g l = 1048576 - l.count
