@@ -1,16 +1,16 @@
 -- How a run begins.
-use Rattle.std.proofs.Common.{inl, inr, ℕ, ◌≡◌, ◌≤◌, ◌⊎◌, List, [], refl, sym, ap, ◌∙◌, subst, arith}
+use Rattle.std.proofs.Common.{inl, inr, ◌≡◌, refl, sym, ◌∙◌, subst, arith}
 use Rattle.ut_outside.specs.Disk.{View, Image, IsTold}
 use Rattle.ut_outside.specs.Run.{Always, LeavesOnly}
 use Rattle.ut_pages.specs.Layout.{IsMade}
 use Rattle.ut_plain.specs.Journal.{Journal, empty_journal, journal_len}
-use Rattle.ut_plain.specs.Plain.{new_store, opened_store}
+use Rattle.ut_plain.specs.Plain.{new_store}
 use Rattle.ut_logged.specs.Logged.{Logged}
 use Rattle.ut_logged.specs.Readings.{HoldsJournal, HoldsPrefix}
 use Rattle.ut_logged.specs.Runs.{Runs, Opens, NotMadeOrEmpty}
 use Rattle.ut_app.specs.declared.words.Start.{Start}
 use Rattle.ut_app.specs.declared.words.Start.TheVariants.{New, Open}
-use Rattle.ut_app.specs.Keeping.{Begins, Kept, SinceEntry, HoldsRun, NothingPending}
+use Rattle.ut_app.specs.Keeping.{Begins, SinceEntry, HoldsRun, NothingPending}
 use Rattle.ut_app.specs.Serving.{rows_limit}
 use Rattle.ut_app.specs.Beginning.{Begun}
 use Rattle.ut_app.proofs.SayLemmas.{whole}
@@ -46,7 +46,9 @@ begun_new entry now e same runs unmade leaves = record {
     told = same ∙ told;
     no_more = omega arith;
     acknowledged = tt;
-    since_entry = since_made entry now leaves told empty_journal (refl, unmade told) } }
+    since_entry = since_made entry now leaves told empty_journal (refl, unmade told);
+  };
+}
 
 pub begun_open : (entry now : View) (e : Logged) → now.told ≡ entry.told → Opens e rows_limit entry now → LeavesOnly entry now entry.crash_states → Begun Open entry now e
 begun_open entry now e same opens leaves = record {
@@ -57,7 +59,9 @@ begun_open entry now e same opens leaves = record {
     told = same ∙ told;
     no_more = omega arith;
     acknowledged = tt;
-    since_entry = since_opened entry now leaves opens.journal (opens.said told) } }
+    since_entry = since_opened entry now leaves opens.journal (opens.said told);
+  };
+}
 
 -- what is read is what a run begins with
 pub seen_run : (start : Start) (entry : View) (first : Journal) → Begins start first entry.seen → NothingPending entry → (c : Image) → entry.crash_states c → HoldsRun start first (journal_len first) c

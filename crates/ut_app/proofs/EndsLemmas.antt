@@ -1,20 +1,13 @@
 -- Why a run ends.
-use Rattle.std.proofs.Common.{ℕ, zero, suc, ◌+◌, ◌<◌, ◌≤◌, ◌≡◌, ◌⊎◌, inl, inr, Bool, true, false, cond, not, List, [], ◌∷◌, ◌++◌, refl, ap, ◌∙◌, sym, subst, arith, add-one, length, take, drop, Option, None, Some, Ok, Err, Result}
-use Rattle.std.specs.Prelude.{◌&&◌, ◌||◌, nat_eq, nat_le, nat_lt}
+use Rattle.std.proofs.Common.{ℕ, zero, suc, ◌+◌, ◌<◌, ◌≤◌, ◌≡◌, ◌⊎◌, inl, inr, Bool, true, false, not, List, [], ◌∷◌, ◌++◌, refl, ap, ◌∙◌, sym, subst, arith, add-one, length, take, drop, Option, None, Some, Ok, Err}
+use Rattle.std.specs.Prelude.{◌&&◌, ◌||◌, nat_le, nat_lt}
 use Rattle.std.proofs.lemmas.Grind.{common_steps}
 use Rattle.std.proofs.lemmas.List.{take_all}
-use Rattle.ut_outside.specs.Disk.{IsTold}
-use Rattle.ut_outside.specs.Faults.{Rose}
-use Rattle.ut_outside.specs.declared.ack.Ack.{Ack}
-use Rattle.ut_plain.specs.Journal.{Journal}
 use Rattle.ut_script.specs.declared.lines.LineError.TheVariants as failed
-use Rattle.ut_script.specs.Lines.{Reading, lines_of, is_long, is_past, has_line, NextLine, TakesLine, HandsOut, Ends}
-use Rattle.ut_app.specs.declared.words.Start.{Start}
-use Rattle.ut_app.specs.declared.words.Start.TheVariants.{New, Open}
+use Rattle.ut_script.specs.Lines.{Reading, lines_of, is_long, has_line, NextLine}
 use Rattle.ut_app.specs.declared.report.Status.{Status}
 use Rattle.ut_app.specs.declared.report.Status.TheVariants.{Done, Usage, NoStore, Exists, ReadFault, WriteFault, DiskFault, Damaged, Memory, TooLong}
-use Rattle.ut_app.specs.Keeping.{Begins}
-use Rattle.ut_app.specs.Ends.{World, FitsStore, all_fit, is_too_long, EndsBy, Reads, ReadsInput, ReadSoFar, IsReading, HasRisen, Run, IsComplete}
+use Rattle.ut_app.specs.Ends.{all_fit, is_too_long, EndsBy, Reads, ReadsInput, ReadSoFar, IsReading}
 
 -- ---- lines
 
@@ -86,7 +79,8 @@ reading-start limit (Some input) held e = record {
   rest = ap (λ (h : List ℕ). lines_of (h ++ input)) (sym e);
   all = let same = ap (λ (h : List ℕ). length (lines_of (h ++ input))) e in omega (arith, same);
   few = omega arith;
-  fits = refl }
+  fits = refl;
+}
 
 -- what the next line is
 pub record NextOf (input : List ℕ) (count : ℕ) (line : List ℕ) : Type 0 where
@@ -112,7 +106,8 @@ reading-more limit (Some input) count old new left left2 r n fits few =
       rest = rw (add-one count) (next_rest count (lines_of input) new.line (lines_of (new.held ++ took.after)) next);
       all = omega (arith, all, len);
       few = omega (arith, few);
-      fits = rw (add-one count) (fit_more count (lines_of input) new.line (lines_of (new.held ++ took.after)) next r.fits fits) }
+      fits = rw (add-one count) (fit_more count (lines_of input) new.line (lines_of (new.held ++ took.after)) next r.fits fits);
+    }
 
 ends-done : (limit : ℕ) (input : List ℕ) (count : ℕ) (held : List ℕ) (left left2 : Option (List ℕ)) (r : ReadSoFar limit input count held left)
     → lines_of (held ++ r.after) ≡ [] → left2 ≡ Some [] → Reads limit input left2 Done count
@@ -125,7 +120,8 @@ ends-done limit input count held left left2 r none end =
     record {
       few = r.few;
       fits = r.fits;
-      ends = (not_too_long limit input (omega (arith, len, few)) (ap all_fit (sym whole) ∙ r.fits), len, end) }
+      ends = (not_too_long limit input (omega (arith, len, few)) (ap all_fit (sym whole) ∙ r.fits), len, end);
+    }
 
 pub reading-done : (limit : ℕ) (source : Option (List ℕ)) (count : ℕ) (old new : Reading) (left left2 : Option (List ℕ))
     → IsReading limit source count old.held left → NextLine old left (Ok false) new left2 → ReadsInput limit source left2 Done count

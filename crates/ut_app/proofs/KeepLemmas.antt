@@ -1,17 +1,15 @@
 -- What a run keeps, line by line.
-use Rattle.std.proofs.Common.{inl, inr, ℕ, ◌≡◌, ◌≤◌, ◌<◌, ◌+◌, ◌-◌, ◌⊎◌, List, [], ◌∷◌, ◌++◌, length, take, refl, sym, ap, ◌∙◌, subst, arith}
+use Rattle.std.proofs.Common.{inl, inr, ℕ, ◌≡◌, ◌≤◌, ◌-◌, ◌⊎◌, List, [], ◌∷◌, ◌++◌, sym, ap, ◌∙◌, subst, arith}
 use Rattle.std.proofs.lemmas.List.{take-append-le, length-append}
 use Rattle.ut_outside.specs.Disk.{View, Image, IsTold}
 use Rattle.ut_outside.specs.Run.{LeavesOnly}
 use Rattle.ut_outside.specs.declared.ack.Ack.{Ack}
-use Rattle.ut_pages.specs.Layout.{IsMade}
 use Rattle.ut_value.specs.declared.entry.Entry.{Entry}
 use Rattle.ut_plain.specs.Journal.{Journal, journal_len, prefix}
 use Rattle.ut_logged.specs.Readings.{HoldsJournal, HoldsPrefix}
 use Rattle.ut_app.specs.declared.words.Start.{Start}
 use Rattle.ut_app.specs.declared.words.Start.TheVariants.{New, Open}
-use Rattle.ut_app.specs.Keeping.{IsKept, AreKept, SinceEntry, Kept, HoldsRun, NothingPending, behind}
-use Rattle.ut_app.proofs.SayLemmas.{OnlyNow}
+use Rattle.ut_app.specs.Keeping.{IsKept, AreKept, SinceEntry, Kept, HoldsRun, behind}
 
 -- a journal that goes on from another
 pub record GoesOn (j k : Journal) : Type 0 where
@@ -29,7 +27,8 @@ holds_longer j k least c g h = record {
   count = h.count;
   no_fewer = h.no_fewer;
   no_more = let e = no_shorter j k g in omega (arith, e, h.no_more);
-  holds = subst (λ i. HoldsJournal i c) (sym (longer j g.more h.count h.no_more) ∙ ap (λ i. prefix i h.count) (sym g.is)) h.holds }
+  holds = subst (λ i. HoldsJournal i c) (sym (longer j g.more h.count h.no_more) ∙ ap (λ i. prefix i h.count) (sym g.is)) h.holds;
+}
 
 holds_less : (j : Journal) (n m : ℕ) (c : Image) → m ≤ n → HoldsPrefix j n c → HoldsPrefix j m c
 holds_less j n m c le h = record { count = h.count; no_fewer = omega (arith, le, h.no_fewer); no_more = h.no_more; holds = h.holds }
@@ -38,7 +37,8 @@ ack_kept : (old new : View) (j k : Journal) (ack : Ack) → GoesOn j k → Leave
 ack_kept old new j k ack g l kept = record {
   past = let e = l.later in omega (arith, e, kept.past);
   no_more = let e = no_shorter j k g in omega (arith, e, kept.no_more);
-  holds = λ c h. by c (l.before ack.moment c kept.past h) }
+  holds = λ c h. by c (l.before ack.moment c kept.past h);
+}
   where
     by : (c : Image) → old.crash_states_since ack.moment c ⊎ HoldsPrefix k (journal_len j) c → HoldsPrefix k ack.journal c
     by c (inl h) = holds_longer j k ack.journal c g (kept.holds c h)
@@ -60,7 +60,8 @@ run_holds Open k least c h = h
 since_more : (start : Start) (entry old new : View) (first j k : Journal) → GoesOn j k → journal_len first ≤ journal_len j → LeavesOnly old new (HoldsPrefix k (journal_len j)) → SinceEntry start entry old first j → SinceEntry start entry new first k
 since_more start entry old new first j k g le l s = record {
   past = let e = l.later in omega (arith, e, s.past);
-  holds = λ c h. by c (l.before entry.moment c s.past h) }
+  holds = λ c h. by c (l.before entry.moment c s.past h);
+}
   where
     by : (c : Image) → old.crash_states_since entry.moment c ⊎ HoldsPrefix k (journal_len j) c → HoldsRun start k (journal_len first) c
     by c (inl h) = run_longer start j k (journal_len first) c g (s.holds c h)
@@ -72,7 +73,8 @@ kept_on start entry old new first j k acks g told l kept = record {
   told = told;
   no_more = let e = no_shorter j k g in omega (arith, e, kept.no_more);
   acknowledged = acks_kept old new j k acks g l kept.acknowledged;
-  since_entry = λ nothing. since_more start entry old new first j k g kept.no_more l (kept.since_entry nothing) }
+  since_entry = λ nothing. since_more start entry old new first j k g kept.no_more l (kept.since_entry nothing);
+}
 
 acks_more : (v : View) (j : Journal) (acks : List Ack) (ack : Ack) → AreKept v j acks → IsKept v j ack → AreKept v j (acks ++ ack ∷ [])
 acks_more v j [] ack kept k = (k, tt)
@@ -85,4 +87,5 @@ kept_ack start entry now first j acks n few holds kept = record {
   told = kept.told;
   no_more = kept.no_more;
   acknowledged = acks_more now j acks (record { journal = n; moment = now.moment }) kept.acknowledged (record { past = omega arith; no_more = few; holds = holds });
-  since_entry = kept.since_entry }
+  since_entry = kept.since_entry;
+}

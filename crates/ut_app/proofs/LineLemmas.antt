@@ -1,19 +1,18 @@
 -- What a line says has a session that there is, and a statement that suits it.
-use Rattle.std.proofs.Common.{ℕ, suc, zero, ◌≡◌, ◌<◌, ◌≤◌, Bool, true, false, cond, ◌&&◌, List, [], ◌∷◌, Option, None, Some, refl, ap, ◌∙◌, sym, subst, arith}
+use Rattle.std.proofs.Common.{ℕ, suc, zero, ◌≡◌, ◌<◌, Bool, true, false, cond, ◌&&◌, List, [], ◌∷◌, Option, None, Some, refl, arith}
 use Rattle.std.proofs.lemmas.Grind.{common_steps}
-use Rattle.std.specs.Prelude.{nat_eq, nat_le, codes, IsTrue}
+use Rattle.std.specs.Prelude.{nat_eq, nat_le, codes}
 use Rattle.std.specs.Option.{option_map}
 use Rattle.ut_value.specs.Text.{same_bytes, is_name}
 use Rattle.ut_plain.specs.declared.statement.Statement.{Statement}
 use Rattle.ut_plain.specs.declared.statement.Statement.TheVariants as statements
 use Rattle.ut_plain.specs.declared.statement.Parsed.{Parsed}
-use Rattle.ut_plain.specs.declared.statement.Parsed.TheVariants.{Comment, Stranger, Bad, Good}
-use Rattle.ut_plain.specs.Spelled.{is_spelled}
+use Rattle.ut_plain.specs.declared.statement.Parsed.TheVariants.{Comment}
 use Rattle.ut_plain.specs.Laws.{is_spelled_line}
 use Rattle.ut_store.specs.Standing.{is_of_store, suits_session}
 use Rattle.ut_script.specs.Words.{words_of}
 use Rattle.ut_script.specs.Literals.{number_of, within}
-use Rattle.ut_script.specs.Statements.{session_statement_of, alone, count_of, merge_kind_of, merge_l1_of, merge_begin_of, save_step_of, save_of, merge_end_of, merge_of, shape_of, said_or, store_statement_of}
+use Rattle.ut_script.specs.Statements.{alone, count_of, merge_kind_of, merge_l1_of, merge_begin_of, save_step_of, save_of, merge_end_of, merge_of, shape_of, said_or, store_statement_of}
 use Rattle.ut_script.specs.Grammar.{session_of, statement_of, said_by, line_with, line_of, parsed}
 use Rattle.ut_script.proofs.SpelledLaws.{passes, if_passes, map_passes, lines_spelled}
 use Rattle.ut_app.specs.Saying.{IsKnown}

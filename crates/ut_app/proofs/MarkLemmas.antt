@@ -1,10 +1,10 @@
 -- The moments of answers.
-use Rattle.std.proofs.Common.{ℕ, zero, suc, ◌+◌, ◌≡◌, ◌≤◌, ◌<◌, List, [], ◌∷◌, ◌++◌, length, replicate, get_or, slice_get, Option, None, Some, Result, Ok, Err, refl, sym, ap, ◌∙◌, subst, arith, append_assoc, append-nil}
+use Rattle.std.proofs.Common.{ℕ, zero, suc, ◌+◌, ◌≡◌, ◌≤◌, List, [], ◌∷◌, ◌++◌, length, replicate, get_or, slice_get, Option, None, Some, Ok, Err, refl, sym, ap, ◌∙◌, subst, arith, append_assoc, append-nil}
 use Rattle.std.proofs.lemmas.List.{length-append, length-replicate}
 use Rattle.ut_outside.specs.declared.ack.Ack.{Ack}
 use Rattle.ut_outside.specs.declared.faults.Failed as fails
 use Rattle.ut_plain.specs.Transcript.{Answer}
-use Rattle.ut_script.specs.Texts.{session_text, reply_body, reply_text}
+use Rattle.ut_script.specs.Texts.{session_text, reply_body}
 use Rattle.ut_app.specs.Writing.{answer_text, texts_of, WroteAll, WroteSome, Writes, AreMarked, AreMarkedBy, WroteAnswers, HasWritten, WroteFront}
 use Rattle.ut_app.specs.Serving.{HasFront}
 
@@ -76,7 +76,8 @@ more_by b answers a held marks acks n m then marks_then w all =
       bytes = all.bytes ∙ ap (λ t. Some t) bytes;
       each_byte = ap (λ (xs : List ℕ). length xs) all.moments ∙ (let e : length (marks ++ replicate (length text) m) ≡ length (b ++ texts_of (answers ++ a ∷ [])) = omega (arith, length-append marks (replicate (length text) m), length-replicate (length text) m, length-append (b ++ texts_of answers) text, w.each_byte, ap (λ (xs : List ℕ). length xs) bytes) in e);
       marked = subst (λ (xs : List ℕ). AreMarked (answers ++ a ∷ []) (length b) xs (acks ++ record { journal = n; moment = m } ∷ [])) (sym all.moments)
-          (marked_more answers (length b) marks (replicate (length text) m) acks a (record { journal = n; moment = m }) w.marked (ap (λ i. slice_get (marks ++ replicate (length text) m) i) place ∙ get_first marks (length text) m (has_text a))) }
+          (marked_more answers (length b) marks (replicate (length text) m) acks a (record { journal = n; moment = m }) w.marked (ap (λ i. slice_get (marks ++ replicate (length text) m) i) place ∙ get_first marks (length text) m (has_text a)));
+    }
 
 pub written-more : (before : Option (List ℕ)) (answers : List Answer) (a : Answer) (held : Option (List ℕ)) (marks : List ℕ) (acks : List Ack) (n m : ℕ) (then : Option (List ℕ)) (marks_then : List ℕ) → HasWritten before answers held marks acks
     → Writes {T = Unit {0}} {E = fails.Failed} held marks (answer_text a) m (Ok tt) then marks_then → HasWritten before (answers ++ a ∷ []) then marks_then (acks ++ record { journal = n; moment = m } ∷ [])
@@ -95,7 +96,8 @@ some_by b answers a held marks acks n m then marks_then w some =
       parts = texts-one answers a ∙ ap (λ t. texts_of answers ++ t) some.parts ∙ sym (append_assoc (texts_of answers) some.front some.rest);
       bytes = some.wrote.bytes ∙ ap (λ t. Some t) (append_assoc b (texts_of answers) some.front);
       marked = subst (λ (xs : List ℕ). AreMarkedBy (answers ++ a ∷ []) (length b) xs m (acks ++ record { journal = n; moment = m } ∷ [])) (sym some.wrote.moments)
-          (marked_last answers (length b) marks more m acks a (record { journal = n; moment = m }) w.marked (sym (or_first marks (length some.front) m) ∙ ap (λ i. get_or (marks ++ more) i m) place)) }
+          (marked_last answers (length b) marks more m acks a (record { journal = n; moment = m }) w.marked (sym (or_first marks (length some.front) m) ∙ ap (λ i. get_or (marks ++ more) i m) place));
+    }
 
 pub written-some : (before : Option (List ℕ)) (answers : List Answer) (a : Answer) (held : Option (List ℕ)) (marks : List ℕ) (acks : List Ack) (n m : ℕ) (then : Option (List ℕ)) (marks_then : List ℕ) (e : fails.Failed) → HasWritten before answers held marks acks
     → Writes {T = Unit {0}} {E = fails.Failed} held marks (answer_text a) m (Err e) then marks_then → HasFront before (answers ++ a ∷ []) m then marks_then (acks ++ record { journal = n; moment = m } ∷ [])

@@ -1,30 +1,24 @@
 -- What a run comes to, at each of its ends.
-use Rattle.std.proofs.Common.{inl, inr, ℕ, ◌+◌, ◌≡◌, ◌≤◌, ◌<◌, ◌⊎◌, List, [], ◌∷◌, length, Option, None, Some, Result, Ok, Err, refl, sym, ap, ◌∙◌, subst, arith, Bool, true, false, cond}
-use Rattle.std.specs.Prelude.{if◌then◌else◌}
+use Rattle.std.proofs.Common.{inl, inr, ℕ, ◌+◌, ◌≡◌, ◌≤◌, ◌<◌, ◌⊎◌, List, [], length, Option, None, Some, Ok, Err, refl, sym, ap, ◌∙◌, subst, arith, true, false}
 use Rattle.ut_outside.specs.Disk.{View, Image, IsTold}
 use Rattle.ut_outside.specs.Faults.{Rose}
 use Rattle.ut_outside.specs.declared.ack.Ack.{Ack}
 use Rattle.ut_plain.specs.Journal.{Journal, journal_len}
-use Rattle.ut_plain.specs.Plain.{Plain}
-use Rattle.ut_script.specs.declared.lines.LineError.{LineError}
-use Rattle.ut_script.specs.declared.lines.LineError.TheVariants as failed
-use Rattle.ut_script.specs.Lines.{Reading, NextLine, Counts, hands_out}
+use Rattle.ut_script.specs.Lines.{Reading, NextLine, Counts}
 use Rattle.ut_script.specs.Grammar.{parsed}
 use Rattle.ut_logged.specs.Logged.{Logged}
-use Rattle.ut_logged.specs.Runs.{Runs}
 use Rattle.ut_app.specs.declared.words.Start.{Start}
 use Rattle.ut_app.specs.declared.report.Report.{Report}
 use Rattle.ut_outside.specs.Acks.{Acks}
 use Rattle.ut_app.specs.declared.report.Status.{Status}
 use Rattle.ut_app.specs.declared.report.Status.TheVariants.{Done, Usage, NoStore, Exists, ReadFault, WriteFault, DiskFault, Damaged, Memory, TooLong}
-use Rattle.ut_app.specs.declared.turn.TurnEnd.{TurnEnd}
 use Rattle.ut_app.specs.declared.turn.TurnEnd.TheVariants as ends
 use Rattle.ut_app.specs.Saying.{IsRunning}
-use Rattle.ut_app.specs.Turning.{Sunk, Noted, Turns}
+use Rattle.ut_app.specs.Turning.{Turns}
 use Rattle.ut_app.specs.Keeping.{Begins, HoldsRun, NothingPending}
 use Rattle.ut_app.specs.Beginning.{Begun, NotBegun}
-use Rattle.ut_app.specs.Serving.{IsProgress, Ran, EndedEarly}
-use Rattle.ut_app.specs.Ends.{World, FitsStore, ReadsInput, IsReading, HasRisen, IsEarly, RanOn, RunEnd, Early, Late, Run}
+use Rattle.ut_app.specs.Serving.{IsProgress}
+use Rattle.ut_app.specs.Ends.{World, FitsStore, ReadsInput, IsReading, HasRisen, IsEarly, RanOn, Early, Late, Run}
 use Rattle.ut_app.specs.declared.words.Start.TheVariants.{Open}
 use Rattle.ut_app.specs.Top.{RunsWords}
 use Rattle.ut_app.specs.Going.{BeginsWith, Going}
@@ -68,7 +62,8 @@ late start before after status lines acks journal l ran begins input cause = rec
   store = λ told. late_fits status start before.disk.seen l (begins told);
   input = input;
   cause = cause;
-  taken = late_words status l }
+  taken = late_words status l;
+}
 
 -- ---- early ends
 
@@ -109,13 +104,14 @@ early start before disk status said lines acks journal is none no_acks no_journa
       store = n.fits;
       input = subst (λ (k : ℕ). ReadsInput 1048576 before.source before.source status k) (sym none) (unread 1048576 before.source status (early_cut status n.early));
       cause = early_cause status before (record before { disk = disk }) n.early n.cause;
-      taken = λ e. subst IsEarly e n.early })
+      taken = λ e. subst IsEarly e n.early;
+    })
 
 -- memory was wanting before the store was touched
 pub no_memory : (start : Start) (before : World) (said : Status) (lines : ℕ) (acks : List Ack) (journal : ℕ) → OnlyNow before.disk → said ≡ Memory → lines ≡ 0 → acks ≡ [] → journal ≡ 0 → Run start before before said lines acks journal
 no_memory start before said lines acks journal only is none no_acks no_journal =
     early start before before.disk Memory said lines acks journal is none no_acks no_journal
-      (record { early = tt; fits = λ told. tt; cause = λ e. cc; since_entry = λ told first begins nothing c h. untouched start before.disk only told first begins nothing c h })
+    (record { early = tt; fits = λ told. tt; cause = λ e. cc; since_entry = λ told first begins nothing c h. untouched start before.disk only told first begins nothing c h })
 
 -- ---- the way
 
@@ -137,7 +133,8 @@ going-start start before disk lines store acks journal is b none len each told f
   told = told;
   reads = omega arith;
   writes = omega arith;
-  faults = faults }
+  faults = faults;
+}
 
 more_by : (source : Option (List ℕ)) (start : Start) (sink : Option (List ℕ)) (entry : View) (count : ℕ) (lines next : Reading) (left left2 : Option (List ℕ)) (old new : Logged) (was now : View) (held held_now : Option (List ℕ)) (marks marks_now : List ℕ) (acks acks_now : List Ack) (journal journal_now : ℕ)
     → IsReading 1048576 source count lines.held left → NextLine lines left (Ok true) next left2 → now.told ≡ was.told → OnlyNow now → CountsNow now → IsProgress start source sink entry count old was held marks acks journal
@@ -173,7 +170,8 @@ going-more start before mid now count lines next old new acks acks_now journal j
   told = told ∙ g.told;
   reads = let a = g.reads in omega (arith, a, reads);
   writes = let a = g.writes in omega (arith, a, writes);
-  faults = let a = g.faults in omega (arith, a, faults) }
+  faults = let a = g.faults in omega (arith, a, faults);
+}
 
 -- so many lines at most were read
 pub few_read : (start : Start) (before mid : World) (count : ℕ) (lines next : Reading) (old : Logged) (acks : List Ack) (journal : ℕ) → Going start before mid count lines old acks journal → Counts lines (Ok true) next → count < 1048576
@@ -218,8 +216,8 @@ pub at_write : (start : Start) (before mid after : World) (count : ℕ) (lines n
     → Run start before after WriteFault (count + 1) acks_now journal_now
 at_write start before mid after count lines next old new acks acks_now journal journal_now g few n short told only counts rose t =
     late start before after WriteFault (count + 1) acks_now journal_now tt
-      (write_by before.source start before after count lines next mid.source after.source old new mid.disk mid.sink mid.marks acks acks_now journal journal_now g.reading n told only counts g.faults g.progress t)
-      g.begins (reading-cut 1048576 before.source (count + 1) next.held after.source after.source WriteFault (reading-more 1048576 before.source count lines next mid.source after.source g.reading n short few) tt) (let a = g.writes in omega (arith, a, rose))
+    (write_by before.source start before after count lines next mid.source after.source old new mid.disk mid.sink mid.marks acks acks_now journal journal_now g.reading n told only counts g.faults g.progress t)
+    g.begins (reading-cut 1048576 before.source (count + 1) next.held after.source after.source WriteFault (reading-more 1048576 before.source count lines next mid.source after.source g.reading n short few) tt) (let a = g.writes in omega (arith, a, rose))
 
 -- the disk failed
 pub at_disk : (start : Start) (before mid after : World) (count : ℕ) (lines next : Reading) (old new : Logged) (acks acks_now : List Ack) (journal journal_now : ℕ) → Going start before mid count lines old acks journal → count < 1048576
@@ -228,8 +226,8 @@ pub at_disk : (start : Start) (before mid after : World) (count : ℕ) (lines ne
     → Run start before after DiskFault (count + 1) acks_now journal_now
 at_disk start before mid after count lines next old new acks acks_now journal journal_now g few n short told only counts rose t =
     late start before after DiskFault (count + 1) acks_now journal_now tt
-      (disk_by before.source start before after count lines next mid.source after.source old new mid.disk mid.sink mid.marks acks acks_now journal journal_now g.reading n told only counts rose g.faults g.progress t)
-      g.begins (reading-cut 1048576 before.source (count + 1) next.held after.source after.source DiskFault (reading-more 1048576 before.source count lines next mid.source after.source g.reading n short few) tt) (let a = g.faults in omega (arith, a, rose))
+    (disk_by before.source start before after count lines next mid.source after.source old new mid.disk mid.sink mid.marks acks acks_now journal journal_now g.reading n told only counts rose g.faults g.progress t)
+    g.begins (reading-cut 1048576 before.source (count + 1) next.held after.source after.source DiskFault (reading-more 1048576 before.source count lines next mid.source after.source g.reading n short few) tt) (let a = g.faults in omega (arith, a, rose))
 
 -- room was made for an acknowledgement
 pub roomy : (start : Start) (before mid : World) (count : ℕ) (lines : Reading) (store : Logged) (acks acks_now : List Ack) (journal journal_now : ℕ) → Going start before mid count lines store acks journal → acks_now ≡ acks → journal_now ≡ journal → Going start before mid count lines store acks_now journal_now
@@ -249,4 +247,5 @@ no_words words before status lines acks journal is only none no_acks no_journal 
   no_journal = no_journal;
   same = refl;
   same_marks = refl;
-  since_entry = λ told first begins nothing c h. untouched Open before.disk only told first begins nothing c h })
+  since_entry = λ told first begins nothing c h. untouched Open before.disk only told first begins nothing c h;
+})

@@ -1,15 +1,11 @@
 -- What a line comes to.
-use Rattle.std.proofs.Common.{inl, inr, ℕ, zero, suc, ◌≡◌, ◌≤◌, ◌<◌, ◌+◌, ◌-◌, ◌⊎◌, Bool, true, false, List, [], ◌∷◌, ◌++◌, length, take, Option, None, Some, refl, ap, ◌∙◌, sym, subst, arith}
+use Rattle.std.proofs.Common.{inl, inr, ℕ, zero, suc, ◌≡◌, ◌<◌, ◌-◌, ◌⊎◌, Bool, true, false, List, [], ◌∷◌, Option, None, Some, refl, ap, ◌∙◌, sym, subst, arith}
 use Rattle.std.proofs.lemmas.List.{take_all}
-use Rattle.std.specs.Prelude.{IsTrue, not}
-use Rattle.ut_outside.specs.Disk.{View, Image, IsTold}
-use Rattle.ut_outside.specs.Run.{LeavesOnly}
+use Rattle.ut_outside.specs.Disk.{View, Image}
 use Rattle.ut_outside.proofs.RunLemmas.{started}
 use Rattle.ut_value.specs.declared.entry.Op.{Op}
 use Rattle.ut_plain.specs.declared.statement.Statement.{Statement}
 use Rattle.ut_plain.specs.declared.statement.Statement.TheVariants as statements
-use Rattle.ut_plain.specs.declared.statement.Query.{Query}
-use Rattle.ut_plain.specs.declared.statement.Query.TheVariants as queries
 use Rattle.ut_plain.specs.declared.statement.Parsed.{Parsed}
 use Rattle.ut_plain.specs.declared.statement.Parsed.TheVariants.{Comment, Stranger, Bad, Good}
 use Rattle.ut_plain.specs.declared.reply.Reply.{Reply}
@@ -21,24 +17,22 @@ use Rattle.ut_plain.specs.Journal.{Journal, journal_len, prefix}
 use Rattle.ut_plain.specs.Plain.{Plain, open_at}
 use Rattle.ut_plain.specs.View.{view}
 use Rattle.ut_plain.specs.Refusals.{refusal}
-use Rattle.ut_plain.specs.Step.{step, step_by, effect_of, committed, committed_by, changed, said_changed, said_alone, MayAnswer, Steps, LacksMemory, may_lack_memory}
-use Rattle.ut_plain.specs.Transcript.{Answer, AnswersLine, AnswersStatement, Faults}
-use Rattle.ut_script.specs.Texts.{reply_text, is_small, items_room, reply_room}
-use Rattle.ut_script.specs.Statements.{is_bare, needs_memory}
-use Rattle.ut_script.specs.Grammar.{MayLackMemory, parsed}
+use Rattle.ut_plain.specs.Step.{step, step_by, effect_of, committed, committed_by, said_changed, said_alone, MayAnswer, Steps, LacksMemory, may_lack_memory}
+use Rattle.ut_plain.specs.Transcript.{Answer, AnswersLine}
+use Rattle.ut_script.specs.Texts.{reply_text, is_small}
+use Rattle.ut_script.specs.Statements.{needs_memory}
+use Rattle.ut_script.specs.Grammar.{MayLackMemory}
 use Rattle.ut_logged.specs.Logged.{Logged}
-use Rattle.ut_logged.specs.Readings.{IsReading, HoldsJournal, HoldsPrefix}
+use Rattle.ut_logged.specs.Readings.{IsReading, HoldsPrefix}
 use Rattle.ut_logged.specs.Runs.{Runs}
 use Rattle.ut_logged.specs.Serves.{Serves, IsAnswered, IsLost}
 use Rattle.ut_app.specs.declared.say.Said.{Said}
 use Rattle.ut_app.specs.declared.say.Said.TheVariants as saids
-use Rattle.ut_app.specs.Writing.{answer_text}
-use Rattle.ut_app.specs.Saying.{IsKnown, IsText, Whole, Lacking, Keeps, Outcome, Quiet, Replied, Failed, Says, said_of}
+use Rattle.ut_app.specs.Saying.{IsText, Whole, Lacking, Keeps, Outcome, Quiet, Replied, Failed, Says, said_of}
 
 -- a disk's own moment leaves what a crash leaves now
 abbrev pub OnlyNow : View → Type 0
 OnlyNow v = (c : Image) → v.crash_states_since v.moment c → v.crash_states c
-
 
 -- a whole journal is a prefix of itself
 pub whole : (j : Journal) (end : ℕ) (c : Image) → IsReading j end c → HoldsPrefix j (journal_len j) c
@@ -153,8 +147,10 @@ says_by p old before session st reply new after text is (inr l) =
 
 pub says_statement : (old : Logged) (before : View) (session : ℕ) (st : Statement) (reply : Reply) (new : Logged) (after : View) (text : List ℕ) (said : Said) → Serves old before session st reply new after → IsText session reply text → said ≡ said_of reply
     → Says old before (Good session st) said new after text
-says_statement old before session st reply new after text said serves is e = record { each = λ p runs.
-    subst (λ s. Outcome p (Good session st) before s new after text) (sym e) (says_by p old before session st reply new after text is (serves.each p runs)) }
+says_statement old before session st reply new after text said serves is e = record {
+  each = λ p runs.
+      subst (λ s. Outcome p (Good session st) before s new after text) (sym e) (says_by p old before session st reply new after text is (serves.each p runs));
+}
 
 -- ---- other lines
 
@@ -198,7 +194,8 @@ lacks p (Bad n) session h = absurd h
 lacks p (Good owner st) session h = record {
   reply = replies.Refused refusals.Memory;
   is = ap (λ (n : ℕ). record { session = Some n; reply = replies.Refused refusals.Memory } ∷ []) (sym h.0);
-  may = LacksMemory (not_bare st h.1) refl refl }
+  may = LacksMemory (not_bare st h.1) refl refl;
+}
 
 pub says_lacking : (e : Logged) (v : View) (line : Parsed) (session : ℕ) (said : Said) (text : List ℕ) → OnlyNow v → MayLackMemory session line → said ≡ saids.Reply → text ≡ reply_text (Some session) (replies.Refused refusals.Memory) → Says e v line said e v text
 says_lacking e v line session said text only may k t =

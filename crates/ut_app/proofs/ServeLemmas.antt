@@ -1,17 +1,15 @@
 -- How far a run is, line by line, and what it comes to.
-use Rattle.std.proofs.Common.{inl, inr, ℕ, ◌+◌, ◌≡◌, ◌≤◌, ◌⊎◌, List, [], ◌∷◌, ◌++◌, length, take, drop, Option, None, Some, Result, Ok, Err, refl, sym, ap, ◌∙◌, subst, arith, append-nil, false}
-use Rattle.std.specs.Prelude.{map}
+use Rattle.std.proofs.Common.{inl, inr, ℕ, ◌+◌, ◌≡◌, ◌≤◌, ◌⊎◌, List, [], ◌∷◌, ◌++◌, length, Option, Some, Result, Ok, Err, refl, sym, ap, ◌∙◌, subst, arith, append-nil, false}
 use Rattle.ut_outside.specs.Disk.{View, Image, IsTold}
 use Rattle.ut_outside.specs.Faults.{Rose}
 use Rattle.ut_outside.specs.declared.ack.Ack.{Ack}
 use Rattle.ut_outside.specs.declared.faults.Failed as fails
 use Rattle.ut_plain.specs.declared.statement.Parsed.{Parsed}
-use Rattle.ut_plain.specs.Journal.{Journal, journal_len}
+use Rattle.ut_plain.specs.Journal.{journal_len}
 use Rattle.ut_plain.specs.Plain.{Plain, opened_store}
 use Rattle.ut_plain.specs.Transcript.{Answer, AnswersLine, Faults}
 use Rattle.ut_script.specs.Grammar.{parsed}
 use Rattle.ut_logged.specs.Logged.{Logged}
-use Rattle.ut_logged.specs.Readings.{HoldsPrefix}
 use Rattle.ut_logged.specs.Runs.{Runs}
 use Rattle.ut_app.specs.declared.words.Start.{Start}
 use Rattle.ut_app.specs.declared.report.Status.{Status}
@@ -21,10 +19,10 @@ use Rattle.ut_app.specs.declared.turn.TurnEnd.TheVariants as ends
 use Rattle.ut_app.specs.Writing.{answer_text, Writes, HasWritten}
 use Rattle.ut_app.specs.Telling.{Tells, AnswersAll, AnswersToFault}
 use Rattle.ut_app.specs.Saying.{Keeps}
-use Rattle.ut_app.specs.Turning.{Sunk, Noted, with_ack, Turn, Quiet, Told, Unwritten, Lost, LostUnwritten, Turns}
-use Rattle.ut_app.specs.Keeping.{Begins, Kept}
+use Rattle.ut_app.specs.Turning.{Sunk, Noted, Turn, Quiet, Told, Unwritten, Lost, LostUnwritten}
+use Rattle.ut_app.specs.Keeping.{Kept}
 use Rattle.ut_app.specs.Beginning.{Begun}
-use Rattle.ut_app.specs.Serving.{rows_limit, first_lines, lengths_of, Progress, IsProgress, HasFront, IsFault, Ran}
+use Rattle.ut_app.specs.Serving.{rows_limit, first_lines, lengths_of, Progress, HasFront, IsFault, Ran}
 use Rattle.ut_app.proofs.SayLemmas.{OnlyNow, whole}
 use Rattle.ut_app.proofs.KeepLemmas.{GoesOn, no_shorter, kept_on, kept_ack}
 use Rattle.ut_app.proofs.TellLemmas.{tells_more, whole_transcript, cut_transcript, line_on, fault_on}
@@ -52,7 +50,8 @@ progress-start start input before entry now store marks acks journal begun none 
       runs = begun.runs;
       written = nothing_written before marks each;
       kept = begun.kept;
-      length_is = is ∙ begun.runs.stands.counts.entries })
+      length_is = is ∙ begun.runs.stands.counts.entries;
+    })
 
 -- a line with no answer
 pub record QuietTurn (p : Plain) (line : Parsed) (was : View) (acks : List Ack) (held : Option (List ℕ)) (marks : List ℕ) (new : Logged) (now : View) (acks_now : List Ack) (journal_now : ℕ) (held_now : Option (List ℕ)) (marks_now : List ℕ) : Type 0 where
@@ -98,7 +97,6 @@ module _ (start : Start) (input : List ℕ) (before : Option (List ℕ)) (entry 
     (line : List ℕ) (one : first_lines (count + 1) input ≡ first_lines count input ++ parsed false line ∷ [])
     (told : now.told ≡ was.told) (only : OnlyNow now) (counts : CountsNow now)
     (p : Progress start input before entry count old was held marks acks journal) where
-
   goes : (q : Plain) → GoesOn p.plain.journal q.journal → Keeps was now q.journal (journal_len p.plain.journal) → IsTold entry → Kept start entry now p.first q.journal acks
   goes q on keeps e = let kept = p.kept e in kept_on start entry was now p.first p.plain.journal q.journal acks on (told ∙ kept.told) (keeps kept.told) kept
 
@@ -117,15 +115,15 @@ module _ (start : Start) (input : List ℕ) (before : Option (List ℕ)) (entry 
       → Tells (opened_store [] p.first rows_limit) (first_lines (count + 1) input) (p.answers ++ a ∷ []) (lengths_of (acks ++ record { journal = journal_len q.journal; moment = now.moment } ∷ [])) q
   tells_one a q answers =
       subst (λ (ls : List Parsed). Tells (opened_store [] p.first rows_limit) ls (p.answers ++ a ∷ []) (lengths_of (acks ++ record { journal = journal_len q.journal; moment = now.moment } ∷ [])) q) (sym one)
-        (subst (λ (ns : List ℕ). Tells (opened_store [] p.first rows_limit) (first_lines count input ++ parsed false line ∷ []) (p.answers ++ a ∷ []) ns q) (sym (lengths-one acks (record { journal = journal_len q.journal; moment = now.moment })))
-          (tells_more (opened_store [] p.first rows_limit) (first_lines count input) p.answers (lengths_of acks) p.plain (parsed false line) (a ∷ []) q p.tells answers))
+      (subst (λ (ns : List ℕ). Tells (opened_store [] p.first rows_limit) (first_lines count input ++ parsed false line ∷ []) (p.answers ++ a ∷ []) ns q) (sym (lengths-one acks (record { journal = journal_len q.journal; moment = now.moment })))
+      (tells_more (opened_store [] p.first rows_limit) (first_lines count input) p.answers (lengths_of acks) p.plain (parsed false line) (a ∷ []) q p.tells answers))
 
   tells_none : (q : Plain) → AnswersLine p.plain (parsed false line) [] q → Tells (opened_store [] p.first rows_limit) (first_lines (count + 1) input) p.answers (lengths_of acks) q
   tells_none q answers =
       subst (λ (ls : List Parsed). Tells (opened_store [] p.first rows_limit) ls p.answers (lengths_of acks) q) (sym one)
-        (subst (λ (ns : List ℕ). Tells (opened_store [] p.first rows_limit) (first_lines count input ++ parsed false line ∷ []) p.answers ns q) (append-nil (lengths_of acks))
-          (subst (λ (xs : List Answer). Tells (opened_store [] p.first rows_limit) (first_lines count input ++ parsed false line ∷ []) xs (lengths_of acks ++ []) q) (append-nil p.answers)
-            (tells_more (opened_store [] p.first rows_limit) (first_lines count input) p.answers (lengths_of acks) p.plain (parsed false line) [] q p.tells answers)))
+      (subst (λ (ns : List ℕ). Tells (opened_store [] p.first rows_limit) (first_lines count input ++ parsed false line ∷ []) p.answers ns q) (append-nil (lengths_of acks))
+      (subst (λ (xs : List Answer). Tells (opened_store [] p.first rows_limit) (first_lines count input ++ parsed false line ∷ []) xs (lengths_of acks ++ []) q) (append-nil p.answers)
+      (tells_more (opened_store [] p.first rows_limit) (first_lines count input) p.answers (lengths_of acks) p.plain (parsed false line) [] q p.tells answers)))
 
   quiet_on : (q : Plain) → AnswersLine p.plain (parsed false line) [] q → Runs new now q → Keeps was now q.journal (journal_len p.plain.journal) → acks_now ≡ acks → journal_now ≡ journal_len q.journal → held_now ≡ held → marks_now ≡ marks
       → Progress start input before entry (count + 1) new now held_now marks_now acks_now journal_now
@@ -141,7 +139,8 @@ module _ (start : Start) (input : List ℕ) (before : Option (List ℕ)) (entry 
         runs = runs;
         written = p.written;
         kept = goes q (line_on p.plain (parsed false line) [] q answers) keeps;
-        length_is = f })))
+        length_is = f;
+      })))
 
   told_on : (a : Answer) (q : Plain) → AnswersLine p.plain (parsed false line) (a ∷ []) q → Runs new now q → Keeps was now q.journal (journal_len p.plain.journal) → acks_now ≡ acks ++ record { journal = journal_len q.journal; moment = now.moment } ∷ [] → journal_now ≡ journal_len q.journal
       → Writes {T = Unit {0}} {E = fails.Failed} held marks (answer_text a) now.moment (Ok tt) held_now marks_now
@@ -156,7 +155,8 @@ module _ (start : Start) (input : List ℕ) (before : Option (List ℕ)) (entry 
         runs = runs;
         written = written-more before p.answers a held marks acks (journal_len q.journal) now.moment held_now marks_now p.written w;
         kept = goes_acked q (line_on p.plain (parsed false line) (a ∷ []) q answers) keeps runs;
-        length_is = f })
+        length_is = f;
+      })
 
   -- one line was answered
   progress_by : QuietTurn p.plain (parsed false line) was acks held marks new now acks_now journal_now held_now marks_now ⊎ ToldTurn p.plain (parsed false line) was acks held marks new now acks_now journal_now held_now marks_now
@@ -182,7 +182,8 @@ module _ (start : Start) (input : List ℕ) (before : Option (List ℕ)) (entry 
         answered = inl all;
         written = written-some before p.answers a held marks acks (journal_len q.journal) now.moment held_now marks_now x p.written w;
         all_written = λ other. absurd (other refl);
-        kept = goes_acked q (line_on p.plain (parsed false line) (a ∷ []) q answers) keeps runs })
+        kept = goes_acked q (line_on p.plain (parsed false line) (a ∷ []) q answers) keeps runs;
+      })
 
   to_fault : (a : Answer) (q : Plain) → Faults p.plain (parsed false line) (a ∷ []) q → journal_now ≡ journal_len p.plain.journal
       → AnswersToFault (opened_store [] p.first rows_limit) (first_lines (count + 1) input) (p.answers ++ a ∷ []) (lengths_of (acks ++ record { journal = journal_len p.plain.journal; moment = now.moment } ∷ [])) journal_now q
@@ -198,7 +199,8 @@ module _ (start : Start) (input : List ℕ) (before : Option (List ℕ)) (entry 
     lengths_are = lengths-one acks (record { journal = journal_len p.plain.journal; moment = now.moment });
     tells = p.tells;
     faults = faults;
-    length_is = f }
+    length_is = f;
+  }
 
   lost_end : (status : Status) (a : Answer) (q : Plain) → Faults p.plain (parsed false line) (a ∷ []) q → Keeps was now q.journal (journal_len p.plain.journal) → acks_now ≡ acks ++ record { journal = journal_len p.plain.journal; moment = now.moment } ∷ [] → journal_now ≡ journal_len p.plain.journal
       → IsFault status → Rose entry.faults now.faults → HasFront before (p.answers ++ a ∷ []) now.moment held_now marks_now (acks ++ record { journal = journal_len p.plain.journal; moment = now.moment } ∷ [])
@@ -215,7 +217,8 @@ module _ (start : Start) (input : List ℕ) (before : Option (List ℕ)) (entry 
         answered = inr (cut, fault, rose);
         written = front;
         all_written = all;
-        kept = loses_acked q (fault_on p.plain (parsed false line) (a ∷ []) q faults) keeps })
+        kept = loses_acked q (fault_on p.plain (parsed false line) (a ∷ []) q faults) keeps;
+      })
 
   -- the sink failed at the answer
   pub write_end : Rose was.faults now.faults ⊎ Unit {0} → entry.faults ≤ was.faults
@@ -227,7 +230,7 @@ module _ (start : Start) (input : List ℕ) (before : Option (List ℕ)) (entry 
   write_end any le (Lost a q r faults keeps n w) = cc
   write_end any le (LostUnwritten a q x r faults keeps rose n w) =
       lost_end statuses.WriteFault a q faults keeps (ap (λ (x : Noted). x.acks) n) (ap (λ (x : Noted). x.journal) n) tt (omega (arith, le, rose))
-        (written-some before p.answers a held marks acks (journal_len p.plain.journal) now.moment held_now marks_now x p.written w) (λ other. absurd (other refl))
+      (written-some before p.answers a held marks acks (journal_len p.plain.journal) now.moment held_now marks_now x p.written w) (λ other. absurd (other refl))
 
   -- the disk failed at the line
   pub disk_end : Rose was.faults now.faults → entry.faults ≤ was.faults
@@ -255,4 +258,5 @@ progress-end start input before entry count store now held marks acks journal st
       answered = inl all;
       written = whole_front before p.answers now.moment held marks acks p.written;
       all_written = λ other. p.written;
-      kept = p.kept }
+      kept = p.kept;
+    }

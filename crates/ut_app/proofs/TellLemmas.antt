@@ -1,5 +1,5 @@
 -- Answers to lines, one line more at a time.
-use Rattle.std.proofs.Common.{inl, inr, ℕ, zero, suc, ◌+◌, ◌≡◌, ◌≤◌, false, List, [], ◌∷◌, ◌++◌, length, take, drop, refl, sym, ap, ◌∙◌, subst, arith, append_assoc, append-nil, add-one, Option, None, Some}
+use Rattle.std.proofs.Common.{ℕ, zero, suc, ◌+◌, ◌≡◌, false, List, [], ◌∷◌, ◌++◌, take, drop, refl, sym, ap, ◌∙◌, subst, append_assoc, append-nil, add-one, Option, None, Some}
 use Rattle.std.specs.Prelude.{map}
 use Rattle.ut_value.specs.declared.entry.Op.{Op}
 use Rattle.ut_value.specs.declared.entry.Entry.TheVariants as entries
@@ -19,7 +19,7 @@ use Rattle.ut_plain.specs.Step.{step, step_by, effect_of, with_txn, with_made, c
 use Rattle.ut_plain.specs.Transcript.{Answer, AnswersLine, Answers, Transcript, Whole, Cut, Faults}
 use Rattle.ut_script.specs.Lines.{lines_of}
 use Rattle.ut_script.specs.Grammar.{parsed}
-use Rattle.ut_app.specs.Telling.{TellsLine, Tells, AnswersAll, AnswersToFault}
+use Rattle.ut_app.specs.Telling.{Tells, AnswersAll, AnswersToFault}
 use Rattle.ut_app.specs.Serving.{first_lines}
 use Rattle.ut_app.proofs.KeepLemmas.{GoesOn}
 

@@ -1,5 +1,5 @@
 -- What becomes of a line, from what it is answered and what was written.
-use Rattle.std.proofs.Common.{ℕ, ◌≡◌, ◌≤◌, List, [], ◌∷◌, ◌++◌, Option, Result, Ok, Err, refl, sym, ap, ◌∙◌, subst}
+use Rattle.std.proofs.Common.{ℕ, ◌≡◌, List, [], ◌∷◌, ◌++◌, Ok, Err, refl, ap, ◌∙◌, subst}
 use Rattle.ut_outside.specs.Disk.{View}
 use Rattle.ut_outside.specs.Faults.{Rose}
 use Rattle.ut_outside.specs.declared.ack.Ack.{Ack}
@@ -11,9 +11,8 @@ use Rattle.ut_logged.specs.Logged.{Logged}
 use Rattle.ut_logged.specs.Runs.{Runs}
 use Rattle.ut_app.specs.declared.say.Said.{Said}
 use Rattle.ut_app.specs.declared.say.Said.TheVariants as saids
-use Rattle.ut_app.specs.declared.turn.TurnEnd.{TurnEnd}
 use Rattle.ut_app.specs.declared.turn.TurnEnd.TheVariants as ends
-use Rattle.ut_app.specs.Writing.{answer_text, Writes}
+use Rattle.ut_app.specs.Writing.{Writes}
 use Rattle.ut_app.specs.Saying.{Says, Outcome, Quiet, Replied, Failed}
 use Rattle.ut_app.specs.Turning as turns
 use Rattle.ut_app.specs.Turning.{Sunk, Noted, with_ack, Turn, Turns}
@@ -39,7 +38,7 @@ module _ (old : Logged) (before : View) (line : Parsed) (acks : List Ack) (journ
   told_of p j jn now sunk is e f h w (Quiet q s a runs k t) = cc
   told_of p j jn now sunk is e f h w (Replied a q s l runs k t) =
       turns.Told a q refl l runs k (noted acks now journal j jn (journal_len q.journal) after.moment f h (e ∙ runs.stands.counts.entries))
-        (subst (λ (xs : List ℕ). Writes {T = Unit {0}} {E = fails.Failed} sink.held sink.marks xs after.moment (Ok tt) sunk.held sunk.marks) t w)
+      (subst (λ (xs : List ℕ). Writes {T = Unit {0}} {E = fails.Failed} sink.held sink.marks xs after.moment (Ok tt) sunk.held sunk.marks) t w)
   told_of p j jn now sunk is e f h w (Failed a q s l k t) = cc
 
   pub told : (j jn : ℕ) (now : List Ack) (sunk : Sunk) → said ≡ saids.Reply → j ≡ new.store.entries → now ≡ acks ++ record { journal = j; moment = after.moment } ∷ [] → jn ≡ j
@@ -53,7 +52,7 @@ module _ (old : Logged) (before : View) (line : Parsed) (acks : List Ack) (journ
   unwritten_of p j jn now sunk x is e f h w (Quiet q s a runs k t) = cc
   unwritten_of p j jn now sunk x is e f h w (Replied a q s l runs k t) =
       turns.Unwritten a q x refl l runs k (noted acks now journal j jn (journal_len q.journal) after.moment f h (e ∙ runs.stands.counts.entries))
-        (subst (λ (xs : List ℕ). Writes {T = Unit {0}} {E = fails.Failed} sink.held sink.marks xs after.moment (Err x) sunk.held sunk.marks) t w)
+      (subst (λ (xs : List ℕ). Writes {T = Unit {0}} {E = fails.Failed} sink.held sink.marks xs after.moment (Err x) sunk.held sunk.marks) t w)
   unwritten_of p j jn now sunk x is e f h w (Failed a q s l k t) = cc
 
   pub unwritten : (j jn : ℕ) (now : List Ack) (sunk : Sunk) (x : fails.Failed) → said ≡ saids.Reply → j ≡ new.store.entries → now ≡ acks ++ record { journal = j; moment = after.moment } ∷ [] → jn ≡ j
@@ -68,7 +67,7 @@ module _ (old : Logged) (before : View) (line : Parsed) (acks : List Ack) (journ
   lost_of p j jn now sunk was is e f h w (Replied a q s l runs k t) = cc
   lost_of p j jn now sunk was is e f h w (Failed a q s l k t) =
       turns.Lost a q refl l k (noted acks now journal j jn (journal_len p.journal) after.moment f h (e ∙ was.stands.counts.entries))
-        (subst (λ (xs : List ℕ). Writes {T = Unit {0}} {E = fails.Failed} sink.held sink.marks xs after.moment (Ok tt) sunk.held sunk.marks) t w)
+      (subst (λ (xs : List ℕ). Writes {T = Unit {0}} {E = fails.Failed} sink.held sink.marks xs after.moment (Ok tt) sunk.held sunk.marks) t w)
 
   pub lost : (j jn : ℕ) (now : List Ack) (sunk : Sunk) → said ≡ saids.Fault → j ≡ old.store.entries → now ≡ acks ++ record { journal = j; moment = after.moment } ∷ [] → jn ≡ j
       → Writes {T = Unit {0}} {E = fails.Failed} sink.held sink.marks text after.moment (Ok tt) sunk.held sunk.marks
@@ -82,7 +81,7 @@ module _ (old : Logged) (before : View) (line : Parsed) (acks : List Ack) (journ
   lost_unwritten_of p j jn now sunk x was is rose e f h w (Replied a q s l runs k t) = cc
   lost_unwritten_of p j jn now sunk x was is rose e f h w (Failed a q s l k t) =
       turns.LostUnwritten a q x refl l k rose (noted acks now journal j jn (journal_len p.journal) after.moment f h (e ∙ was.stands.counts.entries))
-        (subst (λ (xs : List ℕ). Writes {T = Unit {0}} {E = fails.Failed} sink.held sink.marks xs after.moment (Err x) sunk.held sunk.marks) t w)
+      (subst (λ (xs : List ℕ). Writes {T = Unit {0}} {E = fails.Failed} sink.held sink.marks xs after.moment (Err x) sunk.held sunk.marks) t w)
 
   pub lost_unwritten : (j jn : ℕ) (now : List Ack) (sunk : Sunk) (x : fails.Failed) → said ≡ saids.Fault → Rose before.faults after.faults → j ≡ old.store.entries → now ≡ acks ++ record { journal = j; moment = after.moment } ∷ [] → jn ≡ j
       → Writes {T = Unit {0}} {E = fails.Failed} sink.held sink.marks text after.moment (Err x) sunk.held sunk.marks

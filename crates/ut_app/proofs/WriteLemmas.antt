@@ -1,8 +1,8 @@
 -- Writing all of a text, piece by piece.
-use Rattle.std.proofs.Common.{ℕ, ◌+◌, ◌≡◌, ◌≤◌, List, [], ◌∷◌, ◌++◌, length, take, drop, replicate, Option, None, Some, Result, Ok, Err, refl, sym, ap, ◌∙◌, subst, arith, append_assoc, append-nil}
+use Rattle.std.proofs.Common.{ℕ, ◌+◌, ◌≡◌, ◌≤◌, List, [], ◌++◌, length, take, drop, replicate, Option, None, Some, Ok, Err, refl, sym, ap, ◌∙◌, subst, arith, append_assoc, append-nil}
 use Rattle.std.proofs.lemmas.List.{replicate-append-replicate, take-append-drop, length-take-le, length-append}
 use Rattle.ut_outside.specs.Streams.{GivesBytes, NotesMoments}
-use Rattle.ut_app.specs.Writing.{WroteAll, WroteSome, Writes, WritesRest, IsWriting}
+use Rattle.ut_app.specs.Writing.{Writes, WritesRest, IsWriting}
 
 pub writing-start : (held : Option (List ℕ)) (marks text : List ℕ) (m : ℕ) → IsWriting held marks text text m held marks
 writing-start None marks text m = tt
@@ -17,15 +17,17 @@ more_by E before marks text rest front now m count held then parts was few given
     bytes = given.behind ∙ ap (λ xs. Some xs) (append_assoc before front (take count rest));
     moments = noted ∙ ap (λ xs. xs ++ replicate count m) was ∙ append_assoc marks (replicate (length front) m) (replicate count m)
         ∙ ap (λ xs. marks ++ xs) (replicate-append-replicate (length front) count m)
-        ∙ ap (λ n. marks ++ replicate n m) (let e : length front + count ≡ length (front ++ take count rest) = omega (arith, length-append front (take count rest), length-take-le count rest few) in e) } }
+        ∙ ap (λ n. marks ++ replicate n m) (let e : length front + count ≡ length (front ++ take count rest) = omega (arith, length-append front (take count rest), length-take-le count rest few) in e);
+  };
+}
 
 pub writing-more : (E : Type 0) (held : Option (List ℕ)) (marks text rest : List ℕ) (m : ℕ) (now : Option (List ℕ)) (marks_now : List ℕ) (count : ℕ) (then : Option (List ℕ)) (marks_then : List ℕ) → count ≤ length rest
     → IsWriting held marks text rest m now marks_now → GivesBytes {E = E} now then (Ok count) rest → NotesMoments {E = E} now marks_now marks_then (Ok count) m → IsWriting held marks text (drop count rest) m then marks_then
 writing-more E None marks text rest m now marks_now count then marks_then few w given noted = tt
 writing-more E (Some before) marks text rest m now marks_now count then marks_then few w given noted =
     more_by E before marks text rest w.front marks_now m count then marks_then w.parts w.wrote.moments few
-      (subst (λ (o : Option (List ℕ)). GivesBytes {E = E} o then (Ok count) rest) w.wrote.bytes given)
-      (subst (λ (o : Option (List ℕ)). NotesMoments {E = E} o marks_now marks_then (Ok count) m) w.wrote.bytes noted)
+    (subst (λ (o : Option (List ℕ)). GivesBytes {E = E} o then (Ok count) rest) w.wrote.bytes given)
+    (subst (λ (o : Option (List ℕ)). NotesMoments {E = E} o marks_now marks_then (Ok count) m) w.wrote.bytes noted)
 
 pub writes-all : (T E : Type 0) (held : Option (List ℕ)) (marks text rest : List ℕ) (m : ℕ) (now : Option (List ℕ)) (marks_now : List ℕ) (x : T) → rest ≡ [] → IsWriting held marks text rest m now marks_now → Writes {T = T} {E = E} held marks text m (Ok x) now marks_now
 writes-all T E None marks text rest m now marks_now x none w = tt

@@ -1,5 +1,5 @@
 -- How a run begins: the store is made or opened.
-use Rattle.std.specs.Prelude.{ℕ, ◌≡◌, [], List}
+use Rattle.std.specs.Prelude.{◌≡◌, []}
 use Rattle.ut_outside.specs.Disk.{View, Image, IsTold}
 use Rattle.ut_outside.specs.Faults.{Rose}
 use Rattle.ut_plain.specs.Journal.{Journal, journal_len}

@@ -4,14 +4,14 @@ use Rattle.ut_outside.specs.Disk.{View, Image, IsTold}
 use Rattle.ut_outside.specs.Faults.{Rose}
 use Rattle.ut_outside.specs.declared.ack.Ack.{Ack}
 use Rattle.ut_pages.specs.Layout.{IsMade}
-use Rattle.ut_plain.specs.Journal.{Journal, journal_len}
-use Rattle.ut_script.specs.Lines.{Reading, lines_of}
+use Rattle.ut_plain.specs.Journal.{Journal}
+use Rattle.ut_script.specs.Lines.{lines_of}
 use Rattle.ut_logged.specs.Readings.{HoldsJournal}
 use Rattle.ut_app.specs.declared.words.Start.{Start}
 use Rattle.ut_app.specs.declared.words.Start.TheVariants.{New, Open}
 use Rattle.ut_app.specs.declared.report.Status.{Status}
 use Rattle.ut_app.specs.declared.report.Status.TheVariants.{Done, Usage, NoStore, Exists, ReadFault, WriteFault, DiskFault, Damaged, Memory, TooLong}
-use Rattle.ut_app.specs.Keeping.{Begins, HoldsRun, NothingPending}
+use Rattle.ut_app.specs.Keeping.{Begins}
 use Rattle.ut_app.specs.Serving.{Ran, EndedEarly}
 
 -- what a run sees of the world outside

@@ -1,6 +1,6 @@
 -- What a run comes to, whatever the words.
-use Rattle.std.specs.Prelude.{ℕ, ◌≡◌, List, Option, None, Some}
-use Rattle.ut_outside.specs.Disk.{Image, IsTold}
+use Rattle.std.specs.Prelude.{ℕ, List, Option, None, Some}
+use Rattle.ut_outside.specs.Disk.{Image}
 use Rattle.ut_outside.specs.declared.ack.Ack.{Ack}
 use Rattle.ut_app.specs.declared.words.Start.{Start}
 use Rattle.ut_app.specs.declared.words.Start.TheVariants.{Open}

@@ -62,7 +62,7 @@ all_passes : {A : Type 0} (ask : A → Bool) (read : List ℕ → Option A) → 
 all_passes ask read each [] = refl
 all_passes ask read each (word ∷ words) =
     then_passes (list_all ask) ask (λ x. option_map (λ xs. x ∷ xs) (all_of read words)) (read word)
-      (λ x h. map_passes (list_all ask) (list_all ask) (λ xs. x ∷ xs) (all_of read words) (λ xs k. both (ask x) (list_all ask xs) h k) (all_passes ask read each words)) (each word)
+    (λ x h. map_passes (list_all ask) (list_all ask) (λ xs. x ∷ xs) (all_of read words) (λ xs k. both (ask x) (list_all ask xs) h k) (all_passes ask read each words)) (each word)
 
 -- ---- words
 
@@ -107,7 +107,7 @@ comparisons_pass (a ∷ b ∷ []) = refl
 comparisons_pass (a ∷ b ∷ c ∷ []) = onto_passes (comparison_of a b c) (Some []) (comparison_passes a b c) refl
 comparisons_pass (a ∷ b ∷ c ∷ joint ∷ words) =
     if_passes are_preds (same_bytes joint (codes "and")) (onto_comparisons (comparison_of a b c) (comparisons_of words)) None
-      (λ h. onto_passes (comparison_of a b c) (comparisons_of words) (comparison_passes a b c) (comparisons_pass words)) refl
+    (λ h. onto_passes (comparison_of a b c) (comparisons_of words) (comparison_passes a b c) (comparisons_pass words)) refl
 
 conditions_pass : (words : List (List ℕ)) → passes are_preds (conditions_of words) ≡ true
 unfolding conditions_of
@@ -127,26 +127,26 @@ rows_pass : (put : List ℕ → List Value → Statement) → ((table : List ℕ
 rows_pass put each [] = refl
 rows_pass put each (table ∷ words) =
     if_passes is_spelled (is_name table) (option_map (put table) (values_of words)) None
-      (λ h. map_passes is_spelled are_some_values (put table) (values_of words) (λ vs k. each table vs h k) (values_pass words)) refl
+    (λ h. map_passes is_spelled are_some_values (put table) (values_of words) (λ vs k. each table vs h k) (values_pass words)) refl
 
 created : (table : List ℕ) → is_name table ≡ true → (columns : List Column) → list_all is_column columns ≡ true → passes is_spelled (create_with table columns) ≡ true
 created table h [] k = refl
 created table h (c ∷ cs) k = if_passes is_spelled (nat_lt 0 (length (c ∷ cs)) && nat_le (length (c ∷ cs)) 64) (Some (statements.Create table (c ∷ cs))) None
     (λ few. let one : nat_le 1 (length (c ∷ cs)) ≡ true = grind (arith, common_steps) in
-      both (is_name table && is_count 64 (length (c ∷ cs))) (list_all is_column (c ∷ cs)) (both (is_name table) (is_count 64 (length (c ∷ cs))) h (both (nat_le 1 (length (c ∷ cs))) (nat_le (length (c ∷ cs)) 64) one (right (nat_lt 0 (length (c ∷ cs))) (nat_le (length (c ∷ cs)) 64) few))) k) refl
+    both (is_name table && is_count 64 (length (c ∷ cs))) (list_all is_column (c ∷ cs)) (both (is_name table) (is_count 64 (length (c ∷ cs))) h (both (nat_le 1 (length (c ∷ cs))) (nat_le (length (c ∷ cs)) 64) one (right (nat_lt 0 (length (c ∷ cs))) (nat_le (length (c ∷ cs)) 64) few))) k) refl
 
 create_passes : (words : List (List ℕ)) → passes is_spelled (create_of words) ≡ true
 create_passes [] = refl
 create_passes (table ∷ words) =
     if_passes is_spelled (is_name table) (option_and_then (create_with table) (all_of column_of words)) None
-      (λ h. then_passes is_spelled (list_all is_column) (create_with table) (all_of column_of words) (created table h) (all_passes is_column column_of column_passes words)) refl
+    (λ h. then_passes is_spelled (list_all is_column) (create_with table) (all_of column_of words) (created table h) (all_passes is_column column_of column_passes words)) refl
 
 names_pass : (words : List (List ℕ)) → passes (list_all is_name) (names_before words) ≡ true
 names_pass [] = refl
 names_pass (word ∷ words) =
     if_passes (list_all is_name) (is_where word) (Some []) (cond (is_name word) (option_map (λ names. word ∷ names) (names_before words)) None) (λ h. refl)
-      (if_passes (list_all is_name) (is_name word) (option_map (λ names. word ∷ names) (names_before words)) None
-        (λ h. map_passes (list_all is_name) (list_all is_name) (λ names. word ∷ names) (names_before words) (λ names k. both (is_name word) (list_all is_name names) h k) (names_pass words)) refl)
+    (if_passes (list_all is_name) (is_name word) (option_map (λ names. word ∷ names) (names_before words)) None
+    (λ h. map_passes (list_all is_name) (list_all is_name) (λ names. word ∷ names) (names_before words) (λ names k. both (is_name word) (list_all is_name names) h k) (names_pass words)) refl)
 
 selected : (table : List ℕ) → is_name table ≡ true → (columns : List (List ℕ)) → list_all is_name columns ≡ true → (preds : Option (List Pred)) → passes are_preds preds ≡ true → passes is_spelled (select_with table columns preds) ≡ true
 selected table h columns k None l = refl
@@ -154,15 +154,15 @@ selected table h [] k (Some preds) l = refl
 selected table h (c ∷ cs) k (Some preds) l =
     let one : nat_le 1 (length (c ∷ cs)) ≡ true = grind (arith, common_steps) in
     if_passes is_spelled (nat_lt 0 (length (c ∷ cs))) (Some (statements.Ask (queries.Select table (Some (c ∷ cs)) preds))) None
-      (λ e. both (is_name table && are_names (Some (c ∷ cs))) (are_preds preds) (both (is_name table) (are_names (Some (c ∷ cs))) h (both (nat_le 1 (length (c ∷ cs))) (list_all is_name (c ∷ cs)) one k)) l) refl
+    (λ e. both (is_name table && are_names (Some (c ∷ cs))) (are_preds preds) (both (is_name table) (are_names (Some (c ∷ cs))) h (both (nat_le 1 (length (c ∷ cs))) (list_all is_name (c ∷ cs)) one k)) l) refl
 
 asked : (table : List ℕ) → is_name table ≡ true → (words : List (List ℕ)) → passes is_spelled (columns_asked table words) ≡ true
 asked table h [] = refl
 asked table h (word ∷ words) =
     if_passes is_spelled (same_bytes word (codes "*")) (columns_of_all table words) (columns_named table (word ∷ words))
-      (λ e. map_passes is_spelled are_preds (λ preds. statements.Ask (queries.Select table None preds)) (conditions_of words) (λ preds k. both (is_name table && true) (are_preds preds) (both (is_name table) true h refl) k) (conditions_pass words))
-      (then_passes is_spelled (list_all is_name) (λ columns. select_with table columns (conditions_of (from_where (word ∷ words)))) (names_before (word ∷ words))
-        (λ columns k. selected table h columns k (conditions_of (from_where (word ∷ words))) (conditions_pass (from_where (word ∷ words)))) (names_pass (word ∷ words)))
+    (λ e. map_passes is_spelled are_preds (λ preds. statements.Ask (queries.Select table None preds)) (conditions_of words) (λ preds k. both (is_name table && true) (are_preds preds) (both (is_name table) true h refl) k) (conditions_pass words))
+    (then_passes is_spelled (list_all is_name) (λ columns. select_with table columns (conditions_of (from_where (word ∷ words)))) (names_before (word ∷ words))
+    (λ columns k. selected table h columns k (conditions_of (from_where (word ∷ words))) (conditions_pass (from_where (word ∷ words)))) (names_pass (word ∷ words)))
 
 select_passes : (words : List (List ℕ)) → passes is_spelled (select_of words) ≡ true
 select_passes [] = refl
@@ -172,14 +172,14 @@ chosen_passes : (say : List ℕ → List Pred → Statement) → ((table : List 
 chosen_passes say each [] = refl
 chosen_passes say each (table ∷ words) =
     if_passes is_spelled (is_name table) (option_map (say table) (conditions_of words)) None
-      (λ h. map_passes is_spelled are_preds (say table) (conditions_of words) (λ preds k. each table preds h k) (conditions_pass words)) refl
+    (λ h. map_passes is_spelled are_preds (say table) (conditions_of words) (λ preds k. each table preds h k) (conditions_pass words)) refl
 
 folded_passes : (say : List ℕ → List ℕ → List Pred → Statement) → ((table column : List ℕ) (preds : List Pred) → (is_name table && is_name column) ≡ true → are_preds preds ≡ true → is_spelled (say table column preds) ≡ true) → (words : List (List ℕ)) → passes is_spelled (folded_of say words) ≡ true
 folded_passes say each [] = refl
 folded_passes say each (table ∷ []) = refl
 folded_passes say each (table ∷ column ∷ words) =
     if_passes is_spelled (is_name table && is_name column) (option_map (say table column) (conditions_of words)) None
-      (λ h. map_passes is_spelled are_preds (say table column) (conditions_of words) (λ preds k. each table column preds h k) (conditions_pass words)) refl
+    (λ h. map_passes is_spelled are_preds (say table column) (conditions_of words) (λ preds k. each table column preds h k) (conditions_pass words)) refl
 
 group_passes : (words : List (List ℕ)) → passes is_spelled (group_of words) ≡ true
 group_passes [] = refl
@@ -188,10 +188,10 @@ group_passes (a ∷ b ∷ []) = refl
 group_passes (a ∷ b ∷ c ∷ []) = refl
 group_passes (table ∷ key ∷ verb ∷ sum ∷ words) =
     if_passes is_spelled (is_name table && is_name key && same_bytes verb (codes "sum") && is_name sum) (option_map (λ preds. statements.Ask (queries.Group table key sum preds)) (conditions_of words)) None
-      (λ h. map_passes is_spelled are_preds (λ preds. statements.Ask (queries.Group table key sum preds)) (conditions_of words) (λ preds k.
-        let pair = is_name table && is_name key in
-        let front = left (pair && same_bytes verb (codes "sum")) (is_name sum) h in
-        both (pair && is_name sum) (are_preds preds) (both pair (is_name sum) (left pair (same_bytes verb (codes "sum")) front) (right (pair && same_bytes verb (codes "sum")) (is_name sum) h)) k) (conditions_pass words)) refl
+    (λ h. map_passes is_spelled are_preds (λ preds. statements.Ask (queries.Group table key sum preds)) (conditions_of words) (λ preds k.
+    let pair = is_name table && is_name key in
+    let front = left (pair && same_bytes verb (codes "sum")) (is_name sum) h in
+    both (pair && is_name sum) (are_preds preds) (both pair (is_name sum) (left pair (same_bytes verb (codes "sum")) front) (right (pair && same_bytes verb (codes "sum")) (is_name sum) h)) k) (conditions_pass words)) refl
 
 join_passes : (words : List (List ℕ)) → passes is_spelled (join_of words) ≡ true
 join_passes [] = refl
@@ -213,9 +213,9 @@ update_passes (a ∷ b ∷ []) = refl
 update_passes (a ∷ b ∷ c ∷ []) = refl
 update_passes (table ∷ verb ∷ column ∷ value ∷ words) =
     if_passes is_spelled (is_name table && same_bytes verb (codes "set") && is_name column) (update_with table column (value_of value) (conditions_of words)) None
-      (λ h.
-        let front = left (is_name table && same_bytes verb (codes "set")) (is_name column) h in
-        updated table column (both (is_name table) (is_name column) (left (is_name table) (same_bytes verb (codes "set")) front) (right (is_name table && same_bytes verb (codes "set")) (is_name column) h)) (value_of value) (conditions_of words) (value_passes value) (conditions_pass words)) refl
+    (λ h.
+    let front = left (is_name table && same_bytes verb (codes "set")) (is_name column) h in
+    updated table column (both (is_name table) (is_name column) (left (is_name table) (same_bytes verb (codes "set")) front) (right (is_name table && same_bytes verb (codes "set")) (is_name column) h)) (value_of value) (conditions_of words) (value_passes value) (conditions_pass words)) refl
 
 query_passes : (verb : List ℕ) (words : List (List ℕ)) → passes is_spelled (query_of verb words) ≡ true
 query_passes verb words =
@@ -264,7 +264,7 @@ merge_l1_passes [] = refl
 merge_l1_passes (a ∷ []) = refl
 merge_l1_passes (table ∷ n ∷ []) =
     if_passes is_spelled (is_name table) (option_map (statements.MergeL1 table) (count_of n)) None
-      (λ h. map_passes is_spelled (λ m. nat_le 1 m && nat_le m 1048576) (statements.MergeL1 table) (count_of n) (λ m k. both (is_name table) (is_count 1048576 m) h k) (within_passes 1 1048576 (number_of n))) refl
+    (λ h. map_passes is_spelled (λ m. nat_le 1 m && nat_le m 1048576) (statements.MergeL1 table) (count_of n) (λ m k. both (is_name table) (is_count 1048576 m) h k) (within_passes 1 1048576 (number_of n))) refl
 merge_l1_passes (a ∷ b ∷ c ∷ words) = refl
 
 begin_passes : (words : List (List ℕ)) → passes is_spelled (merge_begin_of words) ≡ true
@@ -272,7 +272,7 @@ begin_passes [] = refl
 begin_passes (a ∷ []) = refl
 begin_passes (table ∷ kind ∷ []) =
     if_passes is_spelled (is_name table) (option_map (statements.MergeBegin table) (merge_kind_of kind)) None
-      (λ h. map_passes is_spelled (λ k. true) (statements.MergeBegin table) (merge_kind_of kind) (λ k l. h) (any_passes (merge_kind_of kind))) refl
+    (λ h. map_passes is_spelled (λ k. true) (statements.MergeBegin table) (merge_kind_of kind) (λ k l. h) (any_passes (merge_kind_of kind))) refl
   where
     any_passes : {A : Type 0} (o : Option A) → passes (λ x. true) o ≡ true
     any_passes None = refl
