@@ -1,8 +1,7 @@
 -- Laws on packed lists of codes: one more code, a list's number, its words and its unique reading.
-use Rattle.std.proofs.Common.{◌≡◌, ℕ, zero, suc, ◌+◌, ◌*◌, ◌/◌, ◌%◌, ◌^◌, ◌<◌, ◌≤◌, List, [], ◌∷◌, ◌++◌, length, take, drop, refl, sym, ◌∙◌, ap, subst, arith, add-one, length-append}
-use Rattle.std.proofs.Math.Seq.{take-append_seam}
+use Rattle.std.proofs.Common.{◌≡◌, ℕ, ◌+◌, ◌*◌, ◌^◌, ◌<◌, List, [], ◌∷◌, ◌++◌, length, take, refl, sym, ◌∙◌, ap, subst, length-append}
 use Rattle.ut_bits.specs.Bits.{number_of, bytes_of, joined, fields, byte_count, packed_bytes, AllBelow}
-use Rattle.ut_bits.proofs.BitLemmas.{joined-append, joined-fields, joined-below, fields-joined, length-fields, AllBelow-fields, AllBelow-append, number_of-packed_bytes, number_of-front, length-bytes_of}
+use Rattle.ut_bits.proofs.BitLemmas.{joined-append, joined-fields, joined-below, fields-joined, length-fields, AllBelow-fields, AllBelow-append, number_of-packed_bytes, number_of-front}
 
 -- one more field behind the others
 pub fields-push : (w n x c : ℕ) → x < 2 ^ (n * w) → c < 2 ^ w → fields w (n + 1) (x + 2 ^ (n * w) * c) ≡ fields w n x ++ c ∷ []

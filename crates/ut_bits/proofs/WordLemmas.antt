@@ -1,10 +1,10 @@
 -- Laws on numbers of 32 bits as four bytes.
-use Rattle.std.proofs.Common.{◌≡◌, ℕ, zero, suc, ◌+◌, ◌*◌, ◌/◌, ◌%◌, ◌^◌, ◌<◌, ◌≤◌, List, [], ◌∷◌, ◌++◌, length, take, drop, refl, sym, ◌∙◌, ap, subst, arith, length-append}
+use Rattle.std.proofs.Common.{◌≡◌, ℕ, zero, suc, ◌+◌, ◌*◌, ◌/◌, ◌%◌, ◌^◌, ◌<◌, ◌≤◌, List, [], ◌∷◌, ◌++◌, length, take, drop, refl, sym, ◌∙◌, ap, arith}
 use Rattle.std.proofs.lemmas.List.{length-take-le}
 use Rattle.std.proofs.Math.Seq.{take-append_seam}
 use Rattle.std.proofs.lemmas.Nat.{or_shifted, shl_whole}
 use lib.Bits.{bit_or}
-use Rattle.std.specs.Int.{bytes_low_first, to_le_bytes, w32, w64}
+use Rattle.std.specs.Int.{to_le_bytes, w32, w64}
 use Rattle.byteorder.specs.Endian.{little_from}
 use Rattle.ut_bits.specs.Bits.{AllBelow, bytes_of, number_of}
 use Rattle.ut_bits.specs.Words.{word_bytes, word_in}

@@ -7,5 +7,5 @@ mod ranges;
 mod words;
 
 pub use bit_list::{BitList, BitListWriter};
-pub use ranges::is_in;
+pub use ranges::{append_range, is_in};
 pub use words::{append_word, append_words, read_word};

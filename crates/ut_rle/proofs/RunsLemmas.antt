@@ -1,9 +1,8 @@
 -- Laws on runs and the codes that they stand for.
-use Rattle.std.proofs.Common.{◌≡◌, ℕ, zero, suc, ◌+◌, ◌*◌, ◌<◌, ◌≤◌, eqb, Bool, true, false, inl, inr, if◌then◌else◌, List, [], ◌∷◌, ◌++◌, length, take, get_or, refl, sym, ◌∙◌, ap, subst, arith, append_assoc, add-one, length-append}
+use Rattle.std.proofs.Common.{◌≡◌, ℕ, zero, suc, ◌+◌, ◌<◌, eqb, false, inl, inr, List, [], ◌∷◌, ◌++◌, length, take, get_or, refl, sym, ◌∙◌, ap, subst, arith, append_assoc}
 use Rattle.std.proofs.lemmas.Bool.{eqb-false, ne_eqb}
 use Rattle.std.proofs.lemmas.Bool.Decides.{eqb_tells}
 use Rattle.ut_bits.specs.Bits.{AllBelow}
-use Rattle.ut_bits.specs.Places.{places_from}
 use Rattle.ut_bits.proofs.BitLemmas.{AllBelow-append}
 use Rattle.ut_rle.specs.Runs.{copies, expanded, with_code, runs_of, is_first_code, is_last_code, AreRuns}
 

@@ -1,12 +1,12 @@
 ghost use Rattle.std.specs.Prelude.{◌≡◌, ◌<◌, ◌≤◌, ◌+◌, ◌-◌, length, slice_index, map, nat_lt, OnOk, OnErr, ◌++◌};
-ghost use Rattle.std.specs.List.{range_with_len, list_all};
+ghost use Rattle.std.specs.List.{list_all};
 ghost use Rattle.ut_bits.specs.Places.{is_in, places_where};
 ghost use Rattle.ut_rle.specs.Runs.{entries_of, expanded};
 ghost use Rattle.ut_rle.specs.Ends.{lengths_from, end_from, Ascend};
 
 use crate::run::Run;
 use std::alloc::AllocError;
-use ut_bits::{append_words, is_in};
+use ut_bits::{append_range, append_words, is_in};
 
 /// The place of the run that holds a row.
 pub fn run_at(runs: &[Run], i: u32) -> usize
@@ -33,25 +33,6 @@ pub fn codes_are_below(runs: &[Run], limit: u32) -> bool
     ensures { result ≡ list_all (λ r. nat_lt r.code limit) runs.now }
 {
     runs.iter().all(|run| run.code < limit)
-}
-
-/// Appends the places of a range.
-fn append_range(from: u32, to: u32, out: &mut Vec<u32>) -> Result<(), AllocError>
-    requires { from ≤ to }
-    ensures ok { OnOk result (out.new.items ≡ out.old.items ++ range_with_len from (to - from)) }
-    ensures err { OnErr result (out.new.items ≡ out.old.items) }
-{
-    let before = out.len();
-    for i in from..to {
-        match out.push(i) {
-            Ok(()) => {}
-            Err(failed) => {
-                out.truncate(before);
-                return Err(AllocError::from(failed));
-            }
-        }
-    }
-    Ok(())
 }
 
 /// Appends the places whose code stands in one of the ranges.

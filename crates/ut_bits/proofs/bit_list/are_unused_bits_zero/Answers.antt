@@ -1,6 +1,6 @@
-use Rattle.std.proofs.Common.{◌≡◌, ◌+◌, ◌*◌, ◌/◌, ◌%◌, ◌^◌, ◌<◌, ◌≤◌, ◌++◌, length, arith, ap, sym, subst, ◌∙◌, ℕ, take, get_or, eq-eqb, refl}
+use Rattle.std.proofs.Common.{arith, eq-eqb, refl}
 use borrow.Author.Tests.{eqb-true}
-use Rattle.ut_bits.specs.Bits.{number_of, byte_count, AllBelow}
+use Rattle.ut_bits.specs.Bits.{AllBelow}
 use Rattle.ut_bits.proofs.BitLemmas.{AllBelow-from_places, unused-none, unused-zero, zero-unused}
 use Rattle.ut_bits.proofs.bit_list.are_unused_bits_zero.Goals as goal
 

@@ -1,4 +1,4 @@
-use Rattle.std.proofs.Common.{◌≡◌, ℕ, ◌+◌, ◌*◌, ◌/◌, ◌%◌, ◌^◌, ◌<◌, ◌≤◌, ◌-◌, drop, length, arith, ap, ◌∙◌}
+use Rattle.std.proofs.Common.{◌≡◌, ℕ, ◌*◌, ◌/◌, ◌%◌, ◌^◌, drop, arith, ap, ◌∙◌}
 use Rattle.std.proofs.lemmas.Nat.{and_mask, one_shl}
 use Rattle.std.proofs.lemmas.List.{length-drop}
 use Rattle.ut_bits.proofs.BitLemmas.{AllBelow-from_places, AllBelow-drop, little_from-mod, number_of-drop, field_from_word, take-rest}

@@ -1,4 +1,4 @@
-use Rattle.std.proofs.Common.{◌≡◌, ◌++◌, ◌∙◌, ap}
+use Rattle.std.proofs.Common.{◌++◌, ◌∙◌, ap}
 use Rattle.ut_bits.proofs.WordLemmas.{to_le_bytes-word}
 use Rattle.ut_bits.proofs.words.append_word.Goals as goal
 

@@ -1,4 +1,4 @@
-use Rattle.std.proofs.Common.{◌≡◌, ◌++◌, ◌∙◌, ◌*◌, ◌%◌, ◌^◌, ap, arith, bit_or, ℕ}
+use Rattle.std.proofs.Common.{◌++◌, ◌∙◌, ◌*◌, ◌%◌, ◌^◌, ap, arith, bit_or, ℕ}
 use Rattle.std.specs.Int.{to_le_bytes, w64}
 use Rattle.ut_bits.proofs.WordLemmas.{to_le_bytes-words}
 use Rattle.ut_bits.proofs.words.append_words.Goals as goal

@@ -1,4 +1,3 @@
-use Rattle.std.proofs.Common.{ap, ◌∙◌, sym, Some}
 use Rattle.ut_rle.proofs.EndsLemmas.{is_last_code-lengths}
 use Rattle.ut_rle.proofs.reading.is_last_code.Goals as goal
 

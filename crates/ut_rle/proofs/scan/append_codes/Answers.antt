@@ -1,6 +1,6 @@
-use Rattle.std.proofs.Common.{◌≡◌, ℕ, ◌+◌, ◌-◌, ◌<◌, ◌≤◌, ◌++◌, List, length, take, get_or, sym, ap, ◌∙◌, arith, append_assoc, vec_len}
+use Rattle.std.proofs.Common.{◌≡◌, ℕ, ◌+◌, ◌-◌, ◌++◌, length, take, get_or, sym, ap, ◌∙◌, arith, append_assoc, vec_len}
 use Rattle.ut_rle.specs.Runs.{expanded, copies}
-use Rattle.ut_rle.specs.Ends.{lengths_from, end_from}
+use Rattle.ut_rle.specs.Ends.{lengths_from}
 use Rattle.ut_rle.proofs.EndsLemmas.{no_run, Ascend-at, end_from-take, expanded-take, resized}
 use Rattle.ut_rle.proofs.scan.append_codes.Goals as goal
 

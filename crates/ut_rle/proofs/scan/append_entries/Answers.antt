@@ -1,7 +1,7 @@
-use Rattle.std.proofs.Common.{◌≡◌, ℕ, ◌+◌, ◌-◌, ◌<◌, ◌≤◌, ◌++◌, List, length, take, get_or, sym, ap, ◌∙◌, arith, append_assoc}
+use Rattle.std.proofs.Common.{ℕ, ◌-◌, ◌++◌, take, get_or, sym, ap, ◌∙◌, arith, append_assoc}
 use Rattle.ut_bits.specs.Words.{word_bytes}
 use Rattle.ut_rle.specs.Runs.{entries_of}
-use Rattle.ut_rle.specs.Ends.{lengths_from, end_from}
+use Rattle.ut_rle.specs.Ends.{lengths_from}
 use Rattle.ut_rle.proofs.EndsLemmas.{no_run, Ascend-at, end_from-take, entries_of-take}
 use Rattle.ut_rle.proofs.scan.append_entries.Goals as goal
 

@@ -1,8 +1,8 @@
-use Rattle.std.proofs.Common.{◌≡◌, ℕ, ◌+◌, ◌-◌, ◌<◌, ◌≤◌, ◌++◌, true, false, List, length, take, get_or, sym, ap, ◌∙◌, arith, append_assoc}
+use Rattle.std.proofs.Common.{ℕ, ◌-◌, ◌++◌, take, get_or, sym, ap, ◌∙◌, arith, append_assoc}
 use Rattle.std.specs.List.{range_with_len}
 use Rattle.ut_bits.specs.Places.{places_from, is_in}
 use Rattle.ut_rle.specs.Runs.{expanded}
-use Rattle.ut_rle.specs.Ends.{lengths_from, end_from}
+use Rattle.ut_rle.specs.Ends.{lengths_from}
 use Rattle.ut_rle.proofs.EndsLemmas.{no_run, Ascend-at, end_from-take, places-hit, places-miss}
 use Rattle.ut_rle.proofs.scan.append_places_in.Goals as goal
 use Rattle.ut_rle.proofs.scan.append_places_in.Goals.{then-is_in+in-Ok, else-is_in}

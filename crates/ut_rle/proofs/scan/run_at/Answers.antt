@@ -1,5 +1,4 @@
-use Rattle.std.proofs.Common.{◌≡◌, ℕ, ◌-◌, ◌<◌, ◌≤◌, length, arith, map}
-use Rattle.ut_rle.specs.Ends.{end_from}
+use Rattle.std.proofs.Common.{arith}
 use Rattle.ut_rle.proofs.EndsLemmas.{end_from-last, some-run}
 use Rattle.ut_rle.proofs.scan.run_at.Goals as goal
 

@@ -1,4 +1,4 @@
-use Rattle.std.proofs.Common.{◌≡◌, ℕ, ◌-◌, ◌<◌, ◌≤◌, length, get_or, map}
+use Rattle.std.proofs.Common.{◌-◌, ◌<◌, ◌≤◌, length, get_or, map}
 use Rattle.ut_rle.proofs.scan.run_at.Given as goal
 
 abbrev pub invariant-loop-low : goal.invariant-loop-low

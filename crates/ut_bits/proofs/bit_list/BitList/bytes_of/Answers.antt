@@ -1,6 +1,6 @@
-use Rattle.std.proofs.Common.{◌≡◌, ◌+◌, ◌*◌, ◌/◌, ◌%◌, ◌^◌, ◌<◌, ◌≤◌, ◌-◌, ◌++◌, ℕ, sym, ap, subst, ◌∙◌, length, arith, take}
+use Rattle.std.proofs.Common.{◌≡◌, ◌*◌, ◌-◌, ◌++◌, ℕ, ap, ◌∙◌, arith, take}
 use Rattle.ut_bits.proofs.BitLemmas.{packed_bytes-fields}
-use Rattle.ut_bits.specs.Bits.{number_of, byte_count, AllBelow}
+use Rattle.ut_bits.specs.Bits.{byte_count}
 use Rattle.ut_bits.proofs.bit_list.BitList.bytes_of.Goals as goal
 
 pub returns-clause-ok : goal.returns-clause-ok

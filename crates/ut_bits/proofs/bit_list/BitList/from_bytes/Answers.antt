@@ -1,7 +1,6 @@
-use Rattle.std.proofs.Common.{◌≡◌, ◌+◌, ◌*◌, ◌/◌, ◌%◌, ◌^◌, ◌<◌, ◌≤◌, ◌++◌, length, length-append, arith, ap, sym, subst, ◌∙◌, ℕ, List, take, get_or, [], ◌∷◌, IsTrue, false, refl}
-use Rattle.std.proofs.lemmas.List.{length-take-le, take-append-le, take_all}
-use Rattle.ut_bits.specs.Bits.{number_of, byte_count, packed_bytes, AllBelow, fields}
-use Rattle.ut_bits.proofs.BitLemmas.{length-fields, AllBelow-fields, number_of-front, joined-below, number_of-zeros, AllBelow-take, AllBelow-append, AllBelow-zeros, AllBelow-from_places, packed_bytes-fields, kept-length, kept-number, kept-below, kept-take}
+use Rattle.std.proofs.Common.{◌≡◌, ◌*◌, ◌^◌, ◌<◌, ◌≤◌, ◌++◌, length, arith, ap, sym, subst, ◌∙◌, ℕ, take, [], ◌∷◌, IsTrue, false, refl}
+use Rattle.ut_bits.specs.Bits.{number_of, byte_count, AllBelow}
+use Rattle.ut_bits.proofs.BitLemmas.{length-fields, AllBelow-fields, number_of-front, joined-below, AllBelow-from_places, packed_bytes-fields, kept-length, kept-number, kept-below, kept-take}
 use Rattle.ut_bits.proofs.bit_list.BitList.from_bytes.Goals as goal
 
 false_true : IsTrue false → ⊥

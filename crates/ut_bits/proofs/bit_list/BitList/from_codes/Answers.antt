@@ -1,5 +1,5 @@
-use Rattle.std.proofs.Common.{◌≡◌, ℕ, ◌+◌, ◌*◌, ◌^◌, ◌<◌, ◌≤◌, ◌++◌, [], ◌∷◌, length, take, get_or, arith, ap, sym, subst, ◌∙◌, add-one}
-use Rattle.std.proofs.lemmas.List.{length-take-le, take_all}
+use Rattle.std.proofs.Common.{arith}
+use Rattle.std.proofs.lemmas.List.{length-take-le}
 use Rattle.ut_bits.proofs.BitLemmas.{AllBelow-at}
 use Rattle.ut_bits.proofs.bit_list.BitList.from_codes.Goals as goal
 

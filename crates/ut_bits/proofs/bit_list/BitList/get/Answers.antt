@@ -1,4 +1,4 @@
-use Rattle.std.proofs.Common.{◌≡◌, ◌+◌, ◌*◌, ◌/◌, ◌%◌, ◌^◌, ◌<◌, ◌≤◌, ◌-◌, ℕ, sym, ap, subst, ◌∙◌, length, arith}
+use Rattle.std.proofs.Common.{◌*◌, ◌/◌, ◌<◌, ◌≤◌, ℕ, sym, ap, subst, ◌∙◌, length, arith}
 use Rattle.ut_bits.proofs.BitLemmas.{length-fields, get_or-fields, field_within}
 use Rattle.ut_bits.specs.Bits.{number_of, byte_count}
 use Rattle.ut_bits.proofs.bit_list.BitList.get.Goals as goal

@@ -1,4 +1,4 @@
-use Rattle.std.proofs.Common.{sym, ap, ◌∙◌, length}
+use Rattle.std.proofs.Common.{sym}
 use Rattle.ut_bits.proofs.BitLemmas.{length-fields}
 use Rattle.ut_bits.specs.Bits.{number_of}
 use Rattle.ut_bits.proofs.bit_list.BitList.len.Goals as goal

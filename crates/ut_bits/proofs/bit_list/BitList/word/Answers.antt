@@ -1,5 +1,5 @@
-use Rattle.std.proofs.Common.{◌≡◌, ℕ, ◌+◌, ◌*◌, ◌/◌, ◌%◌, ◌^◌, ◌<◌, ◌≤◌, length, arith, ap, sym, subst, ◌∙◌}
-use Rattle.ut_bits.specs.Bits.{number_of, byte_count, joined, fields}
+use Rattle.std.proofs.Common.{◌≡◌, ℕ, ◌*◌, ◌/◌, ◌%◌, ◌^◌, ◌≤◌, length, arith, ap, sym, subst, ◌∙◌}
+use Rattle.ut_bits.specs.Bits.{number_of, fields}
 use Rattle.ut_bits.proofs.BitLemmas.{length-fields, joined-fields}
 use Rattle.ut_bits.proofs.bit_list.BitList.word.Goals as goal
 

@@ -1,5 +1,5 @@
-use Rattle.std.proofs.Common.{◌≡◌, ℕ, ◌+◌, ◌*◌, ◌^◌, ◌<◌, ◌≤◌, ◌++◌, [], ◌∷◌, length, arith, ap, sym, subst, ◌∙◌}
-use Rattle.ut_bits.specs.Bits.{AllBelow, fields, bytes_of, byte_count, packed_bytes, number_of, joined}
+use Rattle.std.proofs.Common.{◌≡◌, ℕ, ◌+◌, ◌*◌, ◌^◌, ◌<◌, ◌++◌, [], ◌∷◌, ap, sym, subst, ◌∙◌}
+use Rattle.ut_bits.specs.Bits.{fields, bytes_of, byte_count, packed_bytes, number_of}
 use Rattle.ut_bits.proofs.BitLemmas.{length-fields, AllBelow-fields, joined-fields, padded-number, padded-length, padded-below}
 use Rattle.ut_bits.proofs.ListLemmas.{packed_bytes-number}
 use Rattle.ut_bits.proofs.bit_list.BitListWriter.finish.Goals as goal

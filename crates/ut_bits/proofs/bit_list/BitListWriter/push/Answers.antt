@@ -1,4 +1,4 @@
-use Rattle.std.proofs.Common.{◌≡◌, ℕ, ◌+◌, ◌*◌, ◌^◌, ◌<◌, ◌≤◌, ◌++◌, [], ◌∷◌, length, arith, ap, sym, subst, ◌∙◌}
+use Rattle.std.proofs.Common.{◌≡◌, ℕ, ◌+◌, ◌*◌, ◌^◌, ◌<◌, ◌++◌, [], ◌∷◌, length, arith, ap, sym, subst, ◌∙◌}
 use Rattle.ut_bits.specs.Bits.{fields}
 use Rattle.ut_bits.proofs.BitLemmas.{length-fields}
 use Rattle.ut_bits.proofs.ListLemmas.{fields-push, fields-fit}

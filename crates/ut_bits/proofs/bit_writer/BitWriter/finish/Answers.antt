@@ -1,5 +1,5 @@
-use Rattle.std.proofs.Common.{◌≡◌, ◌+◌, ◌*◌, ◌/◌, ◌^◌, ◌<◌, ◌≤◌, ◌++◌, length, arith, ap, sym, ◌∙◌, ℕ, take}
-use Rattle.ut_bits.specs.Bits.{number_of, bytes_of, byte_count, AllBelow}
+use Rattle.std.proofs.Common.{◌≡◌, ◌+◌, ◌/◌, ◌++◌, arith, ap, sym, ◌∙◌, take}
+use Rattle.ut_bits.specs.Bits.{bytes_of}
 use Rattle.ut_bits.proofs.BitLemmas.{bytes_of-writer, take-to_le_bytes_8}
 use Rattle.ut_bits.proofs.bit_writer.BitWriter.finish.Goals as goal
 

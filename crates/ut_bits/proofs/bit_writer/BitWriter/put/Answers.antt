@@ -1,8 +1,7 @@
-use Rattle.std.proofs.Common.{◌≡◌, ◌+◌, ◌*◌, ◌/◌, ◌%◌, ◌^◌, ◌<◌, ◌≤◌, ◌-◌, ◌++◌, bit_or, bit_and, length, length-append, arith, ap, sym, subst, ◌∙◌, ℕ, List}
-use Rattle.std.proofs.lemmas.Nat.{shr_below, and_mask, pow-add}
-use Rattle.std.specs.Int.{to_le_bytes, w32}
+use Rattle.std.proofs.Common.{◌≡◌, ◌+◌, ◌*◌, ◌%◌, ◌^◌, ◌<◌, ◌-◌, bit_or, bit_and, length, arith, ap, sym, subst, ◌∙◌, ℕ, List}
+use Rattle.std.proofs.lemmas.Nat.{shr_below, and_mask}
 use Rattle.ut_bits.specs.Bits.{number_of, AllBelow}
-use Rattle.ut_bits.proofs.BitLemmas.{word-put, number_of-le_bytes_4, number_of-flush, number_of-put, number_of-put_flush, pow-places, AllBelow-append, AllBelow-to_le_bytes_4}
+use Rattle.ut_bits.proofs.BitLemmas.{word-put, number_of-le_bytes_4, number_of-put, number_of-put_flush, pow-places, AllBelow-append, AllBelow-to_le_bytes_4}
 use Rattle.ut_bits.proofs.bit_writer.BitWriter.put.Goals as goal
 
 pub invariant_of-self-then-bits-ge32 : goal.invariant_of-self-then-bits-ge32

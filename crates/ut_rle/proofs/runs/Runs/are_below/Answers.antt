@@ -1,6 +1,5 @@
-use Rattle.std.proofs.Common.{◌≡◌, true, sym, ap, subst, ◌∙◌, nat_lt}
+use Rattle.std.proofs.Common.{◌≡◌, sym, ap, ◌∙◌, nat_lt}
 use Rattle.std.specs.List.{list_all}
-use Rattle.ut_bits.specs.Bits.{AllBelow}
 use Rattle.ut_rle.proofs.EndsLemmas.{below-codes}
 use Rattle.ut_rle.proofs.runs.Runs.are_below.Goals as goal
 

@@ -1,7 +1,6 @@
-use Rattle.std.proofs.Common.{◌≡◌, ◌++◌, List, ℕ, sym, ap, subst, ◌∙◌, append_assoc, length}
-use Rattle.ut_bits.specs.Places.{places_from, is_in}
+use Rattle.std.proofs.Common.{◌≡◌, ◌++◌, ℕ, sym, ap, subst, ◌∙◌, append_assoc, length}
 use Rattle.ut_bits.specs.Words.{word_bytes}
-use Rattle.ut_rle.specs.Runs.{expanded, entries_of, runs_of}
+use Rattle.ut_rle.specs.Runs.{entries_of, runs_of}
 use Rattle.ut_rle.specs.Ends.{lengths_from, Ascend}
 use Rattle.ut_rle.proofs.RunsLemmas.{runs_of-expanded}
 use Rattle.ut_rle.proofs.EndsLemmas.{Ascend-AreRuns}

@@ -1,13 +1,11 @@
-use Rattle.std.proofs.Common.{◌≡◌, ℕ, ◌+◌, ◌-◌, ◌*◌, ◌/◌, ◌^◌, ◌<◌, ◌≤◌, ◌++◌, List, length, take, drop, sym, ap, subst, ◌∙◌, arith}
-use Rattle.std.proofs.lemmas.List.{length-drop}
+use Rattle.std.proofs.Common.{◌≡◌, ℕ, ◌-◌, ◌^◌, List, length, take, drop, sym, ap, subst, ◌∙◌, arith}
 use Rattle.ut_bits.specs.Bits.{AllBelow}
-use Rattle.ut_bits.specs.Words.{word_in}
 use Rattle.ut_bits.proofs.BitLemmas.{AllBelow-from_places, take-rest}
-use Rattle.ut_rle.specs.Runs.{expanded, runs_of, run_bytes, entries_in, rows_of, AreRuns}
-use Rattle.ut_rle.specs.Ends.{lengths_from, end_from}
+use Rattle.ut_rle.specs.Runs.{expanded, runs_of, entries_in, rows_of, AreRuns}
+use Rattle.ut_rle.specs.Ends.{lengths_from}
 use Rattle.ut_rle.proofs.RunsLemmas.{runs_of-expanded, AllBelow-expanded}
 use Rattle.ut_rle.proofs.EndsLemmas.{length-expanded}
-use Rattle.ut_rle.proofs.EntryLemmas.{run_bytes-front, run_bytes-read, length-entries_in}
+use Rattle.ut_rle.proofs.EntryLemmas.{run_bytes-front, run_bytes-read}
 use Rattle.ut_rle.proofs.runs.Runs.from_bytes.Goals as goal
 
 pub returns-then-bytes-lt4-clause-none : goal.returns-then-bytes-lt4-clause-none

@@ -1,8 +1,8 @@
-use Rattle.std.proofs.Common.{◌≡◌, ℕ, ◌+◌, ◌-◌, ◌^◌, ◌<◌, ◌≤◌, ◌++◌, eqb, false, List, [], ◌∷◌, length, take, get_or, sym, ap, subst, ◌∙◌, arith}
+use Rattle.std.proofs.Common.{◌≡◌, ℕ, ◌-◌, ◌^◌, ◌++◌, length, take, sym, subst, ◌∙◌, arith}
 use Rattle.std.proofs.lemmas.Bool.{ne_eqb}
 use Rattle.std.proofs.lemmas.List.{take_all}
 use Rattle.ut_bits.proofs.BitLemmas.{AllBelow-at}
-use Rattle.ut_rle.specs.Runs.{copies, expanded, is_last_code, AreRuns}
+use Rattle.ut_rle.specs.Runs.{copies, expanded}
 use Rattle.ut_rle.specs.Ends.{lengths_from, end_from}
 use Rattle.ut_rle.proofs.EndsLemmas.{write-run, run-goes_on, run-begins}
 use Rattle.ut_rle.proofs.runs.Runs.from_codes.Goals as goal

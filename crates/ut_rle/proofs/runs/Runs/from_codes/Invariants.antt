@@ -1,4 +1,4 @@
-use Rattle.std.proofs.Common.{◌≡◌, ℕ, ◌-◌, ◌^◌, ◌<◌, ◌≤◌, ◌++◌, false, length, take}
+use Rattle.std.proofs.Common.{◌≡◌, ◌-◌, ◌^◌, ◌<◌, ◌≤◌, ◌++◌, false, length, take}
 use Rattle.ut_rle.specs.Runs.{copies, expanded, is_last_code, AreRuns}
 use Rattle.ut_rle.specs.Ends.{lengths_from, end_from}
 use Rattle.ut_rle.proofs.runs.Runs.from_codes.Given as goal

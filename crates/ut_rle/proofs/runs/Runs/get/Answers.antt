@@ -1,6 +1,6 @@
-use Rattle.std.proofs.Common.{◌≡◌, ℕ, ◌+◌, ◌-◌, ◌<◌, ◌≤◌, length, get_or, map, sym, ap, subst, ◌∙◌, arith}
+use Rattle.std.proofs.Common.{◌<◌, length, get_or, sym, ap, subst, ◌∙◌, arith}
 use Rattle.ut_rle.specs.Runs.{expanded}
-use Rattle.ut_rle.specs.Ends.{lengths_from, end_from, Ascend}
+use Rattle.ut_rle.specs.Ends.{lengths_from, Ascend}
 use Rattle.ut_rle.proofs.EndsLemmas.{Ascend-AreRuns, length-expanded, code-at}
 use Rattle.ut_rle.proofs.runs.Runs.get.Goals as goal
 

@@ -1,4 +1,4 @@
-use Rattle.std.proofs.Common.{◌≡◌, ℕ, ◌+◌, sym, ap, ◌∙◌, length, arith}
+use Rattle.std.proofs.Common.{◌≡◌, ap, length, arith}
 use Rattle.ut_rle.specs.Runs.{expanded}
 use Rattle.ut_rle.specs.Ends.{lengths_from}
 use Rattle.ut_rle.proofs.EndsLemmas.{length-expanded}

@@ -1,6 +1,4 @@
-use Rattle.std.proofs.Common.{◌≡◌, ℕ, ◌<◌, ◌≤◌, ◌^◌, sym, ap, ◌∙◌, length, arith, Fits}
-use Rattle.ut_rle.specs.Runs.{expanded, runs_of}
-use Rattle.ut_rle.specs.Ends.{lengths_from}
+use Rattle.std.proofs.Common.{◌≡◌, ap, length, arith}
 use Rattle.ut_rle.proofs.RunsLemmas.{runs_of-expanded}
 use Rattle.ut_rle.proofs.EndsLemmas.{length-lengths_from}
 use Rattle.ut_rle.proofs.EntryLemmas.{length-le_rows, end-rows}
