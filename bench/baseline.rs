@@ -194,9 +194,7 @@ impl Runs {
         let mut from = 0;
         for run in &self.runs {
             if is_in(run.code, ranges) {
-                for i in from..run.end {
-                    out.push(i);
-                }
+                append_range(from, run.end, out);
             }
             from = run.end;
         }
@@ -293,19 +291,31 @@ impl Sparse {
             .get(self.ranks[(i / 64) as usize] + before.count_ones())
     }
 
+    fn marks_from(&self, row: u32) -> u64 {
+        self.marks.word(row / 64) >> (row % 64)
+    }
+
+    fn next_mark(&self, row: u32) -> u32 {
+        let mut at = row;
+        let mut rest = self.marks_from(at);
+        while rest == 0 {
+            at = (at / 64 + 1) * 64;
+            rest = self.marks_from(at);
+        }
+        at + rest.trailing_zeros()
+    }
+
     fn places_in(&self, ranges: &[(u32, u32)], out: &mut Vec<u32>) {
         if is_in(self.left_out, ranges) {
-            let mut rank = 0;
-            for i in 0..self.marks.len {
-                if self.marks.get(i) == 0 {
-                    out.push(i);
-                } else {
-                    if is_in(self.others.get(rank), ranges) {
-                        out.push(i);
-                    }
-                    rank += 1;
-                }
+            out.reserve(self.marks.len as usize);
+            let mut from = 0;
+            for rank in 0..self.others.len {
+                let mark = self.next_mark(from);
+                let end = mark + u32::from(is_in(self.others.get(rank), ranges));
+                append_range(from, end, out);
+                from = mark + 1;
             }
+            append_range(from, self.marks.len, out);
             return;
         }
         for k in 0..self.marks.len / 64 + 1 {
@@ -372,6 +382,12 @@ fn is_in(code: u32, ranges: &[(u32, u32)]) -> bool {
     ranges
         .iter()
         .any(|range| range.0 <= code && code < range.1)
+}
+
+fn append_range(from: u32, to: u32, out: &mut Vec<u32>) {
+    for i in from..to {
+        out.push(i);
+    }
 }
 
 fn read_word(bytes: &[u8]) -> u32 {

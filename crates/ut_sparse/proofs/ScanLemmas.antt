@@ -1,6 +1,7 @@
 -- Laws on a scan of the sparse form that goes from mark to mark.
-use Rattle.std.proofs.Common.{◌≡◌, ℕ, zero, suc, ◌+◌, ◌-◌, ◌*◌, ◌/◌, ◌%◌, ◌^◌, ◌<◌, ◌≤◌, min, Bool, false, inl, inr, List, [], ◌∷◌, ◌++◌, length, take, drop, get_or, refl, sym, ◌∙◌, ap, arith, append-nil}
-use Rattle.std.specs.Int.{bit_at, trailing_zeros, w64}
+use Rattle.std.proofs.Common.{◌≡◌, ℕ, zero, suc, ◌+◌, ◌-◌, ◌*◌, ◌/◌, ◌%◌, ◌^◌, ◌<◌, ◌≤◌, min, Bool, true, false, inl, inr, List, [], ◌∷◌, ◌++◌, length, take, drop, get_or, refl, sym, ◌∙◌, ap, arith, append-nil, append_assoc}
+use Rattle.std.specs.Int.{bit_at, trailing_zeros, w64, from_bool}
+use Rattle.std.specs.List.{range_with_len}
 use Rattle.std.proofs.lemmas.Nat.Bits.{bit_at-trailing_zeros, bit_at-zero}
 use Rattle.std.proofs.Math.Nat.{pow-le-pow_right}
 use Rattle.std.proofs.Math.Seq.{take-add}
@@ -9,9 +10,9 @@ use Rattle.std.proofs.lemmas.List.{get_or-drop, get_or-take, get_or_past, length
 use Rattle.ut_bits.specs.Bits.{AllBelow, joined}
 use Rattle.ut_bits.specs.Places.{places_from}
 use Rattle.ut_bits.proofs.BitLemmas.{AllBelow-drop, AllBelow-take, low_field, joined-below}
-use Rattle.ut_bits.proofs.PlacesLemmas.{places_from-append, places_from-none, places_from-both}
+use Rattle.ut_bits.proofs.PlacesLemmas.{places_from-append, places_from-take, places_from-one, places_from-none, places_from-both, places_from-all, range_with_len-more}
 use Rattle.ut_sparse.specs.Sparse.{marked, merged}
-use Rattle.ut_sparse.proofs.SparseLemmas.{joined-drop, joined-take, marked-next, length-merged, get_or-merged_left, get_or-merged_other, rank-within}
+use Rattle.ut_sparse.proofs.SparseLemmas.{joined-drop, joined-take, marked-next, marked-parts, length-merged, get_or-merged_left, get_or-merged_other, rank-within}
 
 -- the marks of 64 rows from a place on
 unfoldable pub word_from : ℕ → List ℕ → List ℕ
@@ -185,3 +186,116 @@ places-unmarked test left place passed ms os b absent le e =
     ∙ bits-none (drop passed (word_from place ms)) (AllBelow-drop 2 passed (word_from place ms) (AllBelow-word place ms b)) (sym e) (i - passed) in
     sym (ap (λ l. places_from test place l) (take_all (passed + more) (word_from place (merged left ms os)) (omega (arith, size, le))))
     ∙ places_from-skip test place passed more (word_from place (merged left ms os)) (omega (arith, size, le)) (λ i lo hi. ap (λ (c : ℕ). test c) (left-word left place i ms os (omega (arith, hi, le)) (none i lo)) ∙ absent)
+
+-- no row between two places is marked where as many are before both
+pub bare : (ms : List ℕ) (a b i : ℕ) → marked (take b ms) ≡ marked (take a ms) → a ≤ i → i < b → b ≤ length ms → get_or ms i 0 ≡ 0
+bare ms a b i e lo hi le =
+    let before = marked-parts a (i - a) i ms (omega (arith, lo)) in
+    let behind = marked-parts (i + 1) (b - (i + 1)) b ms (omega (arith, hi)) in
+    omega (arith, e, before, behind, marked-next ms i (omega (arith, hi, le)))
+
+-- the marks from a row on to the end of its word
+unfoldable pub row_marks : ℕ → List ℕ → List ℕ
+row_marks at ms = drop (at % 64) (word_from (64 * (at / 64)) ms)
+
+-- they are those of a word's number without its first bits
+pub row_marks-word : (width at word : ℕ) (ms : List ℕ) → width ≡ 1 → AllBelow 2 ms → word ≡ joined width ms / 2 ^ (64 * (at / 64)) % 2 ^ 64 → word / 2 ^ (at % 64) ≡ joined 1 (row_marks at ms)
+unfolding row_marks
+row_marks-word width at word ms one b e =
+    ap (λ (x : ℕ). x / 2 ^ (at % 64)) (word-joined width (64 * (at / 64)) word ms one b e)
+    ∙ joined-drop (at % 64) (word_from (64 * (at / 64)) ms) (AllBelow-word (64 * (at / 64)) ms b)
+
+-- what is read among them
+get_or-row_marks : (at i : ℕ) (ms : List ℕ) → at % 64 + i < length (word_from (64 * (at / 64)) ms) → get_or (row_marks at ms) i 0 ≡ get_or ms (at + i) 0
+unfolding row_marks
+get_or-row_marks at i ms h =
+    let sum : 64 * (at / 64) + (at % 64 + i) ≡ at + i = omega arith in
+    get_or-drop (at % 64) (word_from (64 * (at / 64)) ms) i 0 ∙ get_or-word (64 * (at / 64)) (at % 64 + i) ms h ∙ ap (λ (k : ℕ). get_or ms k 0) sum
+
+AllBelow-row_marks : (at : ℕ) (ms : List ℕ) → AllBelow 2 ms → AllBelow 2 (row_marks at ms)
+unfolding row_marks
+AllBelow-row_marks at ms b = AllBelow-drop 2 (at % 64) (word_from (64 * (at / 64)) ms) (AllBelow-word (64 * (at / 64)) ms b)
+
+-- where no bit of them is set the next mark stands behind the word
+pub row_marks-none : (ms : List ℕ) (at next : ℕ) → AllBelow 2 ms → at < length ms → 0 ≡ joined 1 (row_marks at ms) → marked (take at ms) < marked ms → next ≡ (at / 64 + 1) * 64
+    → (next < length ms) × (marked (take next ms) ≡ marked (take at ms))
+row_marks-none ms at next b h e more is =
+    let size = length-word (64 * (at / 64)) ms in
+    let none : (i : ℕ) → at ≤ i → i < next → i < length ms → get_or ms i 0 ≡ 0 =
+    λ i lo hi le.
+    let sum : at + (i - at) ≡ i = omega (arith, lo) in
+    ap (λ (k : ℕ). get_or ms k 0) (sym sum) ∙ sym (get_or-row_marks at (i - at) ms (omega (arith, size, is, lo, hi, le))) ∙ bits-none (row_marks at ms) (AllBelow-row_marks at ms b) (sym e) (i - at) in
+    elim (cases_lt next (length ms)) [
+      | inl less ↦
+          let gap : at + (next - at) ≡ next = omega (arith, is) in
+          (less, ap (λ (k : ℕ). marked (take k ms)) (sym gap) ∙ marked-skip ms at (next - at) (omega (arith, gap, less)) (λ i lo hi. none i lo (omega (arith, hi, gap)) (omega (arith, hi, gap, less))))
+      | inr past ↦
+          let gap : at + (length ms - at) ≡ length ms = omega (arith, h) in
+          let whole : marked ms ≡ marked (take at ms) =
+          ap (λ l. marked l) (sym (take_all (length ms) ms (omega arith))) ∙ ap (λ (k : ℕ). marked (take k ms)) (sym gap)
+          ∙ marked-skip ms at (length ms - at) (omega (arith, gap)) (λ i lo hi. none i lo (omega (arith, hi, gap, past)) (omega (arith, hi, gap))) in
+          absurd (omega (arith, more, whole))
+    ]
+
+-- a row with marks left at or behind it is there
+pub more-within : (row : ℕ) (ms : List ℕ) → marked (take row ms) < marked ms → row < length ms
+more-within row ms more =
+    elim (cases_lt row (length ms)) [
+      | inl less ↦ less
+      | inr past ↦ absurd (omega (arith, more, ap (λ l. marked l) (take_all row ms past)))
+    ]
+
+-- the first mark from a row on
+pub record IsNextMark (ms : List ℕ) (at mark : ℕ) : Type 0 where
+  pub within : mark < length ms
+  pub here : get_or ms mark 0 ≡ 1
+  pub first : marked (take mark ms) ≡ marked (take at ms)
+
+pub row_marks-some : (ms : List ℕ) (at rest : ℕ) → AllBelow 2 ms → rest ≡ joined 1 (row_marks at ms) → 0 < rest → IsNextMark ms at (at + trailing_zeros w64 rest)
+unfolding row_marks
+row_marks-some ms at rest b e some =
+    let word = word_from (64 * (at / 64)) ms in
+    let size = length-word (64 * (at / 64)) ms in
+    let part = length-drop (at % 64) word in
+    let first = first-bit (row_marks at ms) rest (AllBelow-drop 2 (at % 64) word (AllBelow-word (64 * (at / 64)) ms b)) (omega (arith, size, part)) e some in
+    let zeros = trailing_zeros w64 rest in
+    let inside : at % 64 + zeros < length word = omega (arith, first.within, part) in
+    record {
+      within = omega (arith, inside, size);
+      here = sym (get_or-row_marks at zeros ms inside) ∙ first.here;
+      first = marked-skip ms at zeros (omega (arith, inside, size)) (λ i lo hi.
+          let sum : at + (i - at) ≡ i = omega (arith, lo) in
+          ap (λ (k : ℕ). get_or ms k 0) (sym sum) ∙ sym (get_or-row_marks at (i - at) ms (omega (arith, inside, lo, hi))) ∙ first.before (i - at) (omega (arith, lo, hi)));
+    }
+
+-- the places of rows without marks, where the code that is left out passes
+pub places-bare : (test : ℕ → Bool) (left from to : ℕ) (ms os : List ℕ) → test left ≡ true → from ≤ to → to ≤ length ms → marked (take to ms) ≡ marked (take from ms)
+    → places_from test 0 (take to (merged left ms os)) ≡ places_from test 0 (take from (merged left ms os)) ++ range_with_len from (to - from)
+places-bare test left from to ms os present le within e =
+    let sum : from + (to - from) ≡ to = omega (arith, le) in
+    ap (λ (k : ℕ). places_from test 0 (take k (merged left ms os))) (sym sum)
+    ∙ places_from-all test from (to - from) (merged left ms os) 0 (omega (arith, sum, within, length-merged left ms os))
+    (λ i lo hi. ap (λ (c : ℕ). test c) (get_or-merged_left left ms os i (omega (arith, hi, sum, within)) (bare ms from to i e lo (omega (arith, hi, sum)) within)) ∙ present)
+
+-- the places up to and with the next mark
+pub places-to_mark : (test : ℕ → Bool) (left from mark rank end : ℕ) (ms os : List ℕ) → AllBelow 2 ms → test left ≡ true → from ≤ mark → IsNextMark ms from mark → rank ≡ marked (take from ms)
+    → end ≡ mark + from_bool (test (get_or os rank 0)) → places_from test 0 (take (mark + 1) (merged left ms os)) ≡ places_from test 0 (take from (merged left ms os)) ++ range_with_len from (end - from)
+places-to_mark test left from mark rank end ms os b present le m count is =
+    let codes = merged left ms os in
+    let before = places_from test 0 (take from codes) in
+    let code : get_or codes mark 0 ≡ get_or os rank 0 = get_or-merged_other left ms os mark b m.within (λ z. absurd (omega (arith, z, m.here))) ∙ ap (λ (k : ℕ). get_or os k 0) (m.first ∙ sym count) in
+    places_from-take test codes mark 0 (omega (arith, m.within, length-merged left ms os))
+    ∙ ap (λ (l : List ℕ). l ++ places_from test mark (get_or codes mark 0 ∷ [])) (places-bare test left from mark ms os present le (omega (arith, m.within)) m.first)
+    ∙ ap (λ (c : ℕ). (before ++ range_with_len from (mark - from)) ++ places_from test mark (c ∷ [])) code
+    ∙ append_assoc before (range_with_len from (mark - from)) _
+    ∙ ap (λ (l : List ℕ). before ++ l) (last (test (get_or os rank 0)) mark from end (get_or os rank 0) le is refl)
+  where
+    last : (yes : Bool) (mark from end c : ℕ) → from ≤ mark → end ≡ mark + from_bool yes → test c ≡ yes → range_with_len from (mark - from) ++ places_from test mark (c ∷ []) ≡ range_with_len from (end - from)
+    last true mark from end c le is e =
+        let sum : from + (mark - from) ≡ mark = omega (arith, le) in
+        let more : mark - from + 1 ≡ end - from = omega (arith, le, is) in
+        ap (λ (l : List ℕ). range_with_len from (mark - from) ++ l) (places_from-one test mark c e) ∙ ap (λ (k : ℕ). range_with_len from (mark - from) ++ k ∷ []) (sym sum)
+        ∙ range_with_len-more from (mark - from) ∙ ap (λ (k : ℕ). range_with_len from k) more
+    last false mark from end c le is e =
+        let same : mark - from ≡ end - from = omega (arith, le, is) in
+        ap (λ (l : List ℕ). range_with_len from (mark - from) ++ l) (places_from-none test mark c e) ∙ append-nil (range_with_len from (mark - from)) ∙ ap (λ (k : ℕ). range_with_len from k) same

@@ -1,5 +1,5 @@
-ghost use Rattle.std.specs.Prelude.{◌≡◌, ◌+◌, ◌*◌, ◌^◌, ◌<◌, ◌≤◌, ◌++◌, length, slice_index, take, IfOk};
-ghost use Rattle.ut_bits.specs.Bits.{AllBelow};
+ghost use Rattle.std.specs.Prelude.{◌≡◌, ◌+◌, ◌*◌, ◌/◌, ◌%◌, ◌^◌, ◌<◌, ◌≤◌, ◌++◌, length, slice_index, take, drop, IfOk};
+ghost use Rattle.ut_bits.specs.Bits.{AllBelow, joined};
 ghost use Rattle.ut_sparse.specs.Sparse.{AreRanks, marked, merged, AreSparse};
 
 use std::alloc::{AllocError, Global};
@@ -68,6 +68,36 @@ pub fn rank_at(marks: &BitList, ranks: &[u32], i: u32) -> u32
     let before = word & ((1u64 << (i % 64)) - 1);
     let block = ranks[(i / 64) as usize];
     block + before.count_ones()
+}
+
+/// The marks of the rows from one on to the end of its block of 64, the first as the lowest bit.
+fn marks_from(marks: &BitList, row: u32) -> u64
+    requires width { marks.now.width ≡ 1 }
+    requires bits { AllBelow 2 marks.now.codes }
+    requires within { row < length marks.now.codes }
+    ensures { result ≡ joined 1 (drop (row % 64) (take 64 (drop (64 * (row / 64)) marks.now.codes))) }
+{
+    marks.word(row / 64) >> (row % 64)
+}
+
+/// The first marked row from a row on.
+pub fn next_mark(marks: &BitList, row: u32) -> u32
+    requires few { length marks.now.codes ≤ 2 ^ 31 }
+    requires width { marks.now.width ≡ 1 }
+    requires bits { AllBelow 2 marks.now.codes }
+    requires more { marked (take row marks.now.codes) < marked marks.now.codes }
+    ensures behind { row ≤ result }
+    ensures within { result < length marks.now.codes }
+    ensures mark { slice_index marks.now.codes result ≡ 1 }
+    ensures first { marked (take result marks.now.codes) ≡ marked (take row marks.now.codes) }
+{
+    let mut at = row;
+    let mut rest = marks_from(marks, at);
+    while rest == 0 {
+        at = (at / 64 + 1) * 64;
+        rest = marks_from(marks, at);
+    }
+    at + rest.trailing_zeros()
 }
 
 /// How many rows are marked.

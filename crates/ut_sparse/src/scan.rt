@@ -1,13 +1,13 @@
-ghost use Rattle.std.specs.Prelude.{◌≡◌, ◌+◌, ◌*◌, ◌<◌, ◌≤◌, ◌++◌, length, take, drop, false, OnOk, OnErr};
-ghost use Rattle.ut_bits.specs.Bits.{AllBelow};
+ghost use Rattle.std.specs.Prelude.{◌≡◌, ◌+◌, ◌*◌, ◌<◌, ◌≤◌, ◌++◌, length, take, drop, false, true, OnOk, OnErr};
 ghost use Rattle.ut_bits.specs.Places.{is_in, places_where, places_from};
 ghost use Rattle.ut_sparse.specs.Sparse.{AreRanks, IsPaired, marked, merged};
 
-use crate::marks::code_here;
+use crate::marks::next_mark;
 use std::alloc::AllocError;
-use ut_bits::{BitList, is_in};
+use ut_bits::{BitList, append_range, is_in};
 
-/// Appends the places whose code stands in one of the ranges, row by row.
+/// Appends the places whose code stands in one of the ranges, one of which holds the code that is
+/// left out: from one mark to the next, with all rows between them.
 pub fn append_all_in(
     left_out: u32,
     marks: &BitList,
@@ -15,26 +15,33 @@ pub fn append_all_in(
     ranges: &[(u32, u32)],
     out: &mut Vec<u32>,
 ) -> Result<(), AllocError>
-    requires bits { AllBelow 2 marks.now.codes }
-    requires paired { marked marks.now.codes ≡ length others.now.codes }
+    requires marks { IsPaired marks.now others.now }
+    requires present { is_in ranges.now left_out ≡ true }
     ensures ok { OnOk result (out.new.items ≡ out.old.items ++ places_where (is_in ranges.now) (merged left_out marks.now.codes others.now.codes)) }
     ensures err { OnErr result (out.new.items ≡ out.old.items) }
 {
     let before = out.len();
-    let mut rank = 0;
-    for i in 0..marks.len() {
-        if is_in(code_here(left_out, marks, others, i, rank), ranges) {
-            match out.push(i) {
-                Ok(()) => {}
-                Err(failed) => {
-                    out.truncate(before);
-                    return Err(AllocError::from(failed));
-                }
+    out.reserve(marks.len() as usize)?;
+    let mut from = 0;
+    for rank in 0..others.len() {
+        let mark = next_mark(marks, from);
+        let end = mark + u32::from(is_in(others.get(rank), ranges));
+        match append_range(from, end, out) {
+            Ok(()) => {}
+            Err(failed) => {
+                out.truncate(before);
+                return Err(failed);
             }
         }
-        rank += marks.get(i);
+        from = mark + 1;
     }
-    Ok(())
+    match append_range(from, marks.len(), out) {
+        Ok(()) => Ok(()),
+        Err(failed) => {
+            out.truncate(before);
+            Err(failed)
+        }
+    }
 }
 
 /// Appends the places of word `k` of the marks whose code stands in one of the ranges, none of

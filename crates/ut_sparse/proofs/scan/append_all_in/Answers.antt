@@ -1,38 +1,45 @@
-use Rattle.std.proofs.Common.{◌≡◌, ℕ, ◌+◌, ◌<◌, ◌++◌, length, take, get_or, ap, sym, ◌∙◌, arith, List, [], ◌∷◌, append_assoc, append-nil}
+use Rattle.std.proofs.Common.{◌≡◌, ℕ, ◌+◌, ◌-◌, ◌++◌, List, length, take, get_or, ap, sym, ◌∙◌, arith, append_assoc}
+use Rattle.std.specs.Int.{from_bool}
+use Rattle.std.specs.List.{range_with_len}
 use Rattle.std.proofs.lemmas.List.{take_all}
 use Rattle.ut_bits.specs.Places.{places_from, is_in}
-use Rattle.ut_bits.proofs.PlacesLemmas.{places_from-take, places_from-one, places_from-none}
-use Rattle.ut_sparse.specs.Sparse.{merged}
-use Rattle.ut_sparse.proofs.SparseLemmas.{marked-next, marked-take-le, marked-le, length-merged}
+use Rattle.ut_sparse.specs.Sparse.{marked, merged}
+use Rattle.ut_sparse.proofs.SparseLemmas.{marked-next, length-merged}
+use Rattle.ut_sparse.proofs.ScanLemmas.{IsNextMark, places-to_mark, places-bare}
 use Rattle.ut_sparse.proofs.scan.append_all_in.Goals as goal
-use Rattle.ut_sparse.proofs.scan.append_all_in.Goals.{then-is_in+in-Ok, else-is_in}
 
-pub overflow_add-rank : goal.overflow_add-rank
-overflow_add-rank c =
-    let within : c.loop-i.i < length c.args.marks.now.codes = omega arith in
-    omega (arith, c.get-rank.ensures, c.loop-i.invariant.rank, marked-next c.args.marks.now.codes c.loop-i.i within, marked-take-le c.args.marks.now.codes (c.loop-i.i + 1), marked-le c.args.marks.now.codes c.requires.bits)
-
-pub loop-i-preserved : goal.loop-i-preserved
-loop-i-preserved c =
-    let inv = c.loop-i.invariant in
-    let codes = merged c.args.left_out c.args.marks.now.codes c.args.others.now.codes in
+pub loop-rank-preserved : goal.loop-rank-preserved
+loop-rank-preserved c =
+    let inv = c.loop-rank.invariant in
+    let found = c.next_mark-mark.ensures in
+    let mark = c.next_mark-mark.result in
+    let marks = c.args.marks.now.codes in
+    let others = c.args.others.now.codes in
     let test = is_in c.args.ranges.now in
-    let size = length-merged c.args.left_out c.args.marks.now.codes c.args.others.now.codes in
-    let within : c.loop-i.i < length c.args.marks.now.codes = omega arith in
-    let more = places_from-take test codes c.loop-i.i 0 (omega (arith, size, within)) in
-    let here : c.is_in.result ≡ test (get_or codes c.loop-i.i 0) = c.is_in.ensures ∙ ap (λ (n : ℕ). is_in c.args.ranges.now n) c.code_here.ensures in
-    let joined : (tail : List ℕ) → places_from test c.loop-i.i (get_or codes c.loop-i.i 0 ∷ []) ≡ tail → c.loop-i.out.items ++ tail ≡ c.args.out.now.items ++ places_from test 0 (take (c.loop-i.i + 1) codes) =
-    λ tail e. ap (λ (l : List ℕ). l ++ tail) inv.places ∙ append_assoc c.args.out.now.items _ tail ∙ ap (λ (l : List ℕ). c.args.out.now.items ++ l) (ap (λ (l : List ℕ). places_from test 0 (take c.loop-i.i codes) ++ l) (sym e) ∙ sym more) in
+    let next : IsNextMark marks c.loop-rank.from mark = record { within = found.within; here = found.mark; first = found.first } in
+    let one : c.from.result ≡ from_bool (test (get_or others c.loop-rank.rank 0)) =
+    c.from.ensures ∙ ap from_bool (c.is_in.ensures ∙ ap (λ (n : ℕ). is_in c.args.ranges.now n) c.get.ensures) in
+    let more = places-to_mark test c.args.left_out c.loop-rank.from mark c.loop-rank.rank _ marks others c.requires.marks.bits c.requires.present found.behind next inv.rank (ap (λ (n : ℕ). mark + n) one) in
     record {
+      within = omega (arith, found.within);
+      rank = omega (arith, inv.rank, found.first, found.mark, marked-next marks mark found.within);
       places =
-          elim c.if-is_in.branch [
-            | then-is_in+in-Ok w ↦ ap (λ v. v.items) w.out-is ∙ w.in-Ok.ensures.items ∙ joined (c.loop-i.i ∷ []) (places_from-one test c.loop-i.i _ (sym here ∙ w.if-is_in.true))
-            | else-is_in w ↦ ap (λ v. v.items) w.out-is ∙ sym (append-nil c.loop-i.out.items) ∙ joined [] (places_from-none test c.loop-i.i _ (sym here ∙ w.if-is_in.false))
-          ];
-      rank = omega (arith, c.get-rank.ensures, inv.rank, marked-next c.args.marks.now.codes c.loop-i.i within);
+          c.in-Ok.ensures.ok ∙ ap (λ (l : List ℕ). l ++ range_with_len c.loop-rank.from (mark + c.from.result - c.loop-rank.from)) inv.places ∙ append_assoc c.reserve.new.self.items _ _
+          ∙ ap (λ (l : List ℕ). c.reserve.new.self.items ++ l) (sym more);
     }
 
-pub returns-clause-ok : goal.returns-clause-ok
-returns-clause-ok c =
-    let size = length-merged c.args.left_out c.args.marks.now.codes c.args.others.now.codes in
-    c.loop-i.invariant.places ∙ ap (λ l. c.args.out.now.items ++ places_from (is_in c.args.ranges.now) 0 l) (take_all c.loop-i.i (merged c.args.left_out c.args.marks.now.codes c.args.others.now.codes) (omega (arith, size)))
+pub returns-in-Ok-append_range-clause-ok : goal.returns-in-Ok-append_range-clause-ok
+returns-in-Ok-append_range-clause-ok c =
+    let inv = c.loop-rank.invariant in
+    let marks = c.args.marks.now.codes in
+    let codes = merged c.args.left_out marks c.args.others.now.codes in
+    let test = is_in c.args.ranges.now in
+    let end = c.len-2.result in
+    let size : end ≡ length marks = c.len-2.ensures.len in
+    let all : take end marks ≡ marks = take_all end marks (omega (arith, size)) in
+    let whole : take end codes ≡ codes = take_all end codes (omega (arith, size, length-merged c.args.left_out marks c.args.others.now.codes)) in
+    let none : marked (take end marks) ≡ marked (take c.loop-rank.from marks) = ap (λ l. marked l) all ∙ c.requires.marks.paired ∙ omega (arith, inv.rank, c.loop-rank-test.false) in
+    let more = places-bare test c.args.left_out c.loop-rank.from end marks c.args.others.now.codes c.requires.present (omega (arith, inv.within, size)) (omega (arith, size)) none in
+    c.in-Ok-append_range.ensures.ok ∙ ap (λ (l : List ℕ). l ++ range_with_len c.loop-rank.from (end - c.loop-rank.from)) inv.places ∙ append_assoc c.reserve.new.self.items _ _
+    ∙ ap (λ (l : List ℕ). c.reserve.new.self.items ++ l) (sym more ∙ ap (λ l. places_from test 0 l) whole)
+    ∙ ap (λ (l : List ℕ). l ++ places_from test 0 codes) c.in_ok-reserve.ensures.items
