@@ -333,15 +333,14 @@ impl Sparse {
 
     fn codes(&self) -> Vec<u32> {
         let mut codes = Vec::with_capacity(self.marks.len as usize);
-        let mut rank = 0;
-        for i in 0..self.marks.len {
-            if self.marks.get(i) == 0 {
-                codes.push(self.left_out);
-            } else {
-                codes.push(self.others.get(rank));
-                rank += 1;
-            }
+        let mut from = 0;
+        for rank in 0..self.others.len {
+            let mark = self.next_mark(from);
+            codes.resize(mark as usize, self.left_out);
+            codes.push(self.others.get(rank));
+            from = mark + 1;
         }
+        codes.resize(self.marks.len as usize, self.left_out);
         codes
     }
 

@@ -1,18 +1,18 @@
 -- Laws on a scan of the sparse form that goes from mark to mark.
-use Rattle.std.proofs.Common.{◌≡◌, ℕ, zero, suc, ◌+◌, ◌-◌, ◌*◌, ◌/◌, ◌%◌, ◌^◌, ◌<◌, ◌≤◌, min, Bool, true, false, inl, inr, List, [], ◌∷◌, ◌++◌, length, take, drop, get_or, refl, sym, ◌∙◌, ap, arith, append-nil, append_assoc}
+use Rattle.std.proofs.Common.{◌≡◌, ℕ, zero, suc, ◌+◌, ◌-◌, ◌*◌, ◌/◌, ◌%◌, ◌^◌, ◌<◌, ◌≤◌, min, Bool, true, false, inl, inr, List, [], ◌∷◌, ◌++◌, length, take, drop, get_or, refl, sym, ◌∙◌, ap, arith, append-nil, append_assoc, replicate}
 use Rattle.std.specs.Int.{bit_at, trailing_zeros, w64, from_bool}
 use Rattle.std.specs.List.{range_with_len}
 use Rattle.std.proofs.lemmas.Nat.Bits.{bit_at-trailing_zeros, bit_at-zero}
 use Rattle.std.proofs.Math.Nat.{pow-le-pow_right}
 use Rattle.std.proofs.Math.Seq.{take-add}
 use Rattle.std.proofs.lemmas.Bool.{cases_lt}
-use Rattle.std.proofs.lemmas.List.{get_or-drop, get_or-take, get_or_past, length-take, length-drop, take_more, drop-drop, take_all}
+use Rattle.std.proofs.lemmas.List.{get_or-drop, get_or-take, get_or_past, length-take, length-take-le, length-drop, take_more, drop-drop, take_all}
 use Rattle.ut_bits.specs.Bits.{AllBelow, joined}
 use Rattle.ut_bits.specs.Places.{places_from}
 use Rattle.ut_bits.proofs.BitLemmas.{AllBelow-drop, AllBelow-take, low_field, joined-below}
 use Rattle.ut_bits.proofs.PlacesLemmas.{places_from-append, places_from-take, places_from-one, places_from-none, places_from-both, places_from-all, range_with_len-more}
 use Rattle.ut_sparse.specs.Sparse.{marked, merged}
-use Rattle.ut_sparse.proofs.SparseLemmas.{joined-drop, joined-take, marked-next, marked-parts, length-merged, get_or-merged_left, get_or-merged_other, rank-within}
+use Rattle.ut_sparse.proofs.SparseLemmas.{joined-drop, joined-take, marked-next, marked-parts, length-merged, get_or-merged_left, get_or-merged_other, rank-within, take-next}
 
 -- the marks of 64 rows from a place on
 unfoldable pub word_from : ℕ → List ℕ → List ℕ
@@ -277,13 +277,18 @@ places-bare test left from to ms os present le within e =
     ∙ places_from-all test from (to - from) (merged left ms os) 0 (omega (arith, sum, within, length-merged left ms os))
     (λ i lo hi. ap (λ (c : ℕ). test c) (get_or-merged_left left ms os i (omega (arith, hi, sum, within)) (bare ms from to i e lo (omega (arith, hi, sum)) within)) ∙ present)
 
+-- the code at the next mark
+pub code-at_mark : (left from mark rank : ℕ) (ms os : List ℕ) → AllBelow 2 ms → IsNextMark ms from mark → rank ≡ marked (take from ms) → get_or (merged left ms os) mark 0 ≡ get_or os rank 0
+code-at_mark left from mark rank ms os b m count =
+    get_or-merged_other left ms os mark b m.within (λ z. absurd (omega (arith, z, m.here))) ∙ ap (λ (k : ℕ). get_or os k 0) (m.first ∙ sym count)
+
 -- the places up to and with the next mark
 pub places-to_mark : (test : ℕ → Bool) (left from mark rank end : ℕ) (ms os : List ℕ) → AllBelow 2 ms → test left ≡ true → from ≤ mark → IsNextMark ms from mark → rank ≡ marked (take from ms)
     → end ≡ mark + from_bool (test (get_or os rank 0)) → places_from test 0 (take (mark + 1) (merged left ms os)) ≡ places_from test 0 (take from (merged left ms os)) ++ range_with_len from (end - from)
 places-to_mark test left from mark rank end ms os b present le m count is =
     let codes = merged left ms os in
     let before = places_from test 0 (take from codes) in
-    let code : get_or codes mark 0 ≡ get_or os rank 0 = get_or-merged_other left ms os mark b m.within (λ z. absurd (omega (arith, z, m.here))) ∙ ap (λ (k : ℕ). get_or os k 0) (m.first ∙ sym count) in
+    let code : get_or codes mark 0 ≡ get_or os rank 0 = code-at_mark left from mark rank ms os b m count in
     places_from-take test codes mark 0 (omega (arith, m.within, length-merged left ms os))
     ∙ ap (λ (l : List ℕ). l ++ places_from test mark (get_or codes mark 0 ∷ [])) (places-bare test left from mark ms os present le (omega (arith, m.within)) m.first)
     ∙ ap (λ (c : ℕ). (before ++ range_with_len from (mark - from)) ++ places_from test mark (c ∷ [])) code
@@ -299,3 +304,29 @@ places-to_mark test left from mark rank end ms os b present le m count is =
     last false mark from end c le is e =
         let same : mark - from ≡ end - from = omega (arith, le, is) in
         ap (λ (l : List ℕ). range_with_len from (mark - from) ++ l) (places_from-none test mark c e) ∙ append-nil (range_with_len from (mark - from)) ∙ ap (λ (k : ℕ). range_with_len from k) same
+
+replicate-more : (n x : ℕ) → replicate n x ++ x ∷ [] ≡ replicate (suc n) x
+replicate-more zero x = refl
+replicate-more (suc n) x = ap (λ (l : List ℕ). x ∷ l) (replicate-more n x)
+
+-- equal elements from a place on
+take-same : (codes : List ℕ) (from n x : ℕ) → from + n ≤ length codes → ((i : ℕ) → from ≤ i → i < from + n → get_or codes i 0 ≡ x) → take (from + n) codes ≡ take from codes ++ replicate n x
+take-same codes from zero x h same = let e : from + 0 ≡ from = omega arith in ap (λ (k : ℕ). take k codes) e ∙ sym (append-nil (take from codes))
+take-same codes from (suc n) x h same =
+    let e : from + suc n ≡ from + n + 1 = omega arith in
+    ap (λ (k : ℕ). take k codes) e ∙ take-next codes (from + n) (omega (arith, h)) ∙ ap (λ (c : ℕ). take (from + n) codes ++ c ∷ []) (same (from + n) (omega arith) (omega arith))
+    ∙ ap (λ (l : List ℕ). l ++ x ∷ []) (take-same codes from n x (omega (arith, h)) (λ i lo hi. same i lo (omega (arith, hi)))) ∙ append_assoc (take from codes) (replicate n x) (x ∷ [])
+    ∙ ap (λ (l : List ℕ). take from codes ++ l) (replicate-more n x)
+
+-- the codes of rows without marks are filled in
+pub filled : (left from to old : ℕ) (ms os before after : List ℕ) → after ≡ take to before ++ replicate (to - old) left → old ≡ length before → before ≡ take from (merged left ms os) → from ≤ to → to ≤ length ms
+    → marked (take to ms) ≡ marked (take from ms) → after ≡ take to (merged left ms os)
+filled left from to old ms os before after e size is le within none =
+    let codes = merged left ms os in
+    let long : length codes ≡ length ms = length-merged left ms os in
+    let short : length before ≡ from = ap (λ (l : List ℕ). length l) is ∙ length-take-le from codes (omega (arith, le, within, long)) in
+    let gap : to - old ≡ to - from = omega (arith, size, short) in
+    let sum : from + (to - from) ≡ to = omega (arith, le) in
+    e ∙ ap (λ (l : List ℕ). l ++ replicate (to - old) left) (take_all to before (omega (arith, short, le)) ∙ is) ∙ ap (λ (k : ℕ). take from codes ++ replicate k left) gap
+    ∙ sym (take-same codes from (to - from) left (omega (arith, sum, within, long)) (λ i lo hi. get_or-merged_left left ms os i (omega (arith, hi, sum, within)) (bare ms from to i none lo (omega (arith, hi, sum)) within)))
+    ∙ ap (λ (k : ℕ). take k codes) sum

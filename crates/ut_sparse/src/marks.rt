@@ -36,23 +36,28 @@ pub fn code_here(left_out: u32, marks: &BitList, others: &BitList, i: u32, rank:
     others.get(rank)
 }
 
-/// All codes in order.
+/// All codes in order, written from one mark to the next.
 pub fn merged_codes(
     alloc: Global,
     left_out: u32,
     marks: &BitList,
     others: &BitList,
 ) -> Result<Vec<u32>, AllocError>
+    requires few { length marks.now.codes ≤ 2 ^ 31 }
+    requires width { marks.now.width ≡ 1 }
     requires bits { AllBelow 2 marks.now.codes }
     requires paired { marked marks.now.codes ≡ length others.now.codes }
     ensures { IfOk result (λ v. v.items ≡ merged left_out marks.now.codes others.now.codes) }
 {
     let mut codes = Vec::with_capacity(alloc, marks.len() as usize)?;
-    let mut rank = 0;
-    for i in 0..marks.len() {
-        codes.push(code_here(left_out, marks, others, i, rank))?;
-        rank += marks.get(i);
+    let mut from = 0;
+    for rank in 0..others.len() {
+        let mark = next_mark(marks, from);
+        codes.resize(mark as usize, left_out)?;
+        codes.push(others.get(rank))?;
+        from = mark + 1;
     }
+    codes.resize(marks.len() as usize, left_out)?;
     Ok(codes)
 }
 

@@ -55,6 +55,14 @@ returns-in_default-2-clause-none c = λ codes rest rows below is.
     let none = rw c.in_default-2.is at c.in_ok-others.ensures.none in
     none (others_of (most_frequent codes) codes) rest (sym (marked-marks_of (most_frequent codes) codes) ∙ ap (λ l. marked l) (sym read.0) ∙ sym c.marked_rows-marked.ensures) (AllBelow-others_of (2 ^ c.args.width) (most_frequent codes) codes below) read.1
 
+pub merged_codes-requires-clause-few : goal.merged_codes-requires-clause-few
+merged_codes-requires-clause-few c =
+    let size = rw c.in-Some.is at c.in_ok-marks.ensures.rows in
+    omega (arith, size, c.requires.rows)
+
+pub merged_codes-requires-clause-width : goal.merged_codes-requires-clause-width
+merged_codes-requires-clause-width c = rw c.in-Some.is at c.in_ok-marks.ensures.width
+
 pub merged_codes-requires-clause-paired : goal.merged_codes-requires-clause-paired
 merged_codes-requires-clause-paired c =
     let size2 = rw c.in-Some-2.is at c.in_ok-others.ensures.rows in
