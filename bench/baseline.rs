@@ -464,16 +464,20 @@ struct CodeVec {
 
 fn choose(codes: &[u32], width: u8) -> (u8, Frequency) {
     let top = most_frequent(codes);
-    let rows = codes.len() as u64;
-    let packed = rows * u64::from(width);
-    let runs = 64 * u64::from(count_runs(codes));
-    let sparse = rows + (rows - u64::from(top.count)) * u64::from(width);
+    let rows = codes.len() as u32;
+    (least(rows, width, count_runs(codes), rows - top.count), top)
+}
+
+fn least(rows: u32, width: u8, runs: u32, exceptions: u32) -> u8 {
+    let packed = u64::from(rows) * u64::from(width);
+    let runs = 64 * u64::from(runs);
+    let sparse = u64::from(rows) + u64::from(exceptions) * u64::from(width);
     if packed <= runs && packed <= sparse {
-        (0, top)
+        0
     } else if runs <= sparse {
-        (1, top)
+        1
     } else {
-        (2, top)
+        2
     }
 }
 
@@ -567,7 +571,12 @@ impl CodeVec {
                     && runs < u64::from(rows) * u64::from(width);
                 return least.then_some((CodeVec { shape, width }, 1 + count));
             }
-            Shape::Sparse(vector) => (2, vector.codes()),
+            Shape::Sparse(vector) => {
+                let codes = vector.codes();
+                let least = codes.iter().all(|code| *code < reach)
+                    && least(rows, width, count_runs(&codes), vector.others.len) == 2;
+                return least.then_some((CodeVec { shape, width }, 1 + count));
+            }
         };
         if !codes.iter().all(|code| *code < reach) || choose(&codes, width).0 != form {
             return None;

@@ -1,10 +1,8 @@
 -- Laws on the form of least size and the bytes of forms.
-use Rattle.std.proofs.Common.{◌≡◌, ℕ, zero, suc, ◌+◌, ◌-◌, ◌*◌, ◌^◌, ◌<◌, ◌≤◌, nat_le, Bool, true, false, ◌&&◌, if◌then◌else◌, inl, inr, List, [], ◌∷◌, ◌++◌, length, take, drop, get_or, refl, sym, ◌∙◌, ap, subst, arith, append_assoc}
+use Rattle.std.proofs.Common.{◌≡◌, ℕ, zero, suc, ◌+◌, ◌-◌, ◌*◌, ◌^◌, ◌<◌, ◌≤◌, nat_le, true, false, inl, inr, List, [], ◌∷◌, ◌++◌, length, take, drop, get_or, refl, sym, ◌∙◌, ap, arith}
 use Rattle.std.proofs.lemmas.Bool.{cases_lt, lt-leb, le-leb}
 use Rattle.std.proofs.Math.Seq.{take-append_seam}
-use Rattle.std.proofs.lemmas.List.{length-take-le}
 use Rattle.ut_bits.specs.Bits.{AllBelow, packed_bytes, byte_count, joined}
-use Rattle.ut_bits.specs.Words.{word_in}
 use Rattle.ut_bits.proofs.BitLemmas.{length-bytes_of}
 use Rattle.ut_bits.proofs.ListLemmas.{packed_bytes-unique}
 use Rattle.ut_rle.specs.Runs.{runs_of, run_bytes, entries_in, expanded}

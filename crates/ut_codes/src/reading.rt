@@ -6,7 +6,7 @@ ghost use Rattle.ut_codes.specs.Shapes.{coded_in, form_in, IsForm};
 ghost use Rattle.ut_codes.specs.declared.form.Form.{Form};
 ghost use Rattle.ut_codes.specs.declared.form.Form.TheVariants.{Packed as packed_form, Runs as runs_form, Sparse as sparse_form};
 
-use crate::choice::{are_below, choose};
+use crate::choice::{are_below, choose, count_runs, least};
 use crate::code_vec::Shape;
 use crate::form::Form;
 use std::alloc::{AllocError, Global};
@@ -122,14 +122,21 @@ fn is_runs_least(alloc: Global, vector: &Runs, reach: u32) -> Result<bool, Alloc
     is_form(alloc, codes.as_slice(), reach, width, Form::Runs)
 }
 
-/// Whether sparse is the form of least size.
+/// Whether sparse is the form of least size. The vector knows how many codes differ from the most
+/// frequent one, so that they are not counted again.
 fn is_sparse_least(alloc: Global, vector: &Sparse, reach: u32) -> Result<bool, AllocError>
     requires width { vector.now.width ≡ code_width reach }
     requires count { length vector.now.codes ≤ 2 ^ 31 }
     ensures { IfOk result (λ b. IsTrue b ↔ IsForm vector.now.codes reach sparse_form) }
 {
     let codes = vector.codes(alloc)?;
-    is_form(alloc, codes.as_slice(), reach, vector.width(), Form::Sparse)
+    let codes = codes.as_slice();
+    if !are_below(codes, reach) {
+        return Ok(false);
+    }
+    let runs = count_runs(codes);
+    let form = least(vector.len(), vector.width(), runs, vector.exceptions());
+    Ok(is_same(form, Form::Sparse))
 }
 
 /// Whether the codes are below their reach and in their form of least size.

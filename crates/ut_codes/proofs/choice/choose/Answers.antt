@@ -1,4 +1,4 @@
-use Rattle.std.proofs.Common.{◌≡◌, ℕ, ◌+◌, ◌-◌, ◌*◌, length, ap, sym, ◌∙◌}
+use Rattle.std.proofs.Common.{ℕ, ◌+◌, ◌-◌, ◌*◌, length, ap, ◌∙◌}
 use Rattle.ut_rle.specs.Runs.{runs_of}
 use Rattle.ut_sparse.specs.Frequent.{count_of, most_frequent}
 use Rattle.ut_codes.specs.Forms.{form_of, least_form}

@@ -1,7 +1,6 @@
-use Rattle.std.proofs.Common.{true, false, ◌≡◌, ℕ, zero, suc, ◌+◌, ◌-◌, ◌<◌, ◌≤◌, eqb, if◌then◌else◌, List, [], ◌∷◌, length, drop, get_or, ap, sym, subst, ◌∙◌, arith, refl, inl, inr}
-use Rattle.std.proofs.lemmas.Bool.{ne_eqb}
+use Rattle.std.proofs.Common.{true, false, ◌≡◌, ℕ, ◌+◌, ◌-◌, ◌<◌, eqb, List, [], ◌∷◌, length, sym, ◌∙◌, arith}
 use Rattle.ut_rle.specs.Runs.{runs_of}
-use Rattle.ut_codes.proofs.SizeLemmas.{changes, changes-drop, changes-end, length-runs_of}
+use Rattle.ut_codes.proofs.SizeLemmas.{changes, changes-end, length-runs_of}
 use Rattle.ut_codes.proofs.choice.count_runs.Goals as goal
 
 some-runs : (codes : List ℕ) → 0 < length codes → 1 + changes codes ≡ length (runs_of codes)

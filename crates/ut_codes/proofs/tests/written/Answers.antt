@@ -1,4 +1,3 @@
-use Rattle.std.proofs.Common.{◌≡◌, true, sym, ◌∙◌}
 use Rattle.ut_codes.proofs.SizeLemmas.{below-test}
 use Rattle.ut_codes.proofs.tests.written.Goals as goal
 

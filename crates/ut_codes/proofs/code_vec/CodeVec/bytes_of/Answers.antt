@@ -1,6 +1,6 @@
-use Rattle.std.proofs.Common.{◌≡◌, ℕ, ◌++◌, List, [], ◌∷◌, ap, sym, ◌∙◌, append_assoc}
+use Rattle.std.proofs.Common.{ℕ, ◌++◌, ◌∷◌, ap, sym, ◌∙◌, append_assoc}
 use Rattle.ut_codes.specs.Sizes.{code_width}
-use Rattle.ut_codes.specs.Forms.{form_of, code_bytes, byte_of, bytes_in}
+use Rattle.ut_codes.specs.Forms.{code_bytes, byte_of, bytes_in}
 use Rattle.ut_codes.specs.Shapes.{coded_in, form_in}
 use Rattle.ut_codes.proofs.code_vec.CodeVec.bytes_of.Goals as goal
 

@@ -1,9 +1,9 @@
-use Rattle.std.proofs.Common.{◌≡◌, ℕ, ◌+◌, ◌-◌, ◌*◌, ◌^◌, ◌<◌, ◌≤◌, ◌++◌, eqb, true, false, [], ◌∷◌, List, length, take, drop, get_or, sym, ap, subst, ◌∙◌, arith}
+use Rattle.std.proofs.Common.{◌≡◌, ℕ, ◌-◌, ◌<◌, ◌++◌, eqb, true, false, [], ◌∷◌, List, length, take, drop, sym, ap, subst, ◌∙◌, arith}
 use borrow.Author.Tests.{eqb-true}
 use Rattle.ut_bits.specs.Bits.{AllBelow}
 use Rattle.ut_bits.proofs.BitLemmas.{take-rest}
 use Rattle.ut_codes.specs.Sizes.{code_width}
-use Rattle.ut_codes.specs.Forms.{form_of, byte_of, bytes_in}
+use Rattle.ut_codes.specs.Forms.{form_of, bytes_in}
 use Rattle.ut_codes.specs.Shapes.{coded_in, form_in}
 use Rattle.ut_codes.proofs.SizeLemmas.{AllBelow-width}
 use Rattle.ut_codes.proofs.FormLemmas.{bytes_in-one, byte_of-one, code_bytes-front, code_bytes-read, take-drop}
