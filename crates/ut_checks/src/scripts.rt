@@ -48,6 +48,22 @@ impl Dice {
         self.turn();
         (self.state % u64::from(sides)) as u8
     }
+
+    /// True once in so many times.
+    fn is_once_in(&mut self, sides: u8) -> bool
+        requires { 0 < sides }
+    {
+        self.digit(sides) == 0
+    }
+}
+
+/// A table of the scripts. Its column `k` has numbers.
+#[derive(Clone, Copy)]
+enum Table {
+    /// `v` has numbers.
+    T,
+    /// `v` has texts.
+    U,
 }
 
 /// Puts a line of the script of a seed at the end of `out`.
@@ -56,14 +72,13 @@ pub fn script_line(seed: u64, line: u32, out: &mut Vec<u8>) -> Result<(), AllocE
         return put(out, FIRST[line as usize]);
     }
     let mut dice = Dice::new(seed, line);
-    if dice.digit(8) == 0 {
+    if dice.is_once_in(8) {
         return put_store(&mut dice, out);
     }
     put_digit(out, 1 + dice.digit(4))?;
-    match dice.digit(8) {
+    match dice.digit(4) {
         0 => put_transaction(&mut dice, out),
         1 => put_question(&mut dice, out),
-        2 => put_question(&mut dice, out),
         _ => put_change(&mut dice, out),
     }
 }
@@ -77,50 +92,93 @@ fn put_digit(out: &mut Vec<u8>, digit: u8) -> Result<(), AllocError> {
     Ok(())
 }
 
-/// `T` or `U`
-fn put_table(dice: &mut Dice, out: &mut Vec<u8>) -> Result<(), AllocError> {
+fn any_table(dice: &mut Dice) -> Table {
     match dice.digit(2) {
-        0 => put(out, " T"),
-        _ => put(out, " U"),
+        0 => Table::T,
+        _ => Table::U,
     }
 }
 
-/// A key and a value, now and then of the wrong kind.
-fn put_row(dice: &mut Dice, is_text: bool, out: &mut Vec<u8>) -> Result<(), AllocError> {
-    put(out, " ")?;
-    put_digit(out, dice.digit(4))?;
-    let is_wrong = dice.digit(16) == 0;
-    match (is_text != is_wrong, dice.digit(2)) {
+/// The name of a table, now and then of one that isn't there.
+fn put_table(dice: &mut Dice, table: Table, out: &mut Vec<u8>) -> Result<(), AllocError> {
+    if dice.is_once_in(32) {
+        return put(out, " X");
+    }
+    match table {
+        Table::T => put(out, " T"),
+        Table::U => put(out, " U"),
+    }
+}
+
+/// A value of the second column, now and then of the wrong kind.
+fn put_value(dice: &mut Dice, table: Table, out: &mut Vec<u8>) -> Result<(), AllocError> {
+    let is_right = !dice.is_once_in(32);
+    let is_text = match table {
+        Table::T => !is_right,
+        Table::U => is_right,
+    };
+    match (is_text, dice.digit(2)) {
         (true, 0) => put(out, " 'a'"),
         (true, _) => put(out, " 'b'"),
-        (false, 0) => put(out, " 7"),
+        (false, 0) => put(out, " 2"),
         (false, _) => put(out, " -3"),
     }
 }
 
-fn put_condition(dice: &mut Dice, out: &mut Vec<u8>) -> Result<(), AllocError> {
-    match dice.digit(4) {
-        0 => return Ok(()),
-        1 => put(out, " where k < ")?,
-        2 => put(out, " where k <> ")?,
-        _ => put(out, " where k = ")?,
-    }
+fn put_key(dice: &mut Dice, out: &mut Vec<u8>) -> Result<(), AllocError> {
+    put(out, " ")?;
     put_digit(out, dice.digit(4))
 }
 
-fn put_store(dice: &mut Dice, out: &mut Vec<u8>) -> Result<(), AllocError> {
-    match dice.digit(2) {
-        0 => {
-            put(out, "0 shape")?;
-            put_table(dice, out)
-        }
-        _ => {
-            put(out, "0 merge l1")?;
-            put_table(dice, out)?;
-            put(out, " ")?;
-            put_digit(out, 1 + dice.digit(3))
-        }
+fn put_comparison(dice: &mut Dice, table: Table, out: &mut Vec<u8>) -> Result<(), AllocError> {
+    let is_of_key = !dice.is_once_in(4);
+    put(out, if is_of_key { " k" } else { " v" })?;
+    match dice.digit(8) {
+        0 => put(out, " <>")?,
+        1 => put(out, " <")?,
+        2 => put(out, " <=")?,
+        3 => put(out, " >")?,
+        4 => put(out, " >=")?,
+        _ => put(out, " =")?,
     }
+    if is_of_key {
+        put_key(dice, out)
+    } else {
+        put_value(dice, table, out)
+    }
+}
+
+/// A condition of one comparison or two, or once in so many times none.
+fn put_condition(
+    dice: &mut Dice,
+    table: Table,
+    none: u8,
+    out: &mut Vec<u8>,
+) -> Result<(), AllocError>
+    requires { 0 < none }
+{
+    if dice.is_once_in(none) {
+        return Ok(());
+    }
+    put(out, " where")?;
+    put_comparison(dice, table, out)?;
+    if dice.is_once_in(4) {
+        put(out, " and")?;
+        put_comparison(dice, table, out)?;
+    }
+    Ok(())
+}
+
+fn put_store(dice: &mut Dice, out: &mut Vec<u8>) -> Result<(), AllocError> {
+    let table = any_table(dice);
+    if dice.is_once_in(2) {
+        put(out, "0 shape")?;
+        return put_table(dice, table, out);
+    }
+    put(out, "0 merge l1")?;
+    put_table(dice, table, out)?;
+    put(out, " ")?;
+    put_digit(out, 1 + dice.digit(3))
 }
 
 fn put_transaction(dice: &mut Dice, out: &mut Vec<u8>) -> Result<(), AllocError> {
@@ -133,55 +191,104 @@ fn put_transaction(dice: &mut Dice, out: &mut Vec<u8>) -> Result<(), AllocError>
 }
 
 fn put_question(dice: &mut Dice, out: &mut Vec<u8>) -> Result<(), AllocError> {
-    match dice.digit(7) {
-        0 => put(out, " group T k sum v")?,
-        1 => put(out, " sum T v")?,
-        2 => put(out, " min U v")?,
-        3 => put(out, " max T v")?,
-        4 => return put(out, " join T k U k"),
-        5 => {
-            put(out, " count")?;
-            put_table(dice, out)?;
-        }
-        _ => {
-            put(out, " select")?;
-            put_table(dice, out)?;
-            put(out, " *")?;
-        }
+    match dice.digit(8) {
+        0 => put_join(dice, out),
+        1 => put_best(dice, out),
+        2 => put_sums(dice, out),
+        3 => put_sums(dice, out),
+        _ => put_rows_asked(dice, out),
     }
-    put_condition(dice, out)
+}
+
+fn put_join(dice: &mut Dice, out: &mut Vec<u8>) -> Result<(), AllocError> {
+    match dice.digit(4) {
+        0 => put(out, " join U v U v"),
+        1 => put(out, " join T v U k"),
+        _ => put(out, " join T k U k"),
+    }
+}
+
+fn put_best(dice: &mut Dice, out: &mut Vec<u8>) -> Result<(), AllocError> {
+    let table = any_table(dice);
+    put(out, if dice.is_once_in(2) { " min" } else { " max" })?;
+    put_table(dice, table, out)?;
+    put(out, if dice.is_once_in(2) { " k" } else { " v" })?;
+    put_condition(dice, table, 2, out)
+}
+
+/// A sum or sums by group, now and then of texts.
+fn put_sums(dice: &mut Dice, out: &mut Vec<u8>) -> Result<(), AllocError> {
+    match dice.digit(8) {
+        0 => put(out, " sum U v"),
+        1 => put_sum_of(dice, Table::U, " sum U k", out),
+        2 => put_sum_of(dice, Table::U, " group U v sum k", out),
+        3 => put_sum_of(dice, Table::T, " sum T k", out),
+        4 => put_sum_of(dice, Table::T, " sum T v", out),
+        _ => put_sum_of(dice, Table::T, " group T k sum v", out),
+    }
+}
+
+fn put_sum_of(
+    dice: &mut Dice,
+    table: Table,
+    text: &str,
+    out: &mut Vec<u8>,
+) -> Result<(), AllocError> {
+    put(out, text)?;
+    put_condition(dice, table, 2, out)
+}
+
+fn put_rows_asked(dice: &mut Dice, out: &mut Vec<u8>) -> Result<(), AllocError> {
+    let table = any_table(dice);
+    let columns = dice.digit(4);
+    put(out, if columns == 0 { " count" } else { " select" })?;
+    put_table(dice, table, out)?;
+    match columns {
+        0 => {}
+        1 => put(out, " v k")?,
+        _ => put(out, " *")?,
+    }
+    put_condition(dice, table, 2, out)
 }
 
 fn put_change(dice: &mut Dice, out: &mut Vec<u8>) -> Result<(), AllocError> {
+    let table = any_table(dice);
     match dice.digit(8) {
-        0 => put_rows(dice, 1, out),
-        1 => put_rows(dice, 1, out),
-        2 => put_rows(dice, 2, out),
-        3 => {
-            put(out, " delete")?;
-            put_table(dice, out)?;
-            put_condition(dice, out)
-        }
-        _ => put_update(dice, out),
+        0 => put_rows(dice, table, 1, out),
+        1 => put_rows(dice, table, 1, out),
+        2 => put_rows(dice, table, 2, out),
+        3 => put_delete(dice, table, out),
+        4 => put_delete(dice, table, out),
+        _ => put_update(dice, table, out),
     }
 }
 
 /// One row is inserted, more are loaded.
-fn put_rows(dice: &mut Dice, rows: u8, out: &mut Vec<u8>) -> Result<(), AllocError> {
-    let is_text = dice.digit(2) == 0;
+fn put_rows(dice: &mut Dice, table: Table, rows: u8, out: &mut Vec<u8>) -> Result<(), AllocError> {
     put(out, if rows == 1 { " insert" } else { " bulk" })?;
-    put(out, if is_text { " U" } else { " T" })?;
+    put_table(dice, table, out)?;
     for _ in 0..rows {
-        put_row(dice, is_text, out)?;
+        put_key(dice, out)?;
+        put_value(dice, table, out)?;
     }
     Ok(())
 }
 
-fn put_update(dice: &mut Dice, out: &mut Vec<u8>) -> Result<(), AllocError> {
-    match dice.digit(3) {
-        0 => put(out, " update T set v 9")?,
-        1 => put(out, " update U set v 'b'")?,
-        _ => put(out, " update T set k 1")?,
+fn put_delete(dice: &mut Dice, table: Table, out: &mut Vec<u8>) -> Result<(), AllocError> {
+    put(out, " delete")?;
+    put_table(dice, table, out)?;
+    put_condition(dice, table, 16, out)
+}
+
+fn put_update(dice: &mut Dice, table: Table, out: &mut Vec<u8>) -> Result<(), AllocError> {
+    put(out, " update")?;
+    put_table(dice, table, out)?;
+    if dice.is_once_in(2) {
+        put(out, " set k")?;
+        put_key(dice, out)?;
+    } else {
+        put(out, " set v")?;
+        put_value(dice, table, out)?;
     }
-    put_condition(dice, out)
+    put_condition(dice, table, 8, out)
 }

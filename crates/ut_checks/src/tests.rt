@@ -1,11 +1,11 @@
 //! Each table of rows on the slow store.
-use crate::answers::{first_apart, first_wrong};
-use crate::rows;
-use crate::scripts::{LINES, script_line};
+use crate::answers::first_wrong;
+use crate::rows::{self, Row};
+use crate::{answer_rows, refusal_rows, stage_rows};
+use std::alloc::{AllocError, Global};
+use std::process::Abort;
 use std::test::Fail;
 use ut_oracle::Oracle;
-use ut_plain::Parsed;
-use ut_script::parse_line;
 
 /// Ids enough for any table.
 const AMPLE: u32 = 1000;
@@ -271,21 +271,54 @@ fn an_open_transaction_is_forgotten(rt: HostRuntime) -> Result<(), Fail> {
     Ok(())
 }
 
-#[test]
-fn scripts_are_lines_of_the_grammar(rt: HostRuntime) -> Result<(), Fail> {
-    for number in 0..LINES {
-        let mut line = Vec::new(rt.alloc());
-        script_line(7, number, &mut line)?;
-        let parsed = parse_line(rt.alloc(), line.as_slice(), false)?;
-        assert!(rt; matches!(parsed, Parsed::Good(_, _)), "line {number}");
+fn check_tables(rt: &impl Abort, alloc: Global, tables: &[&[Row]]) -> Result<(), AllocError> {
+    for (place, table) in tables.iter().enumerate() {
+        let mut store = Oracle::new(alloc, AMPLE)?;
+        let wrong = first_wrong(alloc, &mut store, table)?;
+        assert_eq!(rt; wrong, None, "table {place}");
     }
     Ok(())
 }
 
 #[test]
-fn alike_stores_answer_alike(rt: HostRuntime) -> Result<(), Fail> {
-    let mut one = Oracle::new(rt.alloc(), AMPLE)?;
-    let mut other = Oracle::new(rt.alloc(), AMPLE)?;
-    assert_eq!(rt; first_apart(rt.alloc(), &mut one, &mut other, 7)?, None);
+fn refusals_come_in_their_order(rt: HostRuntime) -> Result<(), Fail> {
+    check_tables(&rt, rt.alloc(), refusal_rows::TABLES)?;
+    Ok(())
+}
+
+#[test]
+fn questions_are_answered_from_seen_rows(rt: HostRuntime) -> Result<(), Fail> {
+    check_tables(&rt, rt.alloc(), answer_rows::TABLES)?;
+    Ok(())
+}
+
+#[test]
+fn rows_stand_and_come_in_their_order(rt: HostRuntime) -> Result<(), Fail> {
+    check_tables(&rt, rt.alloc(), stage_rows::TABLES)?;
+    Ok(())
+}
+
+#[test]
+fn stores_are_opened_again(rt: HostRuntime) -> Result<(), Fail> {
+    for (made, opened) in stage_rows::OPENED_AGAIN {
+        let mut store = Oracle::new(rt.alloc(), AMPLE)?;
+        assert_eq!(rt; first_wrong(rt.alloc(), &mut store, made)?, None);
+        let mut again = store.reopened(rt.alloc(), AMPLE)?;
+        assert_eq!(rt; first_wrong(rt.alloc(), &mut again, opened)?, None);
+    }
+    Ok(())
+}
+
+#[test]
+fn a_refused_statement_takes_no_id(rt: HostRuntime) -> Result<(), Fail> {
+    let mut store = Oracle::new(rt.alloc(), 2)?;
+    assert_eq!(rt;
+        first_wrong(
+            rt.alloc(),
+            &mut store,
+            refusal_rows::A_REFUSED_STATEMENT_TAKES_NO_ID
+        )?,
+        None
+    );
     Ok(())
 }
