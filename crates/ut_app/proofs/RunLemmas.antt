@@ -12,12 +12,14 @@ use Rattle.ut_app.specs.declared.report.Report.{Report}
 use Rattle.ut_outside.specs.Acks.{Acks}
 use Rattle.ut_app.specs.declared.report.Status.{Status}
 use Rattle.ut_app.specs.declared.report.Status.TheVariants.{Done, Usage, NoStore, Exists, ReadFault, WriteFault, DiskFault, Damaged, Memory, TooLong}
+use Rattle.ut_app.specs.declared.turn.TurnEnd.{TurnEnd}
 use Rattle.ut_app.specs.declared.turn.TurnEnd.TheVariants as ends
 use Rattle.ut_app.specs.Saying.{IsRunning}
-use Rattle.ut_app.specs.Turning.{Turns}
+use Rattle.ut_app.specs.Turning.{Turns, TurnCauses, EndStatus}
 use Rattle.ut_app.specs.Keeping.{Begins, HoldsRun, NothingPending}
 use Rattle.ut_app.specs.Beginning.{Begun, NotBegun}
 use Rattle.ut_app.specs.Serving.{IsProgress}
+use Rattle.ut_app.specs.Input.{NoLine}
 use Rattle.ut_app.specs.Ends.{World, FitsStore, ReadsInput, IsReading, HasRisen, IsEarly, RanOn, Early, Late, Run}
 use Rattle.ut_app.specs.declared.words.Start.TheVariants.{Open}
 use Rattle.ut_app.specs.Top.{RunsWords}
@@ -26,7 +28,7 @@ use Rattle.ut_app.proofs.SayLemmas.{OnlyNow}
 use Rattle.ut_app.proofs.BeginLemmas.{seen_run}
 use Rattle.ut_app.proofs.TellLemmas.{one_line}
 use Rattle.ut_app.proofs.ServeLemmas.{CountsNow, QuietTurn, ToldTurn, ok_turn, progress-start, progress-more, progress-end, write_end, disk_end}
-use Rattle.ut_app.proofs.EndsLemmas.{reading-start, reading-more, next_of, IsCut, reading-cut, unread}
+use Rattle.ut_app.proofs.EndsLemmas.{reading-start, reading-more, reading-done, reading-long, next_of, IsCut, reading-cut, unread}
 
 -- ---- the store
 
@@ -189,6 +191,24 @@ pub between : (start : Start) (before mid : World) (source : Option (List ℕ)) 
 between start before mid source reads status count lines store acks journal g l input cause =
     late start before (record mid { source = source; reads = reads }) status count acks journal l (ran_by before.source start before (record mid { source = source; reads = reads }) status count store acks journal g.progress) g.begins input cause
 
+-- there is no further line
+pub no_line : (start : Start) (before mid : World) (source : Option (List ℕ)) (reads : ℕ) (status : Status) (count : ℕ) (lines next : Reading) (store : Logged) (acks : List Ack) (journal : ℕ) → Going start before mid count lines store acks journal
+    → NoLine status lines mid.source mid.reads next source reads → Run start before (record mid { source = source; reads = reads }) status count acks journal
+no_line start before mid source reads Done count lines next store acks journal g n =
+    between start before mid source reads Done count lines store acks journal g tt (reading-done 1048576 before.source count lines next mid.source source g.reading n) tt
+no_line start before mid source reads ReadFault count lines next store acks journal g n =
+    between start before mid source reads ReadFault count lines store acks journal g tt (reading-cut 1048576 before.source count lines.held mid.source source ReadFault g.reading tt) (let a = g.reads in omega (arith, a, n))
+no_line start before mid source reads TooLong count lines next store acks journal g n =
+    between start before mid source reads TooLong count lines store acks journal g tt (reading-long 1048576 before.source count lines next mid.source source g.limit g.number g.reading n) tt
+no_line start before mid source reads Memory count lines next store acks journal g n =
+    between start before mid source reads Memory count lines store acks journal g tt (reading-cut 1048576 before.source count lines.held mid.source source Memory g.reading tt) tt
+no_line start before mid source reads Usage count lines next store acks journal g n = absurd n
+no_line start before mid source reads NoStore count lines next store acks journal g n = absurd n
+no_line start before mid source reads Exists count lines next store acks journal g n = absurd n
+no_line start before mid source reads WriteFault count lines next store acks journal g n = absurd n
+no_line start before mid source reads DiskFault count lines next store acks journal g n = absurd n
+no_line start before mid source reads Damaged count lines next store acks journal g n = absurd n
+
 -- ---- ends at a line
 
 write_by : (source : Option (List ℕ)) (start : Start) (before after : World) (count : ℕ) (lines next : Reading) (left left2 : Option (List ℕ)) (old new : Logged) (was : View) (held : Option (List ℕ)) (marks : List ℕ) (acks acks_now : List Ack) (journal journal_now : ℕ)
@@ -228,6 +248,16 @@ at_disk start before mid after count lines next old new acks acks_now journal jo
     late start before after DiskFault (count + 1) acks_now journal_now tt
     (disk_by before.source start before after count lines next mid.source after.source old new mid.disk mid.sink mid.marks acks acks_now journal journal_now g.reading n told only counts rose g.faults g.progress t)
     g.begins (reading-cut 1048576 before.source (count + 1) next.held after.source after.source DiskFault (reading-more 1048576 before.source count lines next mid.source after.source g.reading n short few) tt) (let a = g.faults in omega (arith, a, rose))
+
+-- the run ends at a line
+pub at_end : (start : Start) (before mid after : World) (count : ℕ) (lines next : Reading) (old new : Logged) (acks acks_now : List Ack) (journal journal_now : ℕ) (end : TurnEnd) (status : Status) → EndStatus end status → Going start before mid count lines old acks journal
+    → count < 1048576 → NextLine lines mid.source (Ok true) next after.source → length next.line ≤ 65536 → OnlyNow after.disk → CountsNow after.disk → TurnCauses mid.disk after.disk mid.writes after.writes (Err end)
+    → Turns old mid.disk (parsed false next.line) (record { acks = acks; journal = journal }) (record { held = mid.sink; marks = mid.marks }) (Err end) new after.disk (record { acks = acks_now; journal = journal_now }) (record { held = after.sink; marks = after.marks })
+    → Run start before after status (count + 1) acks_now journal_now
+at_end start before mid after count lines next old new acks acks_now journal journal_now ends.Disk status is g few n short only counts causes t =
+    subst (λ (s : Status). Run start before after s (count + 1) acks_now journal_now) (sym is) (at_disk start before mid after count lines next old new acks acks_now journal journal_now g few n short causes.told only counts (causes.disk refl) t)
+at_end start before mid after count lines next old new acks acks_now journal journal_now ends.Write status is g few n short only counts causes t =
+    subst (λ (s : Status). Run start before after s (count + 1) acks_now journal_now) (sym is) (at_write start before mid after count lines next old new acks acks_now journal journal_now g few n short causes.told only counts (causes.write refl) t)
 
 -- room was made for an acknowledgement
 pub roomy : (start : Start) (before mid : World) (count : ℕ) (lines : Reading) (store : Logged) (acks acks_now : List Ack) (journal journal_now : ℕ) → Going start before mid count lines store acks journal → acks_now ≡ acks → journal_now ≡ journal → Going start before mid count lines store acks_now journal_now

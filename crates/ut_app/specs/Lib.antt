@@ -7,5 +7,6 @@ pub mod Turning
 pub mod Serving
 pub mod Ends
 pub mod Beginning
+pub mod Input
 pub mod Going
 pub mod Top

@@ -10,6 +10,8 @@ use Rattle.ut_plain.specs.Plain.{Plain}
 use Rattle.ut_plain.specs.Transcript.{Answer, AnswersLine, Faults}
 use Rattle.ut_logged.specs.Logged.{Logged}
 use Rattle.ut_logged.specs.Runs.{Runs}
+use Rattle.ut_app.specs.declared.report.Status.{Status}
+use Rattle.ut_app.specs.declared.report.Status.TheVariants.{WriteFault, DiskFault}
 use Rattle.ut_app.specs.declared.turn.TurnEnd.{TurnEnd}
 use Rattle.ut_app.specs.declared.turn.TurnEnd.TheVariants as ends
 use Rattle.ut_app.specs.Writing.{answer_text, Writes}
@@ -62,3 +64,8 @@ pub record TurnCauses (before after : View) (writes writes_now : ℕ) (result : 
   pub no_fewer_writes : writes ≤ writes_now
   pub disk : IsErrOf result ends.Disk → Rose before.faults after.faults
   pub write : IsErrOf result ends.Write → Rose writes writes_now
+
+-- the status of a run that ends at a line
+abbrev pub EndStatus : TurnEnd → Status → Type 0
+EndStatus ends.Disk status = status ≡ DiskFault
+EndStatus ends.Write status = status ≡ WriteFault

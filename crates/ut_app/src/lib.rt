@@ -2,6 +2,7 @@
 #![tactic(auto)]
 
 mod begin;
+mod input;
 mod program;
 mod report;
 mod say;

@@ -10,11 +10,14 @@ use crate::report::{Report, Status, ended};
 use crate::serve::serve;
 use crate::words::start_of;
 use std::alloc::Global;
+use std::thread::Threads;
 use ut_outside::{Disk, Hook, Sink, Source};
 
 /// Does what the words say: with `run` it opens the store of the disk, with `run --new` it makes one. Then each line of the
-/// source is read, answered and its reply written before the next line is read. The hook is reached by no run of this kind.
-pub fn top<S: Source, K: Sink<D>, D: Disk, H: Hook>(
+/// source is read, answered and its reply written before the next line is read. No run of this kind starts a thread, or reaches
+/// the hook.
+pub fn top<S: Source, K: Sink<D>, D: Disk + Send, H: Hook + Sync>(
+    _rt: &(impl Threads + Sync),
     alloc: Global,
     words: &[&str],
     source: &mut S,
@@ -44,7 +47,7 @@ pub fn top<S: Source, K: Sink<D>, D: Disk, H: Hook>(
         result.status }
 {
     match start_of(words) {
-        Some(start) => serve(alloc, start, source, sink, disk),
         None => ended(alloc, Status::Usage),
+        Some(start) => serve(alloc, start, source, sink, disk),
     }
 }

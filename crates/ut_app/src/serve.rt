@@ -3,15 +3,12 @@ ghost use Rattle.std.specs.Prelude.{◌≡◌, ◌≤◌};
 ghost use Rattle.ut_app.specs.Ends.{Run};
 
 use crate::begin::begin;
+use crate::input::{next_line, script_lines};
 use crate::report::{Report, Status, ended};
-use crate::turn::{Replies, TurnEnd, turn};
+use crate::turn::{Replies, status_at, turn};
 use crate::words::Start;
 use std::alloc::Global;
 use ut_outside::{Disk, Sink, Source};
-use ut_script::{LineError, Lines};
-
-/// At most so many lines are read.
-const MAX_LINES: u32 = 1 << 20;
 
 /// Makes the store or opens it, and answers the lines of the source one after the other.
 pub(crate) fn serve<S: Source, K: Sink<D>, D: Disk>(
@@ -26,7 +23,7 @@ pub(crate) fn serve<S: Source, K: Sink<D>, D: Disk>(
         (record { source = S.left source.new; reads = S.faults source.new; sink = K.held sink.new; marks = K.moments sink.new; writes = K.faults sink.new; disk = D.view disk.new })
         result.status result.lines result.acks.items result.journal }
 {
-    let mut lines = match Lines::new(alloc, MAX_LINES) {
+    let mut lines = match script_lines(alloc) {
         Ok(lines) => lines,
         Err(_) => return ended(alloc, Status::Memory),
     };
@@ -41,27 +38,14 @@ pub(crate) fn serve<S: Source, K: Sink<D>, D: Disk>(
     replies.opened(store.journal_len());
     let mut count = 0u64;
     loop {
-        match replies.make_room() {
+        match next_line(&mut replies, &mut lines, source) {
             Ok(()) => {}
-            Err(_) => return replies.report(Status::Memory, count),
+            Err(status) => return replies.report(status, count),
         }
-        match lines.advance(source) {
-            Ok(more) => {
-                if !more {
-                    return replies.report(Status::Done, count);
-                }
-            }
-            Err(error) => match error {
-                LineError::Read => return replies.report(Status::ReadFault, count),
-                LineError::TooLong => return replies.report(Status::TooLong, count),
-            },
-        }
-        match turn(alloc, &mut store, disk, lines.line(), &mut replies, sink) {
+        let line = lines.line();
+        match turn(alloc, &mut store, disk, line, &mut replies, sink) {
             Ok(()) => {}
-            Err(end) => match end {
-                TurnEnd::Disk => return replies.report(Status::DiskFault, count + 1),
-                TurnEnd::Write => return replies.report(Status::WriteFault, count + 1),
-            },
+            Err(end) => return replies.report(status_at(end), count + 1),
         }
         count += 1;
     }

@@ -5,7 +5,7 @@ ghost use Rattle.ut_plain.specs.Plain.{Plain};
 ghost use Rattle.ut_logged.specs.Runs.{Runs};
 ghost use Rattle.ut_script.specs.Grammar.{parsed};
 ghost use Rattle.ut_app.specs.Writing.{Writes};
-ghost use Rattle.ut_app.specs.Turning.{Turns, TurnCauses};
+ghost use Rattle.ut_app.specs.Turning.{Turns, TurnCauses, EndStatus};
 
 use crate::report::{Report, Status};
 use crate::say::{Said, say};
@@ -126,5 +126,15 @@ pub(crate) fn turn<K: Sink<D>, D: Disk>(
             Ok(()) => Err(TurnEnd::Disk),
             Err(_) => Err(TurnEnd::Write),
         },
+    }
+}
+
+/// What the program says of a run that ends at a line.
+pub(crate) fn status_at(end: TurnEnd) -> Status
+    ensures { EndStatus end result }
+{
+    match end {
+        TurnEnd::Disk => Status::DiskFault,
+        TurnEnd::Write => Status::WriteFault,
     }
 }

@@ -3,6 +3,7 @@ use crate::run::{Left, RUN_NEW, SCRIPT, TEARS, has_kept, left_on, run_on};
 use std::alloc::{AllocError, Global};
 use std::process::Abort;
 use std::test::Fail;
+use std::thread::Threads;
 use ut_outside::{Ack, Disk, MemDisk, Tear};
 
 /// How many commits were told where so many calls of the disk had returned.
@@ -17,7 +18,7 @@ fn told_by(acks: &[Ack], moment: u64) -> u64 {
 }
 
 fn left_by_crash(
-    rt: &impl Abort,
+    rt: &(impl Abort + Threads + Sync),
     alloc: Global,
     disk: &MemDisk,
     moment: u64,
@@ -25,11 +26,11 @@ fn left_by_crash(
 ) -> Result<Left, AllocError> {
     assert!(rt; moment <= disk.calls());
     let mut image = disk.image(moment, tear)?;
-    left_on(alloc, &mut image)
+    left_on(rt, alloc, &mut image)
 }
 
 fn check_tears(
-    rt: &impl Abort,
+    rt: &(impl Abort + Threads + Sync),
     alloc: Global,
     disk: &MemDisk,
     moment: u64,
@@ -49,7 +50,7 @@ fn check_tears(
 fn a_crash_leaves_each_commit_that_was_told(rt: HostRuntime) -> Result<(), Fail> {
     let alloc = rt.alloc();
     let mut disk = MemDisk::of(alloc, &[], &[])?;
-    let ran = run_on(alloc, RUN_NEW, SCRIPT, &mut disk)?;
+    let ran = run_on(&rt, alloc, RUN_NEW, SCRIPT, &mut disk)?;
     assert_eq!(rt; ran.acks.len(), 3);
     for moment in 0..=disk.calls() {
         let told = told_by(ran.acks.as_slice(), moment);
@@ -62,7 +63,7 @@ fn a_crash_leaves_each_commit_that_was_told(rt: HostRuntime) -> Result<(), Fail>
 fn a_torn_gate_is_open_or_closed(rt: HostRuntime) -> Result<(), Fail> {
     let alloc = rt.alloc();
     let mut disk = MemDisk::of(alloc, &[], &[])?;
-    let ran = run_on(alloc, RUN_NEW, SCRIPT, &mut disk)?;
+    let ran = run_on(&rt, alloc, RUN_NEW, SCRIPT, &mut disk)?;
     let [_, insert, _] = ran.acks.as_slice() else {
         panic!(rt; "no three acknowledgements")
     };

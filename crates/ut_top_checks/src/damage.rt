@@ -3,6 +3,7 @@ use crate::run::{Left, RUN, RUN_NEW, SCRIPT, left_on, run_on};
 use std::alloc::{AllocError, Global};
 use std::process::Abort;
 use std::test::Fail;
+use std::thread::Threads;
 use ut_app::Status;
 use ut_outside::{MemDisk, Which};
 
@@ -10,17 +11,22 @@ use ut_outside::{MemDisk, Which};
 const OPEN_GATE: u8 = 0xA7;
 
 /// The script's store, whose log has 46 bytes.
-fn script_disk(rt: &impl Abort, alloc: Global) -> Result<MemDisk, AllocError> {
+fn script_disk(rt: &(impl Abort + Threads + Sync), alloc: Global) -> Result<MemDisk, AllocError> {
     let mut disk = MemDisk::of(alloc, &[], &[])?;
-    let ran = run_on(alloc, RUN_NEW, SCRIPT, &mut disk)?;
+    let ran = run_on(rt, alloc, RUN_NEW, SCRIPT, &mut disk)?;
     assert_eq!(rt; ran.status, Status::Done);
     assert_eq!(rt; disk.bytes(Which::Redo).len(), 46);
     Ok(disk)
 }
 
-fn opened(alloc: Global, redo: &[u8], pages: &[u8]) -> Result<Status, AllocError> {
+fn opened(
+    rt: &(impl Threads + Sync),
+    alloc: Global,
+    redo: &[u8],
+    pages: &[u8],
+) -> Result<Status, AllocError> {
     let mut disk = MemDisk::of(alloc, redo, pages)?;
-    Ok(run_on(alloc, RUN, b"1 select T *\n", &mut disk)?.status)
+    Ok(run_on(rt, alloc, RUN, b"1 select T *\n", &mut disk)?.status)
 }
 
 #[test]
@@ -29,7 +35,7 @@ fn a_log_that_is_cut_is_damaged(rt: HostRuntime) -> Result<(), Fail> {
     let disk = script_disk(&rt, alloc)?;
     let redo = disk.bytes(Which::Redo);
     for len in 0..redo.len() {
-        let status = opened(alloc, &redo[..len], disk.bytes(Which::Pages))?;
+        let status = opened(&rt, alloc, &redo[..len], disk.bytes(Which::Pages))?;
         assert_eq!(rt; status, Status::Damaged, "at {len}");
     }
     Ok(())
@@ -37,7 +43,7 @@ fn a_log_that_is_cut_is_damaged(rt: HostRuntime) -> Result<(), Fail> {
 
 /// Puts each of a few bytes at a place of the log.
 fn check_changed(
-    rt: &impl Abort,
+    rt: &(impl Abort + Threads + Sync),
     alloc: Global,
     disk: &MemDisk,
     place: usize,
@@ -46,7 +52,7 @@ fn check_changed(
         let mut redo = Vec::from_slice(alloc, disk.bytes(Which::Redo))?;
         assert!(rt; place < redo.len());
         redo[place] = byte;
-        let status = opened(alloc, &redo, disk.bytes(Which::Pages))?;
+        let status = opened(rt, alloc, &redo, disk.bytes(Which::Pages))?;
         assert!(rt;
             matches!(status, Status::Done | Status::Damaged),
             "{status:?} with {byte} at {place}"
@@ -74,10 +80,10 @@ fn a_closed_gate_ends_the_log(rt: HostRuntime) -> Result<(), Fail> {
         assert!(rt; place < redo.len());
         redo[place] = 0x33;
         let mut closed = MemDisk::of(alloc, &redo, disk.bytes(Which::Pages))?;
-        assert_eq!(rt; left_on(alloc, &mut closed)?, Left::Commits(commits));
+        assert_eq!(rt; left_on(&rt, alloc, &mut closed)?, Left::Commits(commits));
         redo[place] = OPEN_GATE;
         redo.truncate(place + 1);
-        let status = opened(alloc, &redo, disk.bytes(Which::Pages))?;
+        let status = opened(&rt, alloc, &redo, disk.bytes(Which::Pages))?;
         assert_eq!(rt; status, Status::Damaged, "no frame behind {place}");
     }
     Ok(())

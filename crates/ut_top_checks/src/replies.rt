@@ -13,7 +13,7 @@ const REDO: &[u8] = b"\xa7\x0a\0\0\0\x01\x01T\x02\x00\x01k\x01\x01v\
 fn an_empty_script_makes_a_store(rt: HostRuntime) -> Result<(), Fail> {
     let alloc = rt.alloc();
     let mut disk = MemDisk::of(alloc, &[], &[])?;
-    let ran = run_on(alloc, RUN_NEW, b"", &mut disk)?;
+    let ran = run_on(&rt, alloc, RUN_NEW, b"", &mut disk)?;
     assert_eq!(rt; ran.status, Status::Done);
     assert_eq!(rt; ran.replies.len(), 0);
     assert_eq!(rt; disk.bytes(Which::Redo), b"\0".as_slice());
@@ -25,7 +25,7 @@ fn an_empty_script_makes_a_store(rt: HostRuntime) -> Result<(), Fail> {
 fn a_row_is_written_and_there_again(rt: HostRuntime) -> Result<(), Fail> {
     let alloc = rt.alloc();
     let mut disk = MemDisk::of(alloc, &[], &[])?;
-    let made = run_on(alloc, RUN_NEW, SCRIPT, &mut disk)?;
+    let made = run_on(&rt, alloc, RUN_NEW, SCRIPT, &mut disk)?;
     assert_eq!(rt; made.status, Status::Done);
     assert_eq!(rt; made.replies.as_slice(), REPLIES);
     assert_eq!(rt; disk.bytes(Which::Redo), REDO);
@@ -34,7 +34,7 @@ fn a_row_is_written_and_there_again(rt: HostRuntime) -> Result<(), Fail> {
         assert_eq!(rt; ack.journal, *journal);
     }
 
-    let opened = run_on(alloc, RUN, b"1 select T *\n0 shape T\n", &mut disk)?;
+    let opened = run_on(&rt, alloc, RUN, b"1 select T *\n0 shape T\n", &mut disk)?;
     assert_eq!(rt; opened.status, Status::Done);
     let wanted = b"1 rows 1\n5 'a'\n0 shape l1 1 l2 0 closed none parts none\n";
     assert_eq!(rt; opened.replies.as_slice(), wanted.as_slice());
@@ -45,14 +45,14 @@ fn a_row_is_written_and_there_again(rt: HostRuntime) -> Result<(), Fail> {
 fn a_store_is_made_once_and_opened_where_it_is(rt: HostRuntime) -> Result<(), Fail> {
     let alloc = rt.alloc();
     let mut disk = MemDisk::of(alloc, &[], &[])?;
-    let opened = run_on(alloc, RUN, SCRIPT, &mut disk)?;
+    let opened = run_on(&rt, alloc, RUN, SCRIPT, &mut disk)?;
     assert_eq!(rt; opened.status, Status::NoStore);
     assert_eq!(rt; opened.replies.len(), 0);
     assert_eq!(rt;
-        run_on(alloc, RUN_NEW, SCRIPT, &mut disk)?.status,
+        run_on(&rt, alloc, RUN_NEW, SCRIPT, &mut disk)?.status,
         Status::Done
     );
-    let made = run_on(alloc, RUN_NEW, SCRIPT, &mut disk)?;
+    let made = run_on(&rt, alloc, RUN_NEW, SCRIPT, &mut disk)?;
     assert_eq!(rt; made.status, Status::Exists);
     assert_eq!(rt; made.replies.len(), 0);
     Ok(())
@@ -73,7 +73,7 @@ fn other_words_are_usage(rt: HostRuntime) -> Result<(), Fail> {
     ];
     for words in all {
         assert_eq!(rt;
-            run_on(alloc, words, SCRIPT, &mut disk)?.status,
+            run_on(&rt, alloc, words, SCRIPT, &mut disk)?.status,
             Status::Usage
         );
     }

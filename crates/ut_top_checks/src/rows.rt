@@ -3,6 +3,7 @@ use crate::run::{RUN, RUN_NEW, run_on};
 use std::alloc::{AllocError, Global};
 use std::process::Abort;
 use std::test::Fail;
+use std::thread::Threads;
 use ut_app::Status;
 use ut_checks::rows::{self, Row};
 use ut_checks::{Answers, LINES, script_line};
@@ -26,14 +27,14 @@ fn joined(alloc: Global, table: &[Row]) -> Result<(Vec<u8>, Vec<u8>), AllocError
 }
 
 fn check_rows(
-    rt: &impl Abort,
+    rt: &(impl Abort + Threads + Sync),
     alloc: Global,
     words: &[&str],
     table: &[Row],
     disk: &mut MemDisk,
 ) -> Result<(), AllocError> {
     let (script, replies) = joined(alloc, table)?;
-    let ran = run_on(alloc, words, &script, disk)?;
+    let ran = run_on(rt, alloc, words, &script, disk)?;
     assert_eq!(rt; ran.status, Status::Done);
     let told = ran.replies.as_slice();
     assert_eq!(rt; told, replies.as_slice());
@@ -104,7 +105,7 @@ fn scripted(
 }
 
 fn check_script(
-    rt: &impl Abort,
+    rt: &(impl Abort + Threads + Sync),
     alloc: Global,
     words: &[&str],
     seed: u64,
@@ -112,7 +113,7 @@ fn check_script(
     disk: &mut MemDisk,
 ) -> Result<(), AllocError> {
     let (script, replies) = scripted(alloc, store, seed)?;
-    let ran = run_on(alloc, words, &script, disk)?;
+    let ran = run_on(rt, alloc, words, &script, disk)?;
     assert_eq!(rt; ran.status, Status::Done, "seed {seed}");
     let told = ran.replies.as_slice();
     assert_eq!(rt; told, replies.as_slice(), "seed {seed}");

@@ -1,5 +1,6 @@
 //! Runs of the program over objects in memory, and what they leave.
 use std::alloc::{AllocError, Global};
+use std::thread::Threads;
 use ut_app::{Status, top};
 use ut_outside::{AckList, MemDisk, MemSink, MemSource, NoHook, Tear};
 
@@ -53,23 +54,25 @@ pub enum Left {
 }
 
 pub fn run_on(
+    rt: &(impl Threads + Sync),
     alloc: Global,
     words: &[&str],
     script: &[u8],
     disk: &mut MemDisk,
 ) -> Result<Ran, AllocError> {
     let source = MemSource::new(alloc, script, PIECE, None)?;
-    run_between(alloc, words, source, MemSink::new(alloc, None), disk)
+    run_between(rt, alloc, words, source, MemSink::new(alloc, None), disk)
 }
 
 pub fn run_between(
+    rt: &(impl Threads + Sync),
     alloc: Global,
     words: &[&str],
     mut source: MemSource,
     mut sink: MemSink,
     disk: &mut MemDisk,
 ) -> Result<Ran, AllocError> {
-    let report = top(alloc, words, &mut source, &mut sink, disk, &NoHook);
+    let report = top(rt, alloc, words, &mut source, &mut sink, disk, &NoHook);
     Ok(Ran {
         status: report.status,
         replies: Vec::from_slice(alloc, sink.bytes())?,
@@ -78,8 +81,12 @@ pub fn run_between(
 }
 
 /// Opens the store, and sees what there is of it.
-pub fn left_on(alloc: Global, disk: &mut MemDisk) -> Result<Left, AllocError> {
-    let ran = run_on(alloc, RUN, QUESTION, disk)?;
+pub fn left_on(
+    rt: &(impl Threads + Sync),
+    alloc: Global,
+    disk: &mut MemDisk,
+) -> Result<Left, AllocError> {
+    let ran = run_on(rt, alloc, RUN, QUESTION, disk)?;
     let left = match ran.status {
         Status::NoStore => Left::NoStore,
         Status::Done => commits_told(&ran.replies),

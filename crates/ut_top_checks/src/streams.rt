@@ -4,18 +4,31 @@ ghost use Rattle.std.specs.Prelude.{◌<◌};
 use crate::run::{REPLIES, RUN_NEW, Ran, SCRIPT, run_between, run_on};
 use std::alloc::{AllocError, Global};
 use std::test::Fail;
+use std::thread::Threads;
 use ut_app::Status;
 use ut_outside::{MemDisk, MemSink, MemSource};
 
 /// The longest line that is read.
 const LINE_LIMIT: usize = 65536;
 
-fn run_in_pieces(alloc: Global, script: &[u8], piece: usize) -> Result<Ran, AllocError>
+fn run_in_pieces(
+    rt: &(impl Threads + Sync),
+    alloc: Global,
+    script: &[u8],
+    piece: usize,
+) -> Result<Ran, AllocError>
     requires { 0 < piece }
 {
     let mut disk = MemDisk::of(alloc, &[], &[])?;
     let source = MemSource::new(alloc, script, piece, None)?;
-    run_between(alloc, RUN_NEW, source, MemSink::new(alloc, None), &mut disk)
+    run_between(
+        rt,
+        alloc,
+        RUN_NEW,
+        source,
+        MemSink::new(alloc, None),
+        &mut disk,
+    )
 }
 
 #[test]
@@ -24,7 +37,7 @@ fn pieces_make_no_difference(rt: HostRuntime) -> Result<(), Fail> {
     let unended = SCRIPT.strip_suffix(b"\n").expect(&rt, "a line end");
     for script in [SCRIPT, unended] {
         for piece in [1, 7, 4096] {
-            let ran = run_in_pieces(alloc, script, piece)?;
+            let ran = run_in_pieces(&rt, alloc, script, piece)?;
             assert_eq!(rt; ran.status, Status::Done);
             assert_eq!(rt; ran.replies.as_slice(), REPLIES);
         }
@@ -42,7 +55,7 @@ fn a_line_that_is_too_long_ends_the_run(rt: HostRuntime) -> Result<(), Fail> {
         let mut script = Vec::from_slice(alloc, SCRIPT)?;
         script.resize(SCRIPT.len() + len, b'#')?;
         let mut disk = MemDisk::of(alloc, &[], &[])?;
-        let ran = run_on(alloc, RUN_NEW, &script, &mut disk)?;
+        let ran = run_on(&rt, alloc, RUN_NEW, &script, &mut disk)?;
         assert_eq!(rt; ran.status, status, "at {len}");
         assert_eq!(rt; ran.replies.as_slice(), REPLIES);
     }
@@ -55,7 +68,14 @@ fn a_source_that_fails_ends_the_run(rt: HostRuntime) -> Result<(), Fail> {
     for call in 0..=SCRIPT.len() as u64 {
         let mut disk = MemDisk::of(alloc, &[], &[])?;
         let source = MemSource::new(alloc, SCRIPT, 1, Some(call))?;
-        let ran = run_between(alloc, RUN_NEW, source, MemSink::new(alloc, None), &mut disk)?;
+        let ran = run_between(
+            &rt,
+            alloc,
+            RUN_NEW,
+            source,
+            MemSink::new(alloc, None),
+            &mut disk,
+        )?;
         assert_eq!(rt; ran.status, Status::ReadFault, "at {call}");
         assert!(rt; REPLIES.starts_with(&ran.replies), "at {call}");
     }
@@ -69,7 +89,7 @@ fn a_sink_that_fails_ends_the_run(rt: HostRuntime) -> Result<(), Fail> {
         let mut disk = MemDisk::of(alloc, &[], &[])?;
         let source = MemSource::new(alloc, SCRIPT, 4096, None)?;
         let sink = MemSink::new(alloc, Some(call));
-        let ran = run_between(alloc, RUN_NEW, source, sink, &mut disk)?;
+        let ran = run_between(&rt, alloc, RUN_NEW, source, sink, &mut disk)?;
         assert_eq!(rt; ran.status, Status::WriteFault, "at {call}");
         assert_eq!(rt; ran.replies.len(), told, "at {call}");
     }

@@ -2,13 +2,13 @@ use Rattle.std.proofs.Common.{◌-◌}
 use Rattle.ut_app.specs.Going.{Going}
 use Rattle.ut_app.proofs.serve.serve.Given as goal
 
-abbrev pub invariant-loop-replies : goal.invariant-loop-replies
-invariant-loop-replies g l = record {
+abbrev pub invariant-loop-status : goal.invariant-loop-status
+invariant-loop-status g l = record {
   going : Going l.fn.start
       (record { source = g.S.Source.left l.fn.source; reads = g.S.Source.faults l.fn.source; sink = g.K.Sink.held l.fn.sink; marks = g.K.Sink.moments l.fn.sink; writes = g.K.Sink.faults l.fn.sink; disk = g.D.Disk.view l.fn.disk })
       (record { source = g.S.Source.left l.source; reads = g.S.Source.faults l.source; sink = g.K.Sink.held l.sink; marks = g.K.Sink.moments l.sink; writes = g.K.Sink.faults l.sink; disk = g.D.Disk.view l.disk })
       l.count l.lines l.store l.replies.acks.items l.replies.journal;
 }
 
-abbrev pub decreases-loop-replies : goal.decreases-loop-replies
-decreases-loop-replies g l = 1048576 - l.count
+abbrev pub decreases-loop-status : goal.decreases-loop-status
+decreases-loop-status g l = 1048576 - l.count

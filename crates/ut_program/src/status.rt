@@ -1,0 +1,33 @@
+//! What the program says of how a run ended.
+use ut_app::Status;
+
+/// What is written on the standard error.
+pub(crate) fn text_of(status: Status) -> Option<&'static str> {
+    match status {
+        Status::Done => None,
+        Status::Usage => Some("usage"),
+        Status::NoStore => Some("no store"),
+        Status::Exists => Some("store exists"),
+        Status::ReadFault => Some("read fault"),
+        Status::WriteFault => Some("write fault"),
+        Status::DiskFault => Some("disk fault"),
+        Status::Damaged => Some("damaged store"),
+        Status::Memory => Some("no memory"),
+        Status::TooLong => Some("input too long"),
+    }
+}
+
+/// What the program exits with.
+pub(crate) fn exit_of(status: Status) -> u8 {
+    match status {
+        Status::Done => 0,
+        Status::Usage => 2,
+        Status::NoStore | Status::Exists => 3,
+        Status::ReadFault => 4,
+        Status::WriteFault => 5,
+        Status::DiskFault => 6,
+        Status::Damaged => 7,
+        Status::Memory => 8,
+        Status::TooLong => 9,
+    }
+}
