@@ -1,6 +1,8 @@
 pub mod WordsLemmas
 pub mod Powers
 pub mod LiteralLemmas
+pub mod UnquotedLemmas
+pub mod ListedLemmas
 pub mod SpelledLemmas
 pub mod ConditionLemmas
 pub mod StatementLemmas

@@ -1,5 +1,6 @@
 pub mod Words
 pub mod Literals
+pub mod Unquoted
 pub mod Conditions
 pub mod Statements
 pub mod Grammar

@@ -5,6 +5,7 @@ mod conditions;
 mod laws;
 mod line;
 mod lines;
+mod listed;
 mod literals;
 mod numbers;
 mod queries;

@@ -2,8 +2,9 @@
 ghost use Rattle.std.specs.Prelude.{◌≡◌, ◌≤◌, ◌<◌, ◌+◌, ◌*◌, ◌-◌, length, IfOk, IfSome, Some, None, pos, negsuc, false, true, option_and_then, is_some};
 ghost use Rattle.std.specs.Option.{option_map};
 ghost use Rattle.std.specs.List.{list_all};
-ghost use Rattle.ut_value.specs.Text.{is_digit, is_text_byte};
+ghost use Rattle.ut_value.specs.Text.{is_digit, is_text, is_text_byte};
 ghost use Rattle.ut_script.specs.Literals.{number_from, number_of, within, int_of, unquoted, text_of};
+ghost use Rattle.ut_script.specs.Unquoted.{is_plain};
 
 use std::alloc::{AllocError, Global};
 use ut_value::{Text, is_digit};
@@ -157,6 +158,51 @@ pub fn read_text(alloc: Global, bytes: &[u8]) -> Result<Text, AllocError>
 {
     let text = unquoted(alloc, bytes)?;
     Ok(Text::of(text))
+}
+
+/// The text of a literal whose first quote was read, where these bytes are one.
+#[tactic(auto, using(crate::proofs::StatementLemmas::statements))]
+pub fn text_of(alloc: Global, bytes: &[u8]) -> Result<Option<Text>, AllocError>
+    ensures { IfOk result (λ o. o ≡ text_of bytes.now) }
+{
+    if let Some(text) = plain_text(bytes) {
+        return Ok(Some(Text::of(Vec::from_slice(alloc, text)?)));
+    }
+    if !is_text_literal(bytes) {
+        return Ok(None);
+    }
+    Ok(Some(read_text(alloc, bytes)?))
+}
+
+/// The text of a literal that ends at its first quote.
+#[tactic(auto, using(crate::proofs::UnquotedLemmas::plain))]
+fn plain_text(bytes: &[u8]) -> Option<&[u8]>
+    ensures text { IfSome result (λ text. text_of bytes.now ≡ Some text.now) }
+    ensures rule { IfSome result (λ text. is_text text.now ≡ true) }
+{
+    match bytes.split_last() {
+        None => None,
+        Some((last, text)) => {
+            if *last == QUOTE && text.len() <= MAX_TEXT && are_plain(text) {
+                Some(text)
+            } else {
+                None
+            }
+        }
+    }
+}
+
+fn are_plain(bytes: &[u8]) -> bool
+    ensures { result ≡ list_all is_plain bytes.now }
+{
+    bytes.iter().all(|b| is_plain(*b))
+}
+
+/// Whether a byte stands for itself in a literal.
+fn is_plain(b: u8) -> bool
+    ensures { result ≡ is_plain b }
+{
+    is_text_byte(b) && b != QUOTE
 }
 
 /// The bytes of a literal, each doubled quote once.

@@ -6,6 +6,7 @@ ghost use Rattle.ut_script.specs.Words.{words_of};
 ghost use Rattle.ut_script.specs.Statements.{Reads, create_of, rows_of, chosen_of, update_of};
 
 use crate::conditions::{are_conditions, read_conditions};
+use crate::listed::values_of;
 use crate::spelled::{Spelled, count_all, read_all};
 use crate::words::next_word;
 use std::alloc::{AllocError, Global};
@@ -46,14 +47,10 @@ pub fn insert_of(alloc: Global, line: &[u8]) -> Result<Option<Statement>, AllocE
     if !is_name(table) {
         return Ok(None);
     }
-    let Some(count) = count_all::<Value>(rest) else {
+    let Some(values) = values_of(alloc, rest)? else {
         return Ok(None);
     };
-    if count < 1 {
-        return Ok(None);
-    }
     let table = Name::read(alloc, table)?;
-    let values = read_all(alloc, rest, count)?;
     Ok(Some(Statement::Insert { table, values }))
 }
 
@@ -67,14 +64,10 @@ pub fn bulk_of(alloc: Global, line: &[u8]) -> Result<Option<Statement>, AllocErr
     if !is_name(table) {
         return Ok(None);
     }
-    let Some(count) = count_all::<Value>(rest) else {
+    let Some(values) = values_of(alloc, rest)? else {
         return Ok(None);
     };
-    if count < 1 {
-        return Ok(None);
-    }
     let table = Name::read(alloc, table)?;
-    let values = read_all(alloc, rest, count)?;
     Ok(Some(Statement::Bulk { table, values }))
 }
 
