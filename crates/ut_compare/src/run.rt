@@ -1,0 +1,34 @@
+//! Runs of the program over a disk and streams in memory.
+use std::alloc::{AllocError, Global};
+use ut_app::{Status, top};
+use ut_outside::{MemDisk, MemSink, MemSource, NoHook};
+
+/// The words that open a store, and those that make one.
+pub const RUN: &[&str] = &["ut", "run"];
+
+pub const RUN_NEW: &[&str] = &["ut", "run", "--new"];
+
+/// The bytes that a source gives in one call.
+const PIECE: usize = 4096;
+
+/// How a run ended, and what it wrote.
+#[derive(Drop)]
+pub struct Ran {
+    pub status: Status,
+    pub told: Vec<u8>,
+}
+
+pub fn run_on(
+    alloc: Global,
+    words: &[&str],
+    script: &[u8],
+    disk: &mut MemDisk,
+) -> Result<Ran, AllocError> {
+    let mut source = MemSource::new(alloc, script, PIECE, None)?;
+    let mut sink = MemSink::new(alloc, None);
+    let report = top(alloc, words, &mut source, &mut sink, disk, &NoHook);
+    Ok(Ran {
+        status: report.status,
+        told: Vec::from_slice(alloc, sink.bytes())?,
+    })
+}
