@@ -3,6 +3,7 @@ use crate::apart::{Apart, apart_from};
 use crate::run::{RUN, RUN_NEW, run_on};
 use crate::told::Script;
 use std::alloc::{AllocError, Global};
+use std::thread::Threads;
 use ut_checks::{LINES, script_line};
 use ut_oracle::Oracle;
 use ut_outside::MemDisk;
@@ -30,25 +31,30 @@ fn cut_of(seed: u64) -> u32 {
 
 /// The first line of the script of a seed, or of the questions behind it, that the two answer otherwise. The store is opened
 /// again before the questions, and in the middle of some scripts.
-pub fn first_apart(alloc: Global, seed: u64) -> Result<Option<Apart>, AllocError> {
+pub fn first_apart(
+    rt: &(impl Threads + Sync),
+    alloc: Global,
+    seed: u64,
+) -> Result<Option<Apart>, AllocError> {
     let cut = cut_of(seed);
     let mut disk = MemDisk::of(alloc, &[], &[])?;
     let mut store = Oracle::new(alloc, AMPLE)?;
     let front = lines_of(alloc, seed, 0, cut, &mut store)?;
-    if let Some(apart) = apart_on(alloc, RUN_NEW, &front, &mut disk)? {
+    if let Some(apart) = apart_on(rt, alloc, RUN_NEW, &front, &mut disk)? {
         return Ok(Some(apart));
     }
     let mut store = store.reopened(alloc, AMPLE)?;
     let back = lines_of(alloc, seed, cut, LINES, &mut store)?;
-    if let Some(apart) = apart_on(alloc, RUN, &back, &mut disk)? {
+    if let Some(apart) = apart_on(rt, alloc, RUN, &back, &mut disk)? {
         return Ok(Some(apart));
     }
     let mut store = store.reopened(alloc, AMPLE)?;
-    apart_in_questions(alloc, &mut store, &mut disk)
+    apart_in_questions(rt, alloc, &mut store, &mut disk)
 }
 
 /// Where a store that is opened now answers the questions otherwise.
 pub fn apart_in_questions(
+    rt: &(impl Threads + Sync),
     alloc: Global,
     store: &mut Oracle,
     disk: &mut MemDisk,
@@ -57,7 +63,7 @@ pub fn apart_in_questions(
     for line in QUESTIONS {
         questions.ask(alloc, line.as_bytes(), store)?;
     }
-    apart_on(alloc, RUN, &questions, disk)
+    apart_on(rt, alloc, RUN, &questions, disk)
 }
 
 fn lines_of(
@@ -78,11 +84,12 @@ fn lines_of(
 
 /// Where the program answers a script otherwise.
 fn apart_on(
+    rt: &(impl Threads + Sync),
     alloc: Global,
     words: &[&str],
     script: &Script,
     disk: &mut MemDisk,
 ) -> Result<Option<Apart>, AllocError> {
-    let ran = run_on(alloc, words, &script.lines, disk)?;
+    let ran = run_on(rt, alloc, words, &script.lines, disk)?;
     apart_from(alloc, script, &ran)
 }

@@ -6,6 +6,7 @@ use crate::run::{RUN, RUN_NEW, run_on};
 use crate::worked::lines_of;
 use std::alloc::{AllocError, Global};
 use std::fmt;
+use std::thread::Threads;
 use ut_app::Status;
 use ut_checks::Answers;
 use ut_oracle::Oracle;
@@ -117,6 +118,7 @@ impl<'a> Follower<'a> {
     /// What is wrong with a run of these lines that ended so, if anything is.
     fn wrong_in(
         &mut self,
+        rt: &(impl Threads + Sync),
         alloc: Global,
         lines: &[&str],
         status: Status,
@@ -136,7 +138,7 @@ impl<'a> Follower<'a> {
         if !self.may_end(status, lines.len()) {
             return Ok(Some(Wrong::End));
         }
-        let is_left = self.is_left(alloc, disk)?;
+        let is_left = self.is_left(rt, alloc, disk)?;
         Ok(if is_left { None } else { Some(Wrong::Left) })
     }
 
@@ -153,25 +155,35 @@ impl<'a> Follower<'a> {
     }
 
     /// Whether the disk has what was told, and no more than that and an open commit.
-    fn is_left(&self, alloc: Global, disk: &mut MemDisk) -> Result<bool, AllocError> {
-        if self.answered == 0 && run_on(alloc, RUN, b"", disk)?.status == Status::NoStore {
+    fn is_left(
+        &self,
+        rt: &(impl Threads + Sync),
+        alloc: Global,
+        disk: &mut MemDisk,
+    ) -> Result<bool, AllocError> {
+        if self.answered == 0 && run_on(rt, alloc, RUN, b"", disk)?.status == Status::NoStore {
             return Ok(true);
         }
-        if has_rows_of(alloc, &self.store, disk)? {
+        if has_rows_of(rt, alloc, &self.store, disk)? {
             return Ok(true);
         }
         match &self.before {
-            Some(store) => has_rows_of(alloc, store, disk),
+            Some(store) => has_rows_of(rt, alloc, store, disk),
             None => Ok(false),
         }
     }
 }
 
 /// Whether a disk has the rows of a slow store. It is asked twice, since what lacked memory once has it then.
-fn has_rows_of(alloc: Global, store: &Oracle, disk: &mut MemDisk) -> Result<bool, AllocError> {
+fn has_rows_of(
+    rt: &(impl Threads + Sync),
+    alloc: Global,
+    store: &Oracle,
+    disk: &mut MemDisk,
+) -> Result<bool, AllocError> {
     for _ in 0..2 {
         let mut again = store.reopened(alloc, AMPLE)?;
-        if apart_in_questions(alloc, &mut again, disk)?.is_none() {
+        if apart_in_questions(rt, alloc, &mut again, disk)?.is_none() {
             return Ok(true);
         }
     }
@@ -196,7 +208,11 @@ fn may_lack_memory(line: &str) -> bool {
 }
 
 /// The verdict on a run of the worked script of that number over a new store.
-pub fn verdict_on(alloc: Global, number: usize) -> Result<Verdict, AllocError> {
+pub fn verdict_on(
+    rt: &(impl Threads + Sync),
+    alloc: Global,
+    number: usize,
+) -> Result<Verdict, AllocError> {
     let lines = lines_of(alloc, number)?;
     let mut script = Vec::new(alloc);
     for line in &lines {
@@ -204,9 +220,9 @@ pub fn verdict_on(alloc: Global, number: usize) -> Result<Verdict, AllocError> {
         script.push(b'\n')?;
     }
     let mut disk = MemDisk::of(alloc, &[], &[])?;
-    let ran = run_on(alloc, RUN_NEW, &script, &mut disk)?;
+    let ran = run_on(rt, alloc, RUN_NEW, &script, &mut disk)?;
     let mut follower = Follower::new(alloc, &ran.told)?;
-    let wrong = follower.wrong_in(alloc, &lines, ran.status, &mut disk)?;
+    let wrong = follower.wrong_in(rt, alloc, &lines, ran.status, &mut disk)?;
     Ok(Verdict {
         status: ran.status,
         answered: follower.answered,

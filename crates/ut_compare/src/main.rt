@@ -17,6 +17,7 @@ use anyhow::{Context, Result, ensure};
 use std::alloc::Global;
 use std::env;
 use std::process::ExitCode;
+use std::thread::Threads;
 use ut_checks::LINES;
 
 /// What is asked for.
@@ -61,10 +62,15 @@ fn task_of(rt: &HostRuntime) -> Result<Task> {
 }
 
 /// Compares so many scripts, or those up to the first that is answered otherwise, and says which.
-fn compare_all(rt: &impl Print, alloc: Global, first: u64, count: u64) -> Result<bool> {
+fn compare_all(
+    rt: &(impl Print + Threads + Sync),
+    alloc: Global,
+    first: u64,
+    count: u64,
+) -> Result<bool> {
     for number in 0..count {
         let seed = first.wrapping_add(number);
-        if let Some(apart) = compare::first_apart(alloc, seed)? {
+        if let Some(apart) = compare::first_apart(rt, alloc, seed)? {
             say_apart(rt, seed, &apart)?;
             return Ok(false);
         }
@@ -74,7 +80,7 @@ fn compare_all(rt: &impl Print, alloc: Global, first: u64, count: u64) -> Result
 }
 
 /// Judges each worked script.
-fn judge_all(rt: &impl Print, alloc: Global) -> Result<bool> {
+fn judge_all(rt: &(impl Print + Threads + Sync), alloc: Global) -> Result<bool> {
     for number in 0..worked::COUNT {
         if !judge_one(rt, alloc, number)? {
             return Ok(false);
@@ -84,9 +90,9 @@ fn judge_all(rt: &impl Print, alloc: Global) -> Result<bool> {
 }
 
 /// Judges a run of a worked script, and says what it came to.
-fn judge_one(rt: &impl Print, alloc: Global, number: usize) -> Result<bool> {
+fn judge_one(rt: &(impl Print + Threads + Sync), alloc: Global, number: usize) -> Result<bool> {
     ensure!(number < worked::COUNT, "there is no such script");
-    let verdict = judge::verdict_on(alloc, number)?;
+    let verdict = judge::verdict_on(rt, alloc, number)?;
     println!(rt; "script {number}: {verdict}")?;
     Ok(verdict.is_right())
 }

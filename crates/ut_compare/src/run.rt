@@ -1,5 +1,6 @@
 //! Runs of the program over a disk and streams in memory.
 use std::alloc::{AllocError, Global};
+use std::thread::Threads;
 use ut_app::{Status, top};
 use ut_outside::{MemDisk, MemSink, MemSource, NoHook};
 
@@ -19,6 +20,7 @@ pub struct Ran {
 }
 
 pub fn run_on(
+    rt: &(impl Threads + Sync),
     alloc: Global,
     words: &[&str],
     script: &[u8],
@@ -26,7 +28,7 @@ pub fn run_on(
 ) -> Result<Ran, AllocError> {
     let mut source = MemSource::new(alloc, script, PIECE, None)?;
     let mut sink = MemSink::new(alloc, None);
-    let report = top(alloc, words, &mut source, &mut sink, disk, &NoHook);
+    let report = top(rt, alloc, words, &mut source, &mut sink, disk, &NoHook);
     Ok(Ran {
         status: report.status,
         told: Vec::from_slice(alloc, sink.bytes())?,
