@@ -4,7 +4,7 @@ use Rattle.ut_plain.specs.Tables.{place_in, columns_in}
 use Rattle.ut_plain.specs.Made.{rows_of}
 use Rattle.ut_table.specs.Staged.{Staged, begun_row, entered_l2}
 use Rattle.ut_store.specs.Held.{Held}
-use Rattle.ut_store.specs.Changes.{has_ids_for, numbered, inserts_all, AreReady, IsWork}
+use Rattle.ut_store.specs.Changes.{has_ids_for, numbered, inserts_all, IsWork}
 use Rattle.ut_store.specs.Loads.{inserted}
 use Rattle.ut_store.proofs.StandsLemmas.{itself_same}
 use Rattle.ut_store.proofs.IndexLemmas.{stages_in, stages_at_place}
