@@ -30,6 +30,7 @@ use Rattle.ut_store.specs.Stands.{StandsFor, AreRows, stages_of}
 use Rattle.ut_store.specs.Answers.{Answers}
 use Rattle.ut_store.specs.Standing.{changes_rows}
 use Rattle.ut_store.specs.Changes.{op_fits, inserts_all, Stays}
+use Rattle.ut_store.specs.Loads.{inserted}
 use Rattle.ut_store.proofs.SeatLemmas.{seats-stay, numbers-stay}
 use Rattle.ut_store.proofs.StandsLemmas.{dead_set, dead_pushed}
 use Rattle.ut_store.proofs.FinishLemmas.{may_lack}
@@ -44,6 +45,10 @@ rows-fit columns n (r ∷ rs) h (suc k) d lt = rows-fit columns n rs (and_right 
 pub inserts-all : (n : ℕ) (rows : List Row) → inserts_of (inserts_all n rows) ≡ length rows
 inserts-all n [] = refl
 inserts-all n (r ∷ rs) = let rest = inserts-all n rs in let one = sum_by-cons op_inserts (ops.Insert n r.id r.values) (inserts_all n rs) in omega (arith, rest, one)
+
+pub inserted-all : (n : ℕ) (rows : List Row) → inserted (inserts_all n rows) ≡ rows
+inserted-all n [] = refl
+inserted-all n (r ∷ rs) = ap (λ (xs : List Row). r ∷ xs) (inserted-all n rs)
 
 -- ---- a transaction that was started and given up
 

@@ -10,3 +10,4 @@ pub mod Standing
 pub mod Created
 pub mod Listed
 pub mod Changes
+pub mod Loads

@@ -4,15 +4,17 @@ ghost use Rattle.ut_plain.specs.Made.{rows_of};
 ghost use Rattle.ut_table.specs.Staged.{begun_row, entered_l2};
 ghost use Rattle.ut_txn.specs.Seats.{opened_at};
 ghost use Rattle.ut_store.specs.Answers.{Answers};
+ghost use Rattle.ut_store.specs.Loads.{inserted};
 ghost use Rattle.ut_store.specs.Changes.{MayChange, AreReady, IsWork, late_refusal, numbered, inserts_all};
 
 use crate::change::place_in;
 use crate::finish::no_memory;
+use crate::load::into_inserts;
 use crate::{Store, Turn};
 use std::alloc::{AllocError, Global};
 use ut_plain::{Refusal, Reply, Statement};
 use ut_txn::Opened;
-use ut_value::{Duplicate, Name, Op, Row, Seq, Value};
+use ut_value::{Name, Op, Row, Seq, Value};
 
 impl Store {
     pub(crate) fn bulk(
@@ -36,10 +38,10 @@ impl Store {
         let Ok(rows) = row_list(alloc, self.next_id, width, values.as_slice()) else {
             return no_memory();
         };
-        let Ok(ops) = insert_all(alloc, place as u16, &rows) else {
+        let Ok(ops) = insert_all(alloc, place as u16, rows) else {
             return no_memory();
         };
-        self.finish_bulk(alloc, session, st, place, &rows, &ops)
+        self.finish_bulk(alloc, session, st, place, ops, count as u32)
     }
 
     fn finish_bulk(
@@ -48,47 +50,45 @@ impl Store {
         session: u8,
         st: &Statement,
         place: usize,
-        rows: &[Row],
-        ops: &[Op],
+        ops: Vec<Op>,
+        rows: u32,
     ) -> Turn
         requires may { MayChange self.old session st.now }
-        requires ready { AreReady self.old place [] ops.now }
-        requires work { IsWork self.old session st.now place [] ops.now (length rows.now) (λ t s. entered_l2 (map (begun_row t) rows.now) s) }
-        requires rows { ops.now ≡ inserts_all place rows.now }
-        requires some { 0 < length ops.now }
+        requires ready { AreReady self.old place [] ops.items }
+        requires work { IsWork self.old session st.now place [] ops.items rows (λ t s. entered_l2 (map (begun_row t) (inserted ops.items)) s) }
+        requires rows { ops.items ≡ inserts_all place (inserted ops.items) }
+        requires some { 0 < length ops.items }
         ensures { Answers self.old session st.now result self.new }
     {
-        if let Some(why) = self.late_refusal(session, place, &[], ops) {
+        if let Some(why) = self.late_refusal(session, place, &[], &ops) {
             return Turn::Answered(Reply::Refused(why));
         }
         match self.sessions.opened(session) {
-            Some(opened) => self.bulk_inside(session, st, opened, place, rows, ops),
-            None => self.bulk_alone(alloc, session, st, place, rows, ops),
+            Some(opened) => self.bulk_inside(alloc, session, st, opened, place, ops, rows),
+            None => self.bulk_alone(alloc, session, st, place, ops, rows),
         }
     }
 
     fn bulk_inside(
         &mut self,
+        alloc: Global,
         session: u8,
         st: &Statement,
         opened: Opened,
         place: usize,
-        rows: &[Row],
-        ops: &[Op],
+        ops: Vec<Op>,
+        rows: u32,
     ) -> Turn
         requires may { MayChange self.old session st.now }
-        requires ready { AreReady self.old place [] ops.now }
-        requires work { IsWork self.old session st.now place [] ops.now (length rows.now) (λ t s. entered_l2 (map (begun_row t) rows.now) s) }
-        requires rows { ops.now ≡ inserts_all place rows.now }
-        requires late { late_refusal self.old session place [] ops.now ≡ None }
+        requires ready { AreReady self.old place [] ops.items }
+        requires work { IsWork self.old session st.now place [] ops.items rows (λ t s. entered_l2 (map (begun_row t) (inserted ops.items)) s) }
+        requires rows { ops.items ≡ inserts_all place (inserted ops.items) }
+        requires late { late_refusal self.old session place [] ops.items ≡ None }
         requires opened { opened_at self.old.seats session ≡ Some opened }
         ensures { Answers self.old session st.now result self.new }
     {
-        match self.load_inside(session, opened, place, rows, ops) {
-            Ok(()) => Turn::Answered(Reply::Changed {
-                rows: rows.len() as u32,
-                commit: None,
-            }),
+        match self.load_inside(alloc, session, opened, place, ops) {
+            Ok(()) => Turn::Answered(Reply::Changed { rows, commit: None }),
             Err(_) => no_memory(),
         }
     }
@@ -99,21 +99,21 @@ impl Store {
         session: u8,
         st: &Statement,
         place: usize,
-        rows: &[Row],
-        ops: &[Op],
+        ops: Vec<Op>,
+        rows: u32,
     ) -> Turn
         requires may { MayChange self.old session st.now }
-        requires ready { AreReady self.old place [] ops.now }
-        requires work { IsWork self.old session st.now place [] ops.now (length rows.now) (λ t s. entered_l2 (map (begun_row t) rows.now) s) }
-        requires rows { ops.now ≡ inserts_all place rows.now }
-        requires late { late_refusal self.old session place [] ops.now ≡ None }
+        requires ready { AreReady self.old place [] ops.items }
+        requires work { IsWork self.old session st.now place [] ops.items rows (λ t s. entered_l2 (map (begun_row t) (inserted ops.items)) s) }
+        requires rows { ops.items ≡ inserts_all place (inserted ops.items) }
+        requires late { late_refusal self.old session place [] ops.items ≡ None }
         requires closed { opened_at self.old.seats session ≡ None }
-        requires some { 0 < length ops.now }
+        requires some { 0 < length ops.items }
         ensures { Answers self.old session st.now result self.new }
     {
-        match self.load_alone(alloc, place, rows, ops) {
+        match self.load_alone(alloc, place, ops) {
             Ok(()) => Turn::Append(Reply::Changed {
-                rows: rows.len() as u32,
+                rows,
                 commit: Some(self.commits),
             }),
             Err(_) => no_memory(),
@@ -165,18 +165,10 @@ fn values_copied(alloc: Global, values: &[Value]) -> Result<Seq<Value>, AllocErr
     Ok(Seq::from_vec(copies))
 }
 
-/// The inserts of rows.
-fn insert_all(alloc: Global, table: u16, rows: &[Row]) -> Result<Vec<Op>, AllocError>
-    ensures { IfOk result (λ ops. ops.items ≡ inserts_all table rows.now) }
+/// The inserts of rows. No value is copied.
+fn insert_all(alloc: Global, table: u16, rows: Vec<Row>) -> Result<Vec<Op>, AllocError>
+    ensures { IfOk result (λ ops. ops.items ≡ inserts_all table rows.items) }
 {
-    let mut ops = Vec::with_capacity(alloc, rows.len())?;
-    for row in rows {
-        let values = row.values.duplicate(alloc)?;
-        ops.push(Op::Insert {
-            table,
-            id: row.id,
-            values,
-        })?;
-    }
-    Ok(ops)
+    let ops = Vec::with_capacity(alloc, rows.len())?;
+    Ok(into_inserts(ops, table, rows))
 }

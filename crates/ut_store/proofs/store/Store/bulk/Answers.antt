@@ -1,15 +1,16 @@
-use Rattle.std.proofs.Common.{◌≡◌, ◌<◌, ◌∙◌, [], true, List, Some, length, map, slice_get, ap, sym, subst, arith}
+use Rattle.std.proofs.Common.{ℕ, ◌≡◌, ◌<◌, ◌∙◌, [], true, List, Some, length, map, slice_get, ap, sym, subst, arith}
 use Rattle.ut_value.specs.declared.value.Row.{Row}
-use Rattle.ut_value.specs.declared.entry.Op.{Op}
 use Rattle.ut_plain.specs.Tables.{place_in, columns_in}
 use Rattle.ut_plain.specs.Made.{rows_of}
 use Rattle.ut_table.specs.Staged.{Staged, begun_row, entered_l2}
 use Rattle.ut_store.specs.Held.{Held}
-use Rattle.ut_store.specs.Changes.{has_ids_for, numbered, inserts_all, AreReady, IsWork}
+use Rattle.ut_store.specs.Changes.{has_ids_for, numbered, inserts_all, IsWork}
+use Rattle.ut_store.specs.Loads.{inserted}
 use Rattle.ut_store.proofs.StandsLemmas.{itself_same}
 use Rattle.ut_store.proofs.IndexLemmas.{stages_in, stages_at_place}
 use Rattle.ut_store.proofs.FinishLemmas.{answers_memory}
-use Rattle.ut_store.proofs.BulkLemmas.{bulk_at, bulk_wide, bulk_ready, bulk_work, bulk_some, bulk_full}
+use Rattle.ut_store.proofs.BulkLemmas.{bulk_at, bulk_wide, bulk_ready, bulk_work, bulk_some, bulk_full, length-numbered}
+use Rattle.ut_store.proofs.LoadLemmas.{inserted-all}
 use Rattle.ut_store.proofs.store.Store.bulk.Goals as goal
 
 pub rows_in-count-requires : goal.rows_in-count-requires
@@ -76,10 +77,10 @@ finish_bulk-requires-clause-ready c =
     let rows = c.in-Ok.rows.items in
     let os = c.in-Ok-insert_all.ops.items in
     let are : rows ≡ numbered e.next_id (rows_of width c.args.values.now) = c.in-Ok.ensures ∙ (λ i. numbered (ap (λ (h : Held). h.next_id) c.self.view_is i) (rows_of width (c.as_slice-3.ensures i))) in
-    let made : os ≡ inserts_all n rows = c.in-Ok-insert_all.ensures ∙ ap (inserts_all n) c.deref-2.ensures.value in
+    let made : os ≡ inserts_all n rows = c.in-Ok-insert_all.ensures in
     let ids : has_ids_for e (length (rows_of width c.args.values.now)) ≡ true =
     ap (has_ids_for e) (sym (c.rows_in-count.ensures ∙ ap (λ vs. length (rows_of width vs)) c.as_slice-2.ensures)) ∙ sym c.has_ids_for.ensures ∙ c.if-not-has_ids_for.false in
-    subst (λ (x : List Op). AreReady e n [] x) (sym c.deref-4.ensures.value) (bulk_ready _ c.args.session _ _ _ _ c.requires.may c.requires.is place width wide os rows are made ids)
+    bulk_ready _ c.args.session _ _ _ _ c.requires.may c.requires.is place width wide os rows are made ids
 
 pub finish_bulk-requires-clause-work : goal.finish_bulk-requires-clause-work
 finish_bulk-requires-clause-work c =
@@ -95,10 +96,19 @@ finish_bulk-requires-clause-work c =
     let rows = c.in-Ok.rows.items in
     let os = c.in-Ok-insert_all.ops.items in
     let are : rows ≡ numbered e.next_id (rows_of width c.args.values.now) = c.in-Ok.ensures ∙ (λ i. numbered (ap (λ (h : Held). h.next_id) c.self.view_is i) (rows_of width (c.as_slice-3.ensures i))) in
-    let made : os ≡ inserts_all n rows = c.in-Ok-insert_all.ensures ∙ ap (inserts_all n) c.deref-2.ensures.value in
-    subst (λ (x : List Row). IsWork e c.args.session c.args.st.now n [] c.deref-4.result.now (length x) (λ t s. entered_l2 (map (begun_row t) x) s)) (sym c.deref-3.ensures.value)
-    (subst (λ (x : List Op). IsWork e c.args.session c.args.st.now n [] x (length rows) (λ t s. entered_l2 (map (begun_row t) rows) s)) (sym c.deref-4.ensures.value)
+    let made : os ≡ inserts_all n rows = c.in-Ok-insert_all.ensures in
+    let back : rows ≡ inserted os = sym (ap inserted made ∙ inserted-all n rows) in
+    let count : length rows ≡ c.rows_in-count.result = ap length are ∙ length-numbered e.next_id (rows_of width c.args.values.now) ∙ sym (c.rows_in-count.ensures ∙ ap (λ vs. length (rows_of width vs)) c.as_slice-2.ensures) in
+    subst (λ (x : ℕ). IsWork e c.args.session c.args.st.now n [] os x (λ t s. entered_l2 (map (begun_row t) (inserted os)) s)) count
+    (subst (λ (x : List Row). IsWork e c.args.session c.args.st.now n [] os (length rows) (λ t s. entered_l2 (map (begun_row t) x) s)) back
     (bulk_work _ _ _ _ _ _ c.requires.may c.requires.is place width wide os rows are made))
+
+pub finish_bulk-requires-clause-rows : goal.finish_bulk-requires-clause-rows
+finish_bulk-requires-clause-rows c =
+    let n = c.place_in-place.result in
+    let rows = c.in-Ok.rows.items in
+    let made : c.in-Ok-insert_all.ops.items ≡ inserts_all n rows = c.in-Ok-insert_all.ensures in
+    made ∙ ap (inserts_all n) (sym (ap inserted made ∙ inserted-all n rows))
 
 pub finish_bulk-requires-clause-some : goal.finish_bulk-requires-clause-some
 finish_bulk-requires-clause-some c =
@@ -114,5 +124,5 @@ finish_bulk-requires-clause-some c =
     let rows = c.in-Ok.rows.items in
     let os = c.in-Ok-insert_all.ops.items in
     let are : rows ≡ numbered e.next_id (rows_of width c.args.values.now) = c.in-Ok.ensures ∙ (λ i. numbered (ap (λ (h : Held). h.next_id) c.self.view_is i) (rows_of width (c.as_slice-3.ensures i))) in
-    let made : os ≡ inserts_all n rows = c.in-Ok-insert_all.ensures ∙ ap (inserts_all n) c.deref-2.ensures.value in
-    subst (λ (x : List Op). 0 < length x) (sym c.deref-4.ensures.value) (bulk_some _ c.args.session _ _ _ _ c.requires.may c.requires.is place width wide os rows are made)
+    let made : os ≡ inserts_all n rows = c.in-Ok-insert_all.ensures in
+    bulk_some _ c.args.session _ _ _ _ c.requires.may c.requires.is place width wide os rows are made

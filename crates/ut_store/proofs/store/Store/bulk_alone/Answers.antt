@@ -1,10 +1,9 @@
-use Rattle.std.proofs.Common.{◌∙◌, sym, ap, subst, arith}
-use Rattle.ut_plain.specs.Rows.{inserts_of}
+use Rattle.std.proofs.Common.{◌∙◌, sym, ap, subst}
 use Rattle.ut_store.specs.declared.turn.Turn.{Turn}
 use Rattle.ut_store.specs.Held.{Held}
 use Rattle.ut_store.specs.Answers.{Answers}
-use Rattle.ut_store.proofs.FinishLemmas.{can_do, can_append, ids_fit, answers_alone}
-use Rattle.ut_store.proofs.LoadLemmas.{inserts-all, answers_stays}
+use Rattle.ut_store.proofs.FinishLemmas.{can_do, can_append, answers_alone}
+use Rattle.ut_store.proofs.LoadLemmas.{answers_stays}
 use Rattle.ut_store.proofs.store.Store.bulk_alone.Goals as goal
 use Rattle.ut_store.proofs.store.Store.bulk_alone.Goals.{in-Ok, in-Err}
 
@@ -13,12 +12,6 @@ load_alone-requires-clause-can c = can_do _ _ _ _ _ _ _ _ c.requires.may c.requi
 
 pub load_alone-requires-clause-journal : goal.load_alone-requires-clause-journal
 load_alone-requires-clause-journal c = can_append _ _ _ _ _ _ _ _ c.requires.may c.requires.work c.requires.late c.requires.closed c.requires.some
-
-pub overflow_cast-result : goal.overflow_cast-result
-overflow_cast-result c =
-    let ids = ids_fit _ _ _ _ _ _ _ _ c.requires.may c.requires.work c.requires.late in
-    let rows = ap inserts_of c.requires.rows ∙ inserts-all c.args.place c.args.rows.now in
-    omega (arith, ids, rows)
 
 pub returns : goal.returns
 returns c = elim c.match-load_alone.branch [
