@@ -1,1 +1,3 @@
 pub mod LentLemmas
+pub mod StagingLemmas
+pub mod ReadingLemmas

@@ -1,1 +1,4 @@
 pub mod Lent
+pub mod Beginning
+pub mod Reading
+pub mod Staging

@@ -1,11 +1,13 @@
 //! The store and the disk that it is lent.
-ghost use Rattle.std.specs.Prelude.{◌≡◌, ◌<◌, false, IsTrue};
+ghost use Rattle.std.specs.Prelude.{◌≡◌, ◌<◌, ◌≤◌, ◌^◌, false, IsTrue};
 ghost use Rattle.ut_plain.specs.Plain.{Plain};
 ghost use Rattle.ut_plain.specs.Spelled.{is_spelled};
 ghost use Rattle.ut_store.specs.Standing.{suits_session};
 ghost use Rattle.ut_logged.specs.Runs.{Runs};
 ghost use Rattle.ut_logged.specs.Serves.{Serves};
+ghost use Rattle.ut_engine.specs.Beginning.{disk_left, loan_left, store_or_cause, Makes, Reopens};
 
+use crate::unopened::Unopened;
 use std::alloc::Global;
 use std::marker::Model;
 use ut_logged::LoggedStore;
@@ -15,8 +17,8 @@ use ut_plain::{Reply, Statement};
 /// A store over a disk that it is lent for as long as it serves. While it isn't down it runs from some plain state.
 #[derive(Drop)]
 pub struct Engine<'d, D: Disk> {
-    disk: &'d mut D,
-    store: LoggedStore,
+    pub(crate) disk: &'d mut D,
+    pub(crate) store: LoggedStore,
 }
 
 impl<'d, D: Disk> Model for Engine<'d, D> {
@@ -33,6 +35,32 @@ impl<'d, D: Disk> Model for Engine<'d, D> {
 }
 
 impl<'d, D: Disk> Engine<'d, D> {
+    /// Makes the files of a store without tables, which gives at most so many ids. Where it can't, the disk is handed back.
+    #[tactic(auto, using(crate::proofs::LentLemmas::made_runs))]
+    pub fn make(alloc: Global, disk: &'d mut D, rows: u32) -> Result<Engine<'d, D>, Unopened<'d, D>>
+        requires { rows ≤ 2 ^ 31 }
+        ensures makes { Makes rows (D.view disk.old) (D.view (disk_left result)) (store_or_cause result) }
+        ensures loan { loan_left result ≡ disk.entry.ghost_name }
+    {
+        match LoggedStore::make(alloc, disk, rows) {
+            Ok(store) => Ok(Engine { disk, store }),
+            Err(cause) => Err(Unopened { cause, disk }),
+        }
+    }
+
+    /// Opens a store with what its files say. It writes nothing. Where it can't, the disk is handed back.
+    #[tactic(auto, using(crate::proofs::LentLemmas::opened_runs))]
+    pub fn open(alloc: Global, disk: &'d mut D, rows: u32) -> Result<Engine<'d, D>, Unopened<'d, D>>
+        requires { rows ≤ 2 ^ 31 }
+        ensures opens { Reopens rows (D.view disk.old) (D.view (disk_left result)) (store_or_cause result) }
+        ensures loan { loan_left result ≡ disk.entry.ghost_name }
+    {
+        match LoggedStore::open(alloc, disk, rows) {
+            Ok(store) => Ok(Engine { disk, store }),
+            Err(cause) => Err(Unopened { cause, disk }),
+        }
+    }
+
     /// The store over its disk, that of the call which made or opened it.
     pub fn over(disk: &'d mut D, store: LoggedStore) -> Engine<'d, D>
         requires runs { store.down ≡ false → (p : Plain) × Runs store (D.view disk.old) p }
@@ -87,6 +115,7 @@ impl<'d, D: Disk> Engine<'d, D> {
     {
         self.store.down()
     }
+
     /// Gives the disk back. A caller knows the disk's end only through this call.
     pub fn release(self) -> &'d mut D
         ensures loan { result.ghost_name ≡ self.entry.loan }

@@ -2,5 +2,11 @@
 #![tactic(auto)]
 
 mod engine;
+mod error;
+mod readers;
+mod stages;
+mod unopened;
 
 pub use engine::Engine;
+pub use error::L1Error;
+pub use unopened::Unopened;

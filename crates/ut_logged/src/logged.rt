@@ -1,20 +1,22 @@
 //! The store and its log.
-ghost use Rattle.std.specs.Prelude.{◌≡◌, ◌<◌, ◌≤◌, ◌^◌, ◌↔◌, ℕ, true, IsTrue, IfOk, OnOk, IsErrOf};
+ghost use Rattle.std.specs.Prelude.{◌≡◌, ◌<◌, ◌≤◌, ◌^◌, ◌↔◌, ℕ, true, IsTrue, IfOk, OnOk, IsErrOf, is_some, length, option_map, slice_get};
 ghost use Rattle.ut_outside.specs.declared.disk.Which.{Which};
 ghost use Rattle.ut_outside.specs.Disk.{IsTold, content};
 ghost use Rattle.ut_outside.specs.Faults.{Rose, HasCause};
 ghost use Rattle.ut_outside.specs.Run.{Always, LeavesOnly, ReadsOnly};
 ghost use Rattle.ut_pages.specs.Layout.{IsMade};
 ghost use Rattle.ut_plain.specs.Journal.{Journal};
+ghost use Rattle.ut_plain.specs.Names.{has_table};
 ghost use Rattle.ut_plain.specs.Plain.{Plain, new_store};
 ghost use Rattle.ut_plain.specs.Spelled.{is_spelled};
-ghost use Rattle.ut_store.specs.Standing.{suits_session};
+ghost use Rattle.ut_store.specs.Listed.{Lists};
+ghost use Rattle.ut_store.specs.Standing.{Stands, suits_session};
 ghost use Rattle.ut_logged.specs.Readings.{HoldsJournal};
 ghost use Rattle.ut_logged.specs.Runs.{Runs, Opens, NotMadeOrEmpty};
 ghost use Rattle.ut_logged.specs.Serves.{Serves};
 
 use crate::error::OpenError;
-use std::alloc::Global;
+use std::alloc::{AllocError, Global};
 use std::marker::Model;
 use ut_outside::{Disk, Failed, Which};
 use ut_pages::Pages;
@@ -22,6 +24,7 @@ use ut_plain::{Reply, Statement};
 use ut_redo::Redo;
 use ut_restart::reopen;
 use ut_store::{Store, Turn};
+use ut_value::{Name, Row, Seq};
 
 /// A store in memory behind its log. Each call that may write is lent the disk.
 #[derive(Drop)]
@@ -119,6 +122,44 @@ impl LoggedStore {
                 }
             },
         }
+    }
+
+    /// The rows of a table in the state of the whole journal, by ascending id. There are none where there is no such table.
+    #[tactic(auto, using(crate::proofs::RowsLemmas::listed_there))]
+    pub fn rows(&self, alloc: Global, table: &Name) -> Result<Option<Seq<Row>>, AllocError>
+        requires { Stands self.now.store }
+        ensures lists { IfOk result (Lists self.now.store table.now) }
+        ensures there { IfOk result (λ rows. is_some rows ≡ has_table self.now.store.tables table.now) }
+    {
+        self.store.rows(alloc, table.as_slice())
+    }
+
+    /// How many tables there are.
+    pub fn tables(&self) -> usize
+        ensures { result ≡ length self.now.store.tables }
+    {
+        self.store.table_count()
+    }
+
+    /// The name of the table at a place in order of creation.
+    pub fn table_name(&self, place: usize) -> Option<&Name>
+        ensures { option_map (λ name. name.now) result ≡ option_map (λ table. table.name) (slice_get self.now.store.tables place) }
+    {
+        self.store.table_name(place)
+    }
+
+    /// How many rows stand in the first stage of the table at a place, those that nobody sees included.
+    pub fn l1_len(&self, place: usize) -> Option<u32>
+        ensures { result ≡ option_map (λ staged. length staged.l1) (slice_get self.now.store.staged place) }
+    {
+        self.store.l1_len(place)
+    }
+
+    /// How many rows stand in its second stage.
+    pub fn l2_len(&self, place: usize) -> Option<u32>
+        ensures { result ≡ option_map (λ staged. length staged.l2) (slice_get self.now.store.staged place) }
+    {
+        self.store.l2_len(place)
     }
 
     /// How many entries the journal has.

@@ -1,0 +1,43 @@
+use Rattle.std.proofs.Common.{◌≡◌, ℕ, List, Err, IsTrue, refl, sym, ◌∙◌, ap, subst}
+use Rattle.std.proofs.lemmas.Result.{err_from_is_err_and}
+use Rattle.ut_plain.specs.declared.reply.Reply.{Reply}
+use Rattle.ut_plain.specs.declared.statement.Statement.TheVariants as statements
+use Rattle.ut_plain.specs.Names.{has_table}
+use Rattle.ut_logged.specs.Serves.{Serves}
+use Rattle.ut_engine.specs.Staging.{merge_reply, may_tell}
+use Rattle.ut_engine.proofs.StagingLemmas.{wants_memory, merge_told, merge_there, merge_unknown}
+use Rattle.ut_engine.proofs.engine.Engine.merge_l1.Goals as goal
+
+pub returns-in_err-table-clause-serves : goal.returns-in_err-table-clause-serves
+returns-in_err-table-clause-serves g c =
+    let e = c.args.self.now.store in
+    let v = g.D.Disk.view c.args.self.now.disk in
+    let p = err_from_is_err_and c.from_residual.result c.from_residual.ensures.1 in
+    subst (λ (r : Reply). Serves e v 0 (statements.MergeL1 c.args.table.now c.args.n) r e v) (sym (ap merge_reply (p.1 ∙ ap Err p.2)))
+    (wants_memory e v 0 (statements.MergeL1 c.args.table.now c.args.n) (g.met.D.Disk.only_now c.args.self.now.disk) refl)
+
+pub merge_answer-requires : goal.merge_answer-requires
+merge_answer-requires g c =
+    let table = c.in_ok-table.table in
+    merge_told c.operate-reply.result table c.args.n (has_table c.args.self.now.store.store.tables table) (c.operate-reply.ensures.tells table refl)
+
+pub returns-clause-serves : goal.returns-clause-serves
+returns-clause-serves g c =
+    let v = g.D.Disk.view c.args.self.now.disk in
+    let w = g.D.Disk.view c.operate-reply.new.self.disk in
+    subst (λ (r : Reply). Serves c.args.self.now.store v 0 (statements.MergeL1 c.args.table.now c.args.n) r c.operate-reply.new.self.store w) (sym c.merge_answer.ensures)
+    (subst (λ (table : List ℕ). Serves c.args.self.now.store v 0 (statements.MergeL1 table c.args.n) c.operate-reply.result c.operate-reply.new.self.store w) c.in_ok-table.ensures.copy c.operate-reply.ensures.serves)
+
+pub returns-clause-there : goal.returns-clause-there
+returns-clause-there g c =
+    let table = c.in_ok-table.table in
+    let tables = c.args.self.now.store.store.tables in
+    let tells = subst (λ (t : List ℕ). IsTrue (may_tell c.operate-reply.result (statements.MergeL1 table c.args.n) (has_table tables t))) c.in_ok-table.ensures.copy (c.operate-reply.ensures.tells table refl) in
+    merge_there c.merge_answer.result c.operate-reply.result table c.args.n (has_table tables c.args.table.now) c.merge_answer.ensures tells
+
+pub returns-clause-unknown : goal.returns-clause-unknown
+returns-clause-unknown g c =
+    let table = c.in_ok-table.table in
+    let tables = c.args.self.now.store.store.tables in
+    let tells = subst (λ (t : List ℕ). IsTrue (may_tell c.operate-reply.result (statements.MergeL1 table c.args.n) (has_table tables t))) c.in_ok-table.ensures.copy (c.operate-reply.ensures.tells table refl) in
+    merge_unknown c.merge_answer.result c.operate-reply.result table c.args.n (has_table tables c.args.table.now) c.merge_answer.ensures tells

@@ -1,0 +1,57 @@
+-- What a call answers that makes or opens a store over a disk, and what becomes of that disk.
+use base.Fml.{GName}
+use Rattle.std.specs.Prelude.{ℕ, ◌≡◌, ◌≤◌, Result, Ok, Err, IfOk, IsErrOf}
+use Rattle.ut_outside.specs.Disk.{View, IsTold}
+use Rattle.ut_outside.specs.Faults.{Rose}
+use Rattle.ut_outside.specs.Run.{Always, LeavesOnly}
+use Rattle.ut_pages.specs.Layout.{IsMade}
+use Rattle.ut_plain.specs.Journal.{Journal}
+use Rattle.ut_plain.specs.Plain.{new_store}
+use Rattle.ut_logged.specs.declared.error.OpenError.{OpenError}
+use Rattle.ut_logged.specs.declared.error.OpenError.TheVariants as errors
+use Rattle.ut_logged.specs.Logged.{Logged}
+use Rattle.ut_logged.specs.Readings.{HoldsJournal}
+use Rattle.ut_logged.specs.Runs.{Runs, Opens, NotMadeOrEmpty}
+use Rattle.ut_engine.specs.declared.unopened.Unopened.{Unopened}
+use Rattle.ut_engine.specs.Lent.{Lent}
+
+-- the disk after the call: the engine's, or the one that is handed back
+abbrev pub disk_left : {D : Type 0} → Result (Lent D) (Unopened D) → D
+disk_left (Ok e) = e.disk
+disk_left (Err u) = u.disk.now
+
+-- the name of its loan
+abbrev pub loan_left : {D : Type 0} → Result (Lent D) (Unopened D) → GName
+loan_left (Ok e) = e.loan
+loan_left (Err u) = u.disk.ghost_name
+
+-- the store, or why there is none
+abbrev pub store_or_cause : {D : Type 0} → Result (Lent D) (Unopened D) → Result Logged OpenError
+store_or_cause (Ok e) = Ok e.store
+store_or_cause (Err u) = Err u.cause
+
+-- a store that gives at most so many ids was to be made
+pub record Makes (rows : ℕ) (before after : View) (answer : Result Logged OpenError) : Type 0 where
+  pub runs : IfOk answer (λ e. Runs e after (new_store rows))
+  -- `Made` exactly where the store is made
+  pub unmade : IfOk answer (λ _. IsTold before → IsMade before.seen.pages → ⊥)
+  pub made : IsErrOf answer errors.Made → IsTold before → IsMade before.seen.pages
+  pub cause : IsErrOf answer errors.Disk → Rose before.faults after.faults
+  pub others : (IsErrOf answer errors.NotMade → ⊥) × (IsErrOf answer errors.Damaged → ⊥)
+  -- Of files that no crash leaves made, a crash at any moment leaves none that are made, or an empty store.
+  pub any_moment : IsTold before → Always before (λ c. IsMade c.pages → ⊥) → LeavesOnly before after NotMadeOrEmpty
+  pub told : after.told ≡ before.told
+  pub later : before.faults ≤ after.faults
+
+-- a store was to be opened with what its files say
+pub record Reopens (rows : ℕ) (before after : View) (answer : Result Logged OpenError) : Type 0 where
+  pub opens : IfOk answer (λ e. Opens e rows before after)
+  -- `NotMade` exactly where the store isn't made, `Damaged` exactly where it is and its files hold no journal
+  pub not_made : IsErrOf answer errors.NotMade → IsTold before → IsMade before.seen.pages → ⊥
+  pub damaged : IsErrOf answer errors.Damaged → IsTold before → IsMade before.seen.pages × ((j : Journal) → HoldsJournal j before.seen → ⊥)
+  pub cause : IsErrOf answer errors.Disk → Rose before.faults after.faults
+  pub others : IsErrOf answer errors.Made → ⊥
+  -- A crash leaves what it might have left before.
+  pub any_moment : LeavesOnly before after before.crash_states
+  pub told : after.told ≡ before.told
+  pub later : before.faults ≤ after.faults
