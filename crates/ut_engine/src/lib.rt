@@ -5,6 +5,8 @@ mod engine;
 mod error;
 mod readers;
 mod stages;
+#[cfg(test)]
+mod tests;
 mod unopened;
 
 pub use engine::Engine;

@@ -1,5 +1,5 @@
 //! Files that are cut or changed: the store is opened or damaged.
-use crate::run::{Left, RUN, RUN_NEW, SCRIPT, left_on, run_on};
+use crate::run::{A_ROW, Left, RUN, RUN_NEW, SCRIPT, left_on, run_on};
 use std::alloc::{AllocError, Global};
 use std::process::Abort;
 use std::test::Fail;
@@ -80,11 +80,64 @@ fn a_closed_gate_ends_the_log(rt: HostRuntime) -> Result<(), Fail> {
         assert!(rt; place < redo.len());
         redo[place] = 0x33;
         let mut closed = MemDisk::of(alloc, &redo, disk.bytes(Which::Pages))?;
-        assert_eq!(rt; left_on(&rt, alloc, &mut closed)?, Left::Commits(commits));
+        assert_eq!(rt;
+            left_on(&rt, alloc, A_ROW, &mut closed)?,
+            Left::Commits(commits)
+        );
         redo[place] = OPEN_GATE;
         redo.truncate(place + 1);
         let status = opened(&rt, alloc, &redo, disk.bytes(Which::Pages))?;
         assert_eq!(rt; status, Status::Damaged, "no frame behind {place}");
     }
+    Ok(())
+}
+
+/// Frames whose length is out of range, or greater than what is there.
+#[test]
+fn a_frame_of_a_wrong_length_is_damage(rt: HostRuntime) -> Result<(), Fail> {
+    let alloc = rt.alloc();
+    let disk = script_disk(&rt, alloc)?;
+    let (first, rest) = disk.bytes(Which::Redo).split_at(16);
+    assert!(rt; rest.len() > 4);
+    for len in [0u32, 24, 26, 30, 0x4000_0000, 0x4000_0001, u32::MAX] {
+        let mut redo = Vec::from_slice(alloc, first)?;
+        redo.extend_from_slice(&len.to_le_bytes())?;
+        redo.extend_from_slice(&rest[4..])?;
+        let status = opened(&rt, alloc, &redo, disk.bytes(Which::Pages))?;
+        assert_eq!(rt; status, Status::Damaged, "a length of {len}");
+    }
+    Ok(())
+}
+
+#[test]
+fn a_page_file_that_is_not_made_is_no_store(rt: HostRuntime) -> Result<(), Fail> {
+    let alloc = rt.alloc();
+    let disk = script_disk(&rt, alloc)?;
+    let (redo, pages) = (disk.bytes(Which::Redo), disk.bytes(Which::Pages));
+    assert_eq!(rt; pages.len(), 12288);
+    for len in [0, 1, 4096, 12287] {
+        let status = opened(&rt, alloc, redo, &pages[..len])?;
+        assert_eq!(rt; status, Status::NoStore, "of {len} bytes");
+    }
+    for byte in [0x00, 0x54, 0xFF] {
+        let mut unmade = Vec::from_slice(alloc, pages)?;
+        assert!(rt; !unmade.is_empty());
+        unmade[0] = byte;
+        let status = opened(&rt, alloc, redo, &unmade)?;
+        assert_eq!(rt; status, Status::NoStore, "with {byte} for the made byte");
+    }
+    Ok(())
+}
+
+/// A store that is there is not made again, though it is damaged.
+#[test]
+fn a_damaged_store_is_not_made_again(rt: HostRuntime) -> Result<(), Fail> {
+    let alloc = rt.alloc();
+    let made = script_disk(&rt, alloc)?;
+    let mut disk = MemDisk::of(alloc, b"", made.bytes(Which::Pages))?;
+    let ran = run_on(&rt, alloc, RUN_NEW, SCRIPT, &mut disk)?;
+    assert_eq!(rt; ran.status, Status::Exists);
+    assert_eq!(rt; ran.replies.len(), 0);
+    assert_eq!(rt; disk.bytes(Which::Redo).len(), 0);
     Ok(())
 }

@@ -6,7 +6,7 @@ use std::test::Fail;
 use std::thread::Threads;
 use ut_app::Status;
 use ut_checks::rows::{self, Row};
-use ut_checks::{Answers, LINES, script_line};
+use ut_checks::{Answers, LINES, answer_rows, refusal_rows, script_line, stage_rows};
 use ut_oracle::Oracle;
 use ut_outside::MemDisk;
 
@@ -61,7 +61,12 @@ fn each_table_of_rows_is_answered(rt: HostRuntime) -> Result<(), Fail> {
         rows::A_REFUSED_STATEMENT_LEAVES_ITS_TRANSACTION_OPEN,
         rows::THE_LEAST_TAKEN_ROW_IS_NAMED,
     ];
-    for table in tables {
+    for table in tables
+        .iter()
+        .chain(refusal_rows::TABLES)
+        .chain(answer_rows::TABLES)
+        .chain(stage_rows::TABLES)
+    {
         let mut disk = MemDisk::of(alloc, &[], &[])?;
         check_rows(&rt, alloc, RUN_NEW, table, &mut disk)?;
     }
@@ -78,7 +83,7 @@ fn each_store_of_rows_is_opened_again(rt: HostRuntime) -> Result<(), Fail> {
             rows::ALL_ROWS_STAND_IN_THE_FIRST_STAGE,
         ),
     ];
-    for (made, opened) in tables {
+    for (made, opened) in tables.iter().chain(stage_rows::OPENED_AGAIN) {
         let mut disk = MemDisk::of(alloc, &[], &[])?;
         check_rows(&rt, alloc, RUN_NEW, made, &mut disk)?;
         check_rows(&rt, alloc, RUN, opened, &mut disk)?;

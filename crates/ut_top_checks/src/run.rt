@@ -9,10 +9,58 @@ pub const RUN: &[&str] = &["ut", "run"];
 
 pub const RUN_NEW: &[&str] = &["ut", "run", "--new"];
 
+/// A script, its replies, and what its store answers to the question after none, one, two and more of its commits.
+#[derive(Clone, Copy)]
+pub struct Case {
+    pub script: &'static [u8],
+    pub replies: &'static [u8],
+    answers: &'static [&'static [u8]],
+}
+
 /// A table with one row.
 pub const SCRIPT: &[u8] = b"1 create T k:int v:text\n1 insert T 5 'a'\n1 select T *\n";
 
 pub const REPLIES: &[u8] = b"1 ok commit 1\n1 ok 1 commit 2\n1 rows 1\n5 'a'\n";
+
+pub const A_ROW: Case = Case {
+    script: SCRIPT,
+    replies: REPLIES,
+    answers: &[
+        b"1 refused name\n1 ok commit 1\n",
+        b"1 rows 0\n1 ok commit 2\n",
+        b"1 rows 1\n5 'a'\n1 ok commit 3\n",
+    ],
+};
+
+/// A load, a transaction that commits behind another session's, a merge meanwhile, and a delete.
+pub const CHANGES: Case = Case {
+    script: b"1 create T k:int v:text\n\
+        1 bulk T 1 'a' 2 'b'\n\
+        1 begin\n\
+        1 update T set v 'c' where k = 1\n\
+        2 insert T 3 'd'\n\
+        0 merge l1 T 1\n\
+        1 insert T 4 ''\n\
+        1 commit\n\
+        2 delete T where k = 2\n",
+    replies: b"1 ok commit 1\n\
+        1 ok 2 commit 2\n\
+        1 ok\n\
+        1 ok 1\n\
+        2 ok 1 commit 3\n\
+        0 ok 1\n\
+        1 ok 1\n\
+        1 ok commit 4\n\
+        2 ok 1 commit 5\n",
+    answers: &[
+        b"1 refused name\n1 ok commit 1\n",
+        b"1 rows 0\n1 ok commit 2\n",
+        b"1 rows 2\n1 'a'\n2 'b'\n1 ok commit 3\n",
+        b"1 rows 3\n1 'a'\n2 'b'\n3 'd'\n1 ok commit 4\n",
+        b"1 rows 4\n2 'b'\n1 'c'\n3 'd'\n4 ''\n1 ok commit 5\n",
+        b"1 rows 3\n1 'c'\n3 'd'\n4 ''\n1 ok commit 6\n",
+    ],
+};
 
 /// What a crash may make of what isn't synced.
 pub const TEARS: [Tear; 5] = [
@@ -23,15 +71,8 @@ pub const TEARS: [Tear; 5] = [
     Tear::Fill(0x33),
 ];
 
-/// Asks the script's store how many rows and commits it has.
+/// Asks a script's store for its rows and the number of its commits.
 const QUESTION: &[u8] = b"1 select T *\n1 create Z k:int\n";
-
-/// The answers of the script's store after 0, 1 and 2 commits.
-const ANSWERS: [&[u8]; 3] = [
-    b"1 refused name\n1 ok commit 1\n",
-    b"1 rows 0\n1 ok commit 2\n",
-    b"1 rows 1\n5 'a'\n1 ok commit 3\n",
-];
 
 /// The bytes that a source gives in one call.
 const PIECE: usize = 4096;
@@ -44,7 +85,7 @@ pub struct Ran {
     pub acks: AckList,
 }
 
-/// What a disk has of the script's store.
+/// What a disk has of a script's store.
 #[derive(Clone, Copy, Debug, PartialEq, Eq)]
 pub enum Left {
     NoStore,
@@ -80,23 +121,24 @@ pub fn run_between(
     })
 }
 
-/// Opens the store, and sees what there is of it.
+/// Opens the store of a script, and sees what there is of it.
 pub fn left_on(
     rt: &(impl Threads + Sync),
     alloc: Global,
+    case: Case,
     disk: &mut MemDisk,
 ) -> Result<Left, AllocError> {
     let ran = run_on(rt, alloc, RUN, QUESTION, disk)?;
     let left = match ran.status {
         Status::NoStore => Left::NoStore,
-        Status::Done => commits_told(&ran.replies),
+        Status::Done => commits_told(case, &ran.replies),
         _ => Left::Else,
     };
     Ok(left)
 }
 
-fn commits_told(replies: &[u8]) -> Left {
-    for (commits, answer) in ANSWERS.iter().enumerate() {
+fn commits_told(case: Case, replies: &[u8]) -> Left {
+    for (commits, answer) in case.answers.iter().enumerate() {
         if replies == *answer {
             return Left::Commits(commits as u64);
         }

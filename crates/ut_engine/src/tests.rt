@@ -1,0 +1,165 @@
+//! A small store, from its making to its opening again, and disks that have none.
+ghost use Rattle.std.specs.Prelude.{◌≡◌, ◌≤◌, Some, IfOk, IsTrue};
+ghost use Rattle.ut_outside.specs.Faults.{Rose};
+ghost use Rattle.ut_value.specs.Text.{is_name};
+ghost use Rattle.ut_plain.specs.Spelled.{is_spelled};
+
+use crate::{Engine, L1Error};
+use std::alloc::{AllocError, Global};
+use std::process::Abort;
+use std::test::Fail;
+use ut_logged::OpenError;
+use ut_outside::{Disk, MemDisk, Which};
+use ut_plain::{Reply, Statement};
+use ut_value::{Column, Kind, Name, Seq, Value, is_name};
+
+/// Ids enough.
+const IDS: u32 = 100;
+
+fn name(rt: &impl Abort, alloc: Global, bytes: &[u8]) -> Result<Name, AllocError>
+    ensures { IfOk result (λ name. IsTrue (is_name name)) }
+{
+    let bytes = Vec::from_slice(alloc, bytes)?;
+    assert!(rt; is_name(&bytes));
+    Ok(Name::of(bytes))
+}
+
+// The table T, with a column k of numbers, is made.
+fn create(rt: &impl Abort, alloc: Global) -> Result<Statement, AllocError>
+    ensures { IfOk result (λ st. IsTrue (is_spelled st)) }
+{
+    let column = name(rt, alloc, b"k")?;
+    let mut columns = Seq::new(alloc);
+    columns.push(Column {
+        name: column,
+        kind: Kind::Int,
+    })?;
+    let table = name(rt, alloc, b"T")?;
+    Ok(Statement::Create { table, columns })
+}
+
+// A row of a number is inserted.
+fn insert(rt: &impl Abort, alloc: Global, number: i64) -> Result<Statement, AllocError>
+    ensures { IfOk result (λ st. IsTrue (is_spelled st)) }
+{
+    let mut values = Seq::new(alloc);
+    values.push(Value::Int(number))?;
+    let table = name(rt, alloc, b"T")?;
+    Ok(Statement::Insert { table, values })
+}
+
+fn made(alloc: Global, disk: &mut MemDisk) -> Result<Engine<'_, MemDisk>, OpenError> {
+    match Engine::make(alloc, disk, IDS) {
+        Ok(engine) => Ok(engine),
+        Err(unopened) => Err(unopened.cause),
+    }
+}
+
+fn opened(alloc: Global, disk: &mut MemDisk) -> Result<Engine<'_, MemDisk>, OpenError> {
+    match Engine::open(alloc, disk, IDS) {
+        Ok(engine) => Ok(engine),
+        Err(unopened) => Err(unopened.cause),
+    }
+}
+
+// A store is made and left, or not: the caller knows what became of its disk.
+fn made_and_left<D: Disk>(alloc: Global, disk: &mut D) -> Result<(), OpenError>
+    ensures told { (D.view disk.new).told ≡ (D.view disk.old).told }
+    ensures later { (D.view disk.old).faults ≤ (D.view disk.new).faults }
+{
+    match Engine::make(alloc, disk, IDS) {
+        Ok(engine) => {
+            let _disk = engine.release();
+            Ok(())
+        }
+        Err(unopened) => Err(unopened.cause),
+    }
+}
+
+/// Makes the table, with two rows.
+fn fill(rt: &impl Abort, alloc: Global, engine: &mut Engine<'_, MemDisk>) -> Result<(), Fail> {
+    let statement = create(rt, alloc)?;
+    assert!(rt; !engine.down());
+    let reply = engine.statement(alloc, 1, &statement);
+    assert!(rt; matches!(reply, Reply::Committed(1)));
+    for number in [3, 4] {
+        let statement = insert(rt, alloc, number)?;
+        assert!(rt; !engine.down());
+        let reply = engine.statement(alloc, 1, &statement);
+        assert!(rt; matches!(reply, Reply::Changed { rows: 1, .. }));
+    }
+    assert_eq!(rt; engine.commits(), 3);
+    assert_eq!(rt; engine.journal_len(), 3);
+    assert_eq!(rt; engine.moment(), engine.disk().calls());
+    Ok(())
+}
+
+/// The rows of the table, and how many stand in each stage.
+fn check(
+    rt: &impl Abort,
+    alloc: Global,
+    engine: &Engine<'_, MemDisk>,
+    l1: u32,
+    l2: u32,
+) -> Result<(), Fail> {
+    assert!(rt; !engine.down());
+    assert_eq!(rt; engine.tables(), 1);
+    assert_eq!(rt; engine.table_name(0).as_slice(), b"T".as_slice());
+    assert_eq!(rt; engine.l1_len(0), l1);
+    assert_eq!(rt; engine.l2_len(0), l2);
+    let table = name(rt, alloc, b"T")?;
+    let mut ids = Vec::new(alloc);
+    if let Some(rows) = engine.rows(alloc, &table)? {
+        for row in rows.as_slice() {
+            ids.push(row.id)?;
+        }
+    }
+    assert_eq!(rt; ids.as_slice(), [1, 2].as_slice());
+    let other = name(rt, alloc, b"t")?;
+    assert!(rt; engine.rows(alloc, &other)?.is_none());
+    Ok(())
+}
+
+/// Moves a row to the second stage.
+fn merge(rt: &impl Abort, alloc: Global, engine: &mut Engine<'_, MemDisk>) -> Result<(), Fail> {
+    let table = name(rt, alloc, b"T")?;
+    let other = name(rt, alloc, b"t")?;
+    assert!(rt; !engine.down());
+    assert_eq!(rt; engine.merge_l1(alloc, &other, 1), Err(L1Error::Name));
+    assert_eq!(rt; engine.merge_l1(alloc, &table, 1), Ok(1));
+    let shape = engine.shape(alloc, &table)?;
+    assert!(rt; matches!(shape, Some(shape) if shape.l1 == 1 && shape.l2 == 1));
+    assert!(rt; engine.shape(alloc, &other)?.is_none());
+    Ok(())
+}
+
+#[test]
+fn a_store_is_made_and_opened_again(rt: HostRuntime) -> Result<(), Fail> {
+    let alloc = rt.alloc();
+    let mut disk = MemDisk::of(alloc, &[], &[])?;
+    let mut engine = made(alloc, &mut disk)?;
+    fill(&rt, alloc, &mut engine)?;
+    check(&rt, alloc, &engine, 2, 0)?;
+    merge(&rt, alloc, &mut engine)?;
+    check(&rt, alloc, &engine, 1, 1)?;
+    let disk = engine.release();
+    let engine = opened(alloc, disk)?;
+    check(&rt, alloc, &engine, 2, 0)?;
+    Ok(())
+}
+
+#[test]
+fn it_is_told_why_there_is_no_store(rt: HostRuntime) -> Result<(), Fail> {
+    let alloc = rt.alloc();
+    let mut disk = MemDisk::of(alloc, &[], &[])?;
+    assert!(rt; matches!(opened(alloc, &mut disk), Err(OpenError::NotMade)));
+    assert_eq!(rt; made_and_left(alloc, &mut disk), Ok(()));
+    assert_eq!(rt; made_and_left(alloc, &mut disk), Err(OpenError::Made));
+    let redo = disk.bytes(Which::Redo);
+    let mut cut = MemDisk::of(alloc, &redo[..0], disk.bytes(Which::Pages))?;
+    assert!(rt; matches!(opened(alloc, &mut cut), Err(OpenError::Damaged)));
+    let mut failing = MemDisk::of(alloc, &[], &[])?;
+    failing.fail_at(1)?;
+    assert_eq!(rt; made_and_left(alloc, &mut failing), Err(OpenError::Disk));
+    Ok(())
+}
