@@ -1,9 +1,14 @@
 //! The program, run on a script whose lines name what there isn't, or give values of other types.
 #![tactic(auto)]
 
+use std::io;
 use std::process::ExitCode;
+use ut_files::{RealDisk, StdSink, StdSource};
 use ut_program::program;
 
 fn main(rt: HostRuntime) -> ExitCode {
-    program(&rt)
+    let mut source = StdSource::new(rt.reader());
+    let mut sink = StdSink::new(io::writer(&rt));
+    let mut disk = RealDisk::new(&rt);
+    program(&rt, &mut source, &mut sink, &mut disk)
 }

@@ -1,4 +1,4 @@
-//! The program over a runtime: its words, its files and streams, and what it exits with.
+//! The program over a runtime: its words, and what it exits with.
 #![tactic(auto)]
 
 mod run;

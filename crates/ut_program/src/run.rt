@@ -1,25 +1,23 @@
-//! A run over the files of the working folder and the standard streams.
+//! A run with the words that the process is called with.
 use crate::status::{exit_of, text_of};
 use std::alloc::Global;
-use std::os::unix::fs::FileExt;
 use std::process::ExitCode;
-use std::rt::{Env, Files};
+use std::rt::Env;
 use std::thread::Threads;
 use std::{env, io};
 use ut_app::{Status, top};
-use ut_files::{RealDisk, StdSink, StdSource};
-use ut_outside::NoHook;
+use ut_outside::{Disk, NoHook, Sink, Source};
 
-/// Answers the script of the standard input over the store of the working folder, as the program's words say.
-pub fn program<R: AllocGlobal + Env + Files + Input + Print + Eprint + Threads + Sync>(
-    rt: &R,
-) -> ExitCode
-where
-    R::File: FileExt + Send,
-{
+/// Answers the script of the source over the store of the disk, as the process's words say, and gives what it exits with.
+pub fn program<S: Source, K: Sink<D>, D: Disk + Send>(
+    rt: &(impl AllocGlobal + Env + Eprint + Threads + Sync),
+    source: &mut S,
+    sink: &mut K,
+    disk: &mut D,
+) -> ExitCode {
     let alloc = rt.alloc();
     let status = match words_of(rt, alloc) {
-        Ok(words) => run(rt, alloc, &words),
+        Ok(words) => run(rt, alloc, &words, source, sink, disk),
         Err(status) => status,
     };
     if let Some(text) = text_of(status) {
@@ -28,7 +26,7 @@ where
     ExitCode::from(exit_of(status))
 }
 
-/// The words that the program is called with, its name first.
+/// The words that the process is called with, its name first.
 fn words_of<R: AllocGlobal + Env>(rt: &R, alloc: Global) -> Result<Vec<String>, Status> {
     let mut words = Vec::new(alloc);
     for word in env::args(rt).map_err(status_of)? {
@@ -44,28 +42,19 @@ fn status_of(error: io::Error) -> Status {
     }
 }
 
-/// Runs over the real files and streams.
-fn run<R: Files + Input + Print + Threads + Sync>(rt: &R, alloc: Global, words: &[String]) -> Status
-where
-    R::File: FileExt + Send,
-{
+fn run<S: Source, K: Sink<D>, D: Disk + Send>(
+    rt: &(impl Threads + Sync),
+    alloc: Global,
+    words: &[String],
+    source: &mut S,
+    sink: &mut K,
+    disk: &mut D,
+) -> Status {
     let mut texts = Vec::new(alloc);
     for word in words {
         if texts.push(word.as_str()).is_err() {
             return Status::Memory;
         }
     }
-    let mut source = StdSource::new(rt.reader());
-    let mut sink = StdSink::new(io::writer(rt));
-    let mut disk = RealDisk::new(rt);
-    top(
-        rt,
-        alloc,
-        &texts,
-        &mut source,
-        &mut sink,
-        &mut disk,
-        &NoHook,
-    )
-    .status
+    top(rt, alloc, &texts, source, sink, disk, &NoHook).status
 }
