@@ -128,7 +128,7 @@ fn merge(rt: &impl Abort, alloc: Global, engine: &mut Engine<'_, MemDisk>) -> Re
     assert_eq!(rt; engine.merge_l1(alloc, &other, 1), Err(L1Error::Name));
     assert_eq!(rt; engine.merge_l1(alloc, &table, 1), Ok(1));
     let shape = engine.shape(alloc, &table)?;
-    assert!(rt; matches!(shape, Some(shape) if shape.l1 == 1 && shape.l2 == 1));
+    assert!(rt; matches!(&shape, Some(shape) if shape.l1 == 1 && shape.l2 == 1));
     assert!(rt; engine.shape(alloc, &other)?.is_none());
     Ok(())
 }

@@ -97,12 +97,13 @@ fn a_closed_gate_ends_the_log(rt: HostRuntime) -> Result<(), Fail> {
 fn a_frame_of_a_wrong_length_is_damage(rt: HostRuntime) -> Result<(), Fail> {
     let alloc = rt.alloc();
     let disk = script_disk(&rt, alloc)?;
-    let (first, rest) = disk.bytes(Which::Redo).split_at(16);
-    assert!(rt; rest.len() > 4);
+    let bytes = disk.bytes(Which::Redo);
+    assert!(rt; bytes.len() > 20);
+    let (first, rest) = (&bytes[..16], &bytes[20..]);
     for len in [0u32, 24, 26, 30, 0x4000_0000, 0x4000_0001, u32::MAX] {
         let mut redo = Vec::from_slice(alloc, first)?;
         redo.extend_from_slice(&len.to_le_bytes())?;
-        redo.extend_from_slice(&rest[4..])?;
+        redo.extend_from_slice(rest)?;
         let status = opened(&rt, alloc, &redo, disk.bytes(Which::Pages))?;
         assert_eq!(rt; status, Status::Damaged, "a length of {len}");
     }
