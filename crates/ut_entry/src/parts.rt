@@ -21,7 +21,7 @@ pub(crate) fn read_text(alloc: Global, bytes: &[u8]) -> Result<Option<(Text, &[u
     if !is_text(text) {
         return Ok(None);
     }
-    let text = Text::of(Vec::from_slice(alloc, text)?);
+    let text = Text::from_slice(alloc, text)?;
     Ok(Some((text, rest)))
 }
 

@@ -157,7 +157,7 @@ pub fn read_text(alloc: Global, bytes: &[u8]) -> Result<Text, AllocError>
     ensures { IfOk result (λ text. text_of bytes.now ≡ Some text) }
 {
     let text = unquoted(alloc, bytes)?;
-    Ok(Text::of(text))
+    Text::from_slice(alloc, &text)
 }
 
 /// The text of a literal whose first quote was read, where these bytes are one.
@@ -166,7 +166,7 @@ pub fn text_of(alloc: Global, bytes: &[u8]) -> Result<Option<Text>, AllocError>
     ensures { IfOk result (λ o. o ≡ text_of bytes.now) }
 {
     if let Some(text) = plain_text(bytes) {
-        return Ok(Some(Text::of(Vec::from_slice(alloc, text)?)));
+        return Ok(Some(Text::from_slice(alloc, text)?));
     }
     if !is_text_literal(bytes) {
         return Ok(None);

@@ -28,11 +28,10 @@ fn column(rt: &impl Abort, alloc: Global, bytes: &[u8], kind: Kind) -> Result<Co
 fn row(rt: &impl Abort, alloc: Global, id: u32, number: i64, text: &[u8]) -> Result<Row, AllocError>
     ensures { IfOk result (λ r. r.id ≡ id) }
 {
-    let bytes = Vec::from_slice(alloc, text)?;
-    assert!(rt; is_text(&bytes));
+    assert!(rt; is_text(text));
     let mut values = Seq::new(alloc);
     values.push(Value::Int(number))?;
-    values.push(Value::Text(Text::of(bytes)))?;
+    values.push(Value::Text(Text::from_slice(alloc, text)?))?;
     Ok(Row { id, values })
 }
 

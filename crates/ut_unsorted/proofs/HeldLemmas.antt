@@ -1,58 +1,30 @@
--- The keys that a dictionary holds, one more or fewer, and in the other form.
-use Rattle.std.proofs.Common.{◌≡◌, ℕ, zero, suc, ◌<◌, ◌≤◌, ◌≢◌, Bool, true, false, cond, ◌||◌, List, [], ◌∷◌, ◌++◌, length, take, get_or, fold, Some, None, if◌then◌else◌, ltb, position, ap, sym, ◌∙◌, subst, arith, refl}
+-- The keys that a dictionary holds, one more, and in the other form.
+use Rattle.std.proofs.Common.{◌≡◌, ℕ, suc, ◌<◌, Bool, true, false, cond, ◌||◌, List, [], ◌∷◌, ◌++◌, length, get_or, fold, Some, None, if◌then◌else◌, ltb, position, ap, sym, ◌∙◌, subst, arith, refl}
 use Rattle.std.specs.List.{list_any, position_or_len, IsDistinct}
 use Rattle.std.proofs.lemmas.Map.Keys.{apart_from_distinct}
 use Rattle.std.specs.Cmp.Lexicographic.{nat_list_eq_equiv}
 use Rattle.std.proofs.lemmas.List.{append_assoc, append-nil, length-append, get_or_append_left}
 use Rattle.std.proofs.Math.Seq.{get_or-append_seam}
 use Rattle.ut_unsorted.specs.FirstSeen.{key_eq, note, first_seen}
-use Rattle.ut_unsorted.specs.HeldKeys.{AreShort, AreWords}
-use Rattle.std.proofs.Common.{Result, Ok, Err, OnOk, OnErr}
-use Rattle.ut_unsorted.proofs.FirstSeenLemmas.{same_key, absent-length}
-use Rattle.ut_unsorted.proofs.KeyLemmas.{short-note}
+use Rattle.ut_unsorted.proofs.FirstSeenLemmas.{absent-length}
 
-pub words-take : (n : ℕ) (xs : List (List ℕ)) → AreWords xs → AreWords (take n xs)
-words-take zero xs h = tt
-words-take (suc n) [] h = tt
-words-take (suc n) (x ∷ xs) h = (h.0, words-take n xs h.1)
-
-words-append : (xs : List (List ℕ)) (k : List ℕ) → AreWords xs → length k ≡ 8 → AreWords (xs ++ k ∷ [])
-words-append [] k h s = (s, tt)
-words-append (x ∷ xs) k h s = (h.0, words-append xs k h.1 s)
-
-pub words-note : (xs : List (List ℕ)) (k : List ℕ) → AreWords xs → length k ≡ 8 → AreWords (note xs k)
-words-note xs k h s = by (list_any (key_eq k) xs)
+-- a key that is found is not new
+pub note-found : (k : List ℕ) (ks : List (List ℕ)) (i : ℕ) → Some i ≡ position (key_eq k) ks → ks ≡ note ks k
+note-found k ks i e = by (list_any (key_eq k) ks) refl
   where
-    by : (b : Bool) → AreWords (if b then xs else xs ++ k ∷ [])
-    by true = h
-    by false = words-append xs k h s
+    at : list_any (key_eq k) ks ≡ false → position_or_len (key_eq k) ks ≡ length ks
+    at f = absent-length (key_eq k) ks f
 
--- words are short
-pub words-short : (xs : List (List ℕ)) → AreWords xs → AreShort xs
-words-short [] h = tt
-words-short (x ∷ xs) h = (omega (arith, h.0), words-short xs h.1)
-
--- a key of another length is no word
-pub no-word-any : (k : List ℕ) (xs : List (List ℕ)) → length k ≢ 8 → AreWords xs → list_any (key_eq k) xs ≡ false
-no-word-any k [] ne h = refl
-no-word-any k (x ∷ xs) ne h = by (no-word-any k xs ne h.1) (key_eq k x) refl
-  where
-    by : list_any (key_eq k) xs ≡ false → (b : Bool) → key_eq k x ≡ b → (key_eq k x || list_any (key_eq k) xs) ≡ false
-    by rec true e = absurd (ne (ap length (same_key k x e) ∙ h.0))
-    by rec false e = ap (λ b. b || list_any (key_eq k) xs) e ∙ rec
-
-pub no-word : (k : List ℕ) (xs : List (List ℕ)) → length k ≢ 8 → AreWords xs → position (key_eq k) xs ≡ None
-no-word k xs ne h = by (ltb (position_or_len (key_eq k) xs) (length xs)) refl
-  where
-    at : position_or_len (key_eq k) xs ≡ length xs
-    at = absent-length (key_eq k) xs (no-word-any k xs ne h)
-
-    by : (b : Bool) → ltb (position_or_len (key_eq k) xs) (length xs) ≡ b → cond b (Some (position_or_len (key_eq k) xs)) None ≡ None
-    by true e = absurd (omega (arith, at, grows e))
+    none : list_any (key_eq k) ks ≡ false → (b : Bool) → ltb (position_or_len (key_eq k) ks) (length ks) ≡ b → Some i ≡ cond b (Some (position_or_len (key_eq k) ks)) None → ks ≡ ks ++ k ∷ []
+    none f true g h = let p = at f in absurd (omega (arith, p, grows g))
       where
-        grows : ltb (position_or_len (key_eq k) xs) (length xs) ≡ true → position_or_len (key_eq k) xs < length xs
-        grows f = grind arith
-    by false e = refl
+        grows : ltb (position_or_len (key_eq k) ks) (length ks) ≡ true → position_or_len (key_eq k) ks < length ks
+        grows g = grind arith
+    none f false g h = cc
+
+    by : (b : Bool) → list_any (key_eq k) ks ≡ b → ks ≡ (if b then ks else ks ++ k ∷ [])
+    by true f = refl
+    by false f = none f (ltb (position_or_len (key_eq k) ks) (length ks)) refl e
 
 -- keys that differ are what is first seen of them
 fresh : (done : List (List ℕ)) (k : List ℕ) (rest : List (List ℕ)) → IsDistinct key_eq (done ++ k ∷ rest) → list_any (key_eq k) done ≡ false
@@ -77,12 +49,3 @@ distinct-fold done (k ∷ rest) h =
 
 pub distinct-first_seen : (ks : List (List ℕ)) → IsDistinct key_eq ks → first_seen ks ≡ ks
 distinct-first_seen ks h = distinct-fold [] ks h
-
--- after a key was asked for
-pub short-after : {C E : Type 0} (r : Result C E) (old new : List (List ℕ)) (k : List ℕ) → OnOk r (new ≡ note old k) → OnErr r (new ≡ old) → AreShort old → length k ≤ 255 → AreShort new
-short-after (Ok c) old new k ok err h s = subst AreShort (sym ok) (short-note old k h s)
-short-after (Err e) old new k ok err h s = subst AreShort (sym err) h
-
-pub words-after : {C E : Type 0} (r : Result C E) (old new : List (List ℕ)) (k : List ℕ) → OnOk r (new ≡ note old k) → OnErr r (new ≡ old) → AreWords old → length k ≡ 8 → AreWords new
-words-after (Ok c) old new k ok err h s = subst AreWords (sym ok) (words-note old k h s)
-words-after (Err e) old new k ok err h s = subst AreWords (sym err) h

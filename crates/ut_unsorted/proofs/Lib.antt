@@ -1,4 +1,3 @@
 pub mod FirstSeenLemmas
 pub mod HeldLemmas
-pub mod KeyLemmas
 pub mod PostingLemmas

@@ -1,3 +1,4 @@
 pub mod FirstSeen
+pub mod Hashed
 pub mod HeldKeys
 pub mod Posted

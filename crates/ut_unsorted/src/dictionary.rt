@@ -3,7 +3,8 @@ ghost use Rattle.std.specs.Prelude.{◌≡◌, ◌+◌, ◌^◌, ◌<◌, ◌≤
 ghost use Rattle.std.specs.List.{position_or_len};
 ghost use Rattle.ut_unsorted.specs.FirstSeen.{key_eq, note};
 
-use crate::held::{Held, intern_text, intern_word, text_code, texts_of, word_code, word_of};
+use crate::held::{Held, intern_text, intern_word, text_code, texts_of, word_code};
+use crate::key::Word;
 use indexmap::IndexSet;
 use std::alloc::{AllocError, Global};
 use std::marker::Model;
@@ -19,13 +20,11 @@ pub struct UnsortedDict {
 
 impl Model for UnsortedDict {
     ghost use Rattle.std.specs.Prelude.{List, ℕ};
-    ghost use Rattle.ut_unsorted.specs.HeldKeys.{held_keys, IsHeld};
+    ghost use Rattle.ut_unsorted.specs.HeldKeys.{held_keys};
 
     ghost Value = { List (List ℕ) };
 
     ghost view = { λ d. held_keys d.held };
-
-    ghost invariant = { λ d. IsHeld d.held };
 }
 
 impl UnsortedDict {
@@ -59,7 +58,7 @@ impl UnsortedDict {
         let alloc = self.alloc;
         let mut texts = match &mut self.held {
             Held::Texts(texts) => return intern_text(alloc, texts, key),
-            Held::Words(words) => match word_of(key) {
+            Held::Words(words) => match Word::of(key) {
                 Some(word) => return intern_word(words, word),
                 None => texts_of(alloc, words)?,
             },
@@ -87,7 +86,7 @@ impl UnsortedDict {
         ensures short { length result.now ≤ 255 }
     {
         match &self.held {
-            Held::Words(words) => &words.as_slice()[code as usize][..],
+            Held::Words(words) => words.as_slice()[code as usize].as_slice(),
             Held::Texts(texts) => texts.as_slice()[code as usize].as_slice(),
         }
     }

@@ -3,6 +3,7 @@
 
 mod dictionary;
 mod held;
+mod key;
 mod postings;
 
 pub use dictionary::UnsortedDict;

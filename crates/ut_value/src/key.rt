@@ -62,8 +62,7 @@ pub fn value_of(alloc: Global, kind: Kind, key: &[u8]) -> Result<Option<Value>, 
             if !is_text(key) {
                 return Ok(None);
             }
-            let bytes = Vec::from_slice(alloc, key)?;
-            Ok(Some(Value::Text(Text::of(bytes))))
+            Ok(Some(Value::Text(Text::from_slice(alloc, key)?)))
         }
     }
 }

@@ -33,7 +33,7 @@ pub struct Row {
 }
 
 impl Value {
-    /// A copy. Only a text takes memory.
+    /// A copy. Only a long text takes memory.
     pub fn copy(&self, alloc: Global) -> Result<Value, AllocError>
         ensures { IfOk result (λ v. v ≡ self.now) }
     {

@@ -1,23 +1,20 @@
-use Rattle.std.proofs.Common.{◌∙◌, ◌<◌, ◌≤◌, [], length, take, get_or, sym, ap, arith}
+use Rattle.std.proofs.Common.{◌∙◌, ◌<◌, ◌≤◌, length, take, get_or, sym, ap, arith}
 use Rattle.std.proofs.lemmas.List.{take_more, take_all}
 use Rattle.ut_unsorted.specs.FirstSeen.{note, first_seen}
-use Rattle.ut_unsorted.specs.HeldKeys.{texts_keys}
 use Rattle.ut_unsorted.proofs.FirstSeenLemmas.{first_seen-append}
 use Rattle.ut_unsorted.proofs.HeldLemmas.{distinct-first_seen}
-use Rattle.ut_unsorted.proofs.KeyLemmas.{keys-insert}
 use Rattle.ut_unsorted.proofs.held.texts_of.Goals as goal
 
 pub loop-word-preserved : goal.loop-word-preserved
 loop-word-preserved c =
     let words = c.as_slice-words.result.now in
     let i = c.loop-word.word-index in
-    let word = get_or words i [] in
+    let word = c.word-item.result in
     let lt : c.loop-word.word-index < length c.as_slice-words.result.now = omega arith in
-    ap texts_keys c.in_ok-insert_full.ensures.keys
-    ∙ keys-insert c.loop-word.texts.keys c.in_ok-from_slice.field-0
-    ∙ ap (note (texts_keys c.loop-word.texts.keys)) c.in_ok-from_slice.ensures.items
+    c.in_ok-insert_full.ensures.keys
+    ∙ ap (note c.loop-word.texts.keys) (c.in_ok-of.ensures ∙ c.as_slice.ensures.bytes)
     ∙ ap (λ ks. note ks word) c.loop-word.invariant
-    ∙ sym (ap first_seen (take_more words i [] lt) ∙ first_seen-append (take i words) word)
+    ∙ sym (ap first_seen (take_more words i word lt) ∙ first_seen-append (take i words) (get_or words i word) ∙ ap (note (first_seen (take i words))) (sym c.word-item.is))
 
 pub returns : goal.returns
 returns c =

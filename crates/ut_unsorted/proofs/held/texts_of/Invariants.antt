@@ -1,7 +1,6 @@
 use Rattle.std.proofs.Common.{◌≡◌, take}
 use Rattle.ut_unsorted.specs.FirstSeen.{first_seen}
-use Rattle.ut_unsorted.specs.HeldKeys.{texts_keys}
 use Rattle.ut_unsorted.proofs.held.texts_of.Given as goal
 
 abbrev pub invariant-loop-word : goal.invariant-loop-word
-invariant-loop-word l = texts_keys l.texts.keys ≡ first_seen (take l.word-index l.words)
+invariant-loop-word l = l.texts.keys ≡ first_seen (take l.word-index l.words)
