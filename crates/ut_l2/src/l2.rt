@@ -1,5 +1,5 @@
 //! The list of rows.
-ghost use Rattle.std.specs.Prelude.{◌≡◌, ◌+◌, ◌^◌, ◌<◌, ◌≤◌, ◌++◌, [], ◌∷◌, List, ℕ, length, map, get_or, slice_index_or, vec_len, vec_capacity, All, IfOk, OnOk, OnErr};
+ghost use Rattle.std.specs.Prelude.{◌≡◌, ◌+◌, ◌^◌, ◌<◌, ◌≤◌, ◌++◌, [], ◌∷◌, List, ℕ, length, map, take, get_or, slice_index_or, vec_len, vec_capacity, All, IfOk, OnOk, OnErr};
 ghost use Rattle.ut_l2.specs.KeyRows.{KeyRow, keyed};
 ghost use Rattle.ut_key.specs.Keys.{meets};
 ghost use Rattle.ut_unsorted.specs.FirstSeen.{key_eq, first_seen};
@@ -14,6 +14,9 @@ use std::sync::ledger::Ledger;
 use ut_key::{Cmp, Key, Steps};
 use ut_unsorted::UnsortedDict;
 use ut_value::Row;
+
+/// So many rows at a time go into one column after the other, while their values are at hand in the processor's cache.
+const PIECE: usize = 256;
 
 /// Rows, held column by column.
 #[derive(Drop)]
@@ -58,6 +61,45 @@ fn append_from(columns: &mut Vec<Column>, first: usize, rows: &[Row]) -> Result<
     }
 }
 
+/// Keeps the first n cells of the columns from `first` on.
+fn cut_from(columns: &mut Vec<Column>, first: usize, n: u32)
+    requires first { first ≤ length columns.old.items }
+    requires long { (j : ℕ) → first ≤ j → j < length columns.old.items → n ≤ length (get_or columns.old.items j []) }
+    ensures width { length columns.new.items ≡ length columns.old.items }
+    ensures earlier { (j : ℕ) → j < first → get_or columns.new.items j [] ≡ get_or columns.old.items j [] }
+    ensures cut { (j : ℕ) → first ≤ j → j < length columns.old.items → get_or columns.new.items j [] ≡ take n (get_or columns.old.items j []) }
+{
+    if first == columns.len() {
+        return;
+    }
+    columns[first].cut(n);
+    cut_from(columns, first + 1, n);
+}
+
+/// Appends the rows' values to columns of n cells each, some rows at a time: to each column or to none.
+fn append_pieces(columns: &mut Vec<Column>, n: u32, rows: &[Row]) -> Result<(), AllocError>
+    requires wide { All (λ r. length r.values ≡ length columns.old.items) rows.now }
+    requires equal { (j : ℕ) → j < length columns.old.items → length (get_or columns.old.items j []) ≡ n }
+    requires count { n + length rows.now ≤ 2 ^ 31 }
+    ensures width { length columns.new.items ≡ length columns.old.items }
+    ensures ok { OnOk result ((j : ℕ) → j < length columns.old.items → get_or columns.new.items j [] ≡ get_or columns.old.items j [] ++ map (cell j) rows.now) }
+    ensures err { OnErr result (columns.new.items ≡ columns.old.items) }
+{
+    let mut rest = rows;
+    while rest.len() > 0 {
+        let (piece, others) = rest.split_at(PIECE.min(rest.len()));
+        match append_from(columns, 0, piece) {
+            Ok(()) => {}
+            Err(failed) => {
+                cut_from(columns, 0, n);
+                return Err(failed);
+            }
+        }
+        rest = others;
+    }
+    Ok(())
+}
+
 /// Appends the rows' ids.
 fn append_ids(ids: &mut Vec<u32>, rows: &[Row])
     requires { vec_len ids.old + length rows.now ≤ vec_capacity ids.old }
@@ -91,8 +133,9 @@ impl L2 {
         ensures ok { OnOk result (self.new.rows ≡ self.old.rows ++ map keyed rows.now) }
         ensures err { OnErr result (self.new.rows ≡ self.old.rows) }
     {
+        let before = self.len();
         self.ids.reserve(rows.len())?;
-        append_from(&mut self.columns, 0, rows)?;
+        append_pieces(&mut self.columns, before, rows)?;
         append_ids(&mut self.ids, rows);
         Ok(())
     }

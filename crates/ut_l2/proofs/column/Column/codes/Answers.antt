@@ -1,4 +1,4 @@
-use Rattle.std.proofs.Common.{◌≡◌, ℕ, ◌<◌, ◌∙◌, List, [], length, get_or, sym, ap, subst, arith}
+use Rattle.std.proofs.Common.{◌≡◌, ◌<◌, ◌∙◌, length, get_or, sym, ap, subst, arith}
 use Rattle.ut_unsorted.specs.FirstSeen.{first_seen}
 use Rattle.ut_l2.specs.Cells.{cells_of}
 use Rattle.ut_l2.proofs.ColumnLemmas.{code-key}

@@ -1,4 +1,4 @@
-use Rattle.std.proofs.Common.{◌≡◌, ◌∙◌, ◌++◌, ◌∷◌, [], length, get_or, sym, ap, subst}
+use Rattle.std.proofs.Common.{◌∙◌, [], length, get_or, sym, ap, subst}
 use Rattle.std.proofs.lemmas.Bool.{eqb-true, eqb-false}
 use Rattle.ut_unsorted.specs.Posted.{places_at}
 use Rattle.ut_l2.specs.Cells.{cells_of, IsColumn}
