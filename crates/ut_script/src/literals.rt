@@ -156,8 +156,9 @@ pub fn read_text(alloc: Global, bytes: &[u8]) -> Result<Text, AllocError>
     requires { is_some (text_of bytes.now) ≡ true }
     ensures { IfOk result (λ text. text_of bytes.now ≡ Some text) }
 {
-    let text = unquoted(alloc, bytes)?;
-    Text::from_slice(alloc, &text)
+    let bytes = unquoted(alloc, bytes)?;
+    let text = Text::from_slice(alloc, &bytes)?;
+    Ok(text)
 }
 
 /// The text of a literal whose first quote was read, where these bytes are one.
