@@ -58,10 +58,12 @@ impl UnsortedDict {
         let alloc = self.alloc;
         let mut texts = match &mut self.held {
             Held::Texts(texts) => return intern_text(alloc, texts, key),
-            Held::Words(words) => match Word::of(key) {
-                Some(word) => return intern_word(words, word),
-                None => texts_of(alloc, words)?,
-            },
+            Held::Words(words) => {
+                if key.len() == 8 {
+                    return intern_word(words, Word::of(key));
+                }
+                texts_of(alloc, words)?
+            }
         };
         let code = intern_text(alloc, &mut texts, key)?;
         self.held = Held::Texts(texts);

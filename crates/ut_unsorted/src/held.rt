@@ -14,9 +14,6 @@ pub enum Held {
     Texts(IndexSet<Text>),
 }
 
-/// Keys up to this length are held without an allocation of their own.
-const INLINE: usize = 24;
-
 /// The place of a word, which goes last where it is new.
 pub fn intern_word(words: &mut IndexSet<Word>, word: Word) -> Result<u32, AllocError>
     requires { length words.old.keys < 2 ^ 31 }
@@ -36,11 +33,8 @@ pub fn intern_text(alloc: Global, texts: &mut IndexSet<Text>, key: &[u8]) -> Res
     ensures keys { OnOk result (texts.new.keys ≡ note texts.old.keys key.now) }
     ensures err { OnErr result (texts.new.keys ≡ texts.old.keys) }
 {
-    // A long key takes memory only where it is new.
-    if key.len() > INLINE {
-        if let Some(code) = text_code(texts, key) {
-            return Ok(code);
-        }
+    if let Some(code) = text_code(texts, key) {
+        return Ok(code);
     }
     let text = Text::of(alloc, key)?;
     let (code, _) = texts.insert_full(text)?;

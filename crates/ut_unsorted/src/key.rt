@@ -1,5 +1,5 @@
 //! The keys that a dictionary holds and looks up. A hasher is fed all the bytes of a key at once.
-ghost use Rattle.std.specs.Prelude.{◌≡◌, ◌≢◌, ◌≤◌, length, IfOk, IsOk, MatchOption};
+ghost use Rattle.std.specs.Prelude.{◌≡◌, ◌≤◌, length, IfOk};
 ghost use Rattle.std.specs.Cmp.{partial_equiv_from_equiv};
 ghost use Rattle.std.specs.Cmp.Lexicographic.{nat_list_eq_equiv};
 ghost use Rattle.ut_unsorted.specs.FirstSeen.{key_eq};
@@ -26,16 +26,17 @@ impl Model for Word {
 }
 
 impl Word {
-    /// A key as a word, where it has eight bytes.
-    pub fn of(key: &[u8]) -> Option<Self>
-        ensures { MatchOption result (length key.now ≢ 8) (λ word. (word ≡ key.now) × (length key.now ≡ 8)) }
+    /// A key of eight bytes as a word.
+    pub fn of(key: &[u8]) -> Self
+        requires { length key.now ≡ 8 }
+        ensures { result ≡ key.now }
     {
-        if key.len() != 8 {
-            return None;
+        match key {
+            [a, b, c, d, e, f, g, h] => Word {
+                bytes: [*a, *b, *c, *d, *e, *f, *g, *h],
+            },
+            _ => unreachable!(),
         }
-        let mut bytes = [0; 8];
-        bytes.copy_from_slice(key);
-        Some(Word { bytes })
     }
 
     /// The bytes.
