@@ -21,7 +21,11 @@ pub fn intern_word(words: &mut IndexSet<Word>, word: Word) -> Result<u32, AllocE
     ensures keys { OnOk result (words.new.keys ≡ note words.old.keys word) }
     ensures err { OnErr result (words.new.keys ≡ words.old.keys) }
 {
-    let (code, _) = words.insert_full(word)?;
+    if let Some(code) = words.get_index_of(&word) {
+        return Ok(code as u32);
+    }
+    let code = words.as_slice().len();
+    words.insert_full(word)?;
     Ok(code as u32)
 }
 
@@ -36,8 +40,8 @@ pub fn intern_text(alloc: Global, texts: &mut IndexSet<Text>, key: &[u8]) -> Res
     if let Some(code) = text_code(texts, key) {
         return Ok(code);
     }
-    let text = Text::of(alloc, key)?;
-    let (code, _) = texts.insert_full(text)?;
+    let code = texts.as_slice().len();
+    texts.insert_full(Text::of(alloc, key)?)?;
     Ok(code as u32)
 }
 
