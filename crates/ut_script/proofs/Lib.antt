@@ -14,3 +14,4 @@ pub mod Examples
 pub mod NumberLaws
 pub mod ValueLaws
 pub mod SpelledLaws
+pub mod QuotedLemmas

@@ -1,10 +1,10 @@
 -- Each statement that a line says is one that a line can spell.
-use Rattle.std.proofs.Common.{ℕ, ◌≡◌, ◌<◌, ◌^◌, Bool, true, false, cond, ◌&&◌, List, [], ◌∷◌, length, take, drop, Option, None, Some, refl, arith, ℤ, pos, negsuc}
+use Rattle.std.proofs.Common.{ℕ, ◌≡◌, Bool, true, false, cond, ◌&&◌, List, [], ◌∷◌, length, take, drop, Option, None, Some, refl, arith, pos, negsuc}
 use Rattle.std.proofs.lemmas.Grind.{common_steps}
-use Rattle.std.specs.Prelude.{nat_eq, nat_le, nat_lt, codes, option_and_then, is_some}
+use Rattle.std.specs.Prelude.{nat_eq, nat_le, nat_lt, codes, option_and_then}
 use Rattle.std.specs.Option.{option_map}
 use Rattle.std.specs.List.{list_all}
-use Rattle.ut_value.specs.Text.{same_bytes, is_name, is_text}
+use Rattle.ut_value.specs.Text.{same_bytes, is_name}
 use Rattle.ut_value.specs.KeyBytes.{is_value}
 use Rattle.ut_value.specs.Spelling.{is_count, is_column}
 use Rattle.ut_value.specs.declared.value.Value.{Value}
@@ -16,8 +16,8 @@ use Rattle.ut_plain.specs.declared.statement.Query.TheVariants as queries
 use Rattle.ut_plain.specs.declared.statement.Statement.{Statement}
 use Rattle.ut_plain.specs.declared.statement.Statement.TheVariants as statements
 use Rattle.ut_plain.specs.declared.statement.Parsed.{Parsed}
-use Rattle.ut_plain.specs.declared.statement.Parsed.TheVariants.{Comment, Stranger, Bad, Good}
-use Rattle.ut_plain.specs.Spelled.{are_some_values, are_preds, are_names, is_query, is_spelled}
+use Rattle.ut_plain.specs.declared.statement.Parsed.TheVariants.{Comment}
+use Rattle.ut_plain.specs.Spelled.{are_some_values, are_preds, are_names, is_spelled}
 use Rattle.ut_plain.specs.Laws.{is_spelled_line}
 use Rattle.ut_key.specs.declared.comparison.Cmp.{Cmp}
 use Rattle.ut_script.specs.Words.{all_of, words_of}
@@ -25,7 +25,7 @@ use Rattle.ut_script.specs.Literals.{number_of, within, value_of, column_of, col
 use Rattle.ut_script.specs.Conditions.{operator_of, comparison_of, comparison_with, onto_comparisons, comparisons_of, conditions_of}
 use Rattle.ut_script.specs.Statements.{create_with, create_of, some_values, values_of, rows_of, is_where, names_before, from_where, select_with, columns_of_all, columns_named, columns_asked, select_of, chosen_of, folded_of, group_of, join_of, update_with, update_of, query_of, alone, transaction_verb, table_statement_of, alone_or, session_statement_of, count_of, merge_kind_of, merge_l1_of, merge_begin_of, save_step_of, save_of, merge_end_of, merge_of, shape_of, said_or, store_statement_of}
 use Rattle.ut_script.specs.Grammar.{session_of, statement_of, said_by, line_with, line_of, parsed}
-use Rattle.ut_script.specs.Spellings.{FitsValue, SpellsValues}
+use Rattle.ut_script.specs.Spellings.{FitsValue}
 use Rattle.ut_script.proofs.ValueLaws.{spells_values}
 
 -- whether an answer passes a test, where there is one

@@ -1,6 +1,8 @@
 //! The words of a line: a space parts words where no quote is open.
-ghost use Rattle.std.specs.Prelude.{◌≡◌, ◌<◌, ◌≤◌, ◌∷◌, [], false, length, IfSome, IfNone};
+ghost use Rattle.std.specs.Prelude.{◌≡◌, ◌+◌, ◌<◌, ◌≤◌, ◌∷◌, [], false, true, drop, length, IfSome, IfNone};
 ghost use Rattle.ut_script.specs.Words.{words_of, piece_len, BeginsWord};
+
+use memchr::memchr;
 
 const SPACE: u8 = b' ';
 
@@ -42,14 +44,27 @@ fn piece_len(bytes: &[u8]) -> usize
     ensures value { result ≡ piece_len false bytes.now }
     ensures within { result ≤ length bytes.now }
 {
-    let mut inside = false;
-    for (i, b) in bytes.iter().enumerate() {
-        if *b == SPACE && !inside {
-            return i;
+    let mut at = 0;
+    while at < bytes.len() {
+        let b = bytes[at];
+        if b == SPACE {
+            return at;
         }
-        if *b == QUOTE {
-            inside = !inside;
+        at += 1;
+        if b == QUOTE {
+            at += quoted_len(&bytes[at..]);
         }
     }
-    bytes.len()
+    at
+}
+
+/// How many bytes behind a quote are inside of it, the next quote included.
+fn quoted_len(bytes: &[u8]) -> usize
+    ensures value { piece_len true bytes.now ≡ result + piece_len false (drop result bytes.now) }
+    ensures within { result ≤ length bytes.now }
+{
+    match memchr(QUOTE, bytes) {
+        Some(quote) => quote + 1,
+        None => bytes.len(),
+    }
 }
