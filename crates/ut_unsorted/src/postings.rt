@@ -9,7 +9,7 @@ use std::marker::Model;
 /// The places of each code, in the order in which they were added.
 #[derive(Drop)]
 pub struct Postings {
-    lists: Vec<SmallVec<u32, 2>>,
+    lists: Vec<SmallVec<u32, 4>>,
     alloc: Global,
 }
 
