@@ -1,12 +1,12 @@
 //! The limits that a statement keeps to.
-ghost use Rattle.std.specs.Prelude.{◌≡◌, ◌+◌, ◌<◌, ◌++◌, length, nat_le, IfSome, IfNone};
+ghost use Rattle.std.specs.Prelude.{◌≡◌, ◌+◌, ◌<◌, ◌++◌, ◌||◌, length, nat_eq, nat_le, nat_lt, IfSome, IfNone};
 ghost use Rattle.std.specs.List.{sum_by};
 ghost use Rattle.ut_value.specs.declared.entry.Op.{Op};
 ghost use Rattle.ut_value.specs.declared.entry.Entry.TheVariants.{Txn};
 ghost use Rattle.ut_value.specs.Spelling.{value_len, op_len, ops_len, entry_len};
 ghost use Rattle.ut_plain.specs.Rows.{op_inserts, inserts_of};
 ghost use Rattle.ut_plain.specs.View.{view, own_ops};
-ghost use Rattle.ut_plain.specs.Limits.{has_journal_room, has_ids, has_ops_room};
+ghost use Rattle.ut_plain.specs.Limits.{has_ops_room};
 ghost use Rattle.ut_oracle.specs.Store.{plain_of};
 
 use crate::held::Held;
@@ -20,18 +20,16 @@ const MAX_ENTRIES: usize = 1073741823;
 const MAX_OPS_LEN: u32 = 1073741819;
 
 /// Whether the journal may have one more entry.
-pub fn has_journal_room(held: &Held, session: u8) -> bool
-    ensures { result ≡ has_journal_room (view (plain_of held.now) session) }
+pub fn has_journal_room(held: &Held) -> bool
+    ensures { result ≡ nat_lt (length held.now.entries.items) 1073741823 }
 {
-    let _session = session;
     held.entries.len() < MAX_ENTRIES
 }
 
 /// Whether there are ids for so many rows.
-pub fn has_ids(held: &Held, session: u8, rows: usize) -> bool
-    ensures { result ≡ has_ids (view (plain_of held.now) session) rows }
+pub fn has_ids(held: &Held, rows: usize) -> bool
+    ensures { result ≡ (nat_eq rows 0 || nat_le (held.now.next_id + rows) (held.now.rows_limit + 1)) }
 {
-    let _session = session;
     let end = u64::from(held.rows_limit) + 1;
     let next = u64::from(held.next_id);
     let fits = next <= end && rows as u64 <= end - next;
@@ -146,8 +144,8 @@ pub fn has_ops_room(held: &Held, session: u8, ops: &[Op]) -> bool
         return true;
     }
     let own = held.own(session);
-    let ids = has_ids(held, session, inserts_of(ops));
+    let ids = has_ids(held, inserts_of(ops));
     let bytes = has_entry_room(own, ops);
-    let entry = own.is_some() || has_journal_room(held, session);
+    let entry = own.is_some() || has_journal_room(held);
     ids && bytes && entry
 }

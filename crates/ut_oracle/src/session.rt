@@ -28,7 +28,7 @@ pub fn create(
     requires { Allowed (plain_of held.now) sight.now session (Statement.Create table.now columns.now) }
     ensures { IfOk result (λ out. Gives (step (plain_of held.now) session (Statement.Create table.now columns.now)) out.reply (plain_of out.held)) }
 {
-    if sight.tables.len() >= MAX_TABLES || !has_journal_room(held, session) {
+    if sight.tables.len() >= MAX_TABLES || !has_journal_room(held) {
         return refused(alloc, held, Refusal::Full);
     }
     created(alloc, held, sight.commits, table, columns)
@@ -106,7 +106,7 @@ pub fn commit(alloc: Global, held: &Held, sight: &Known, session: u8) -> Result<
     match held.own(session) {
         None => stays(alloc, held, Reply::Done),
         Some(own) => {
-            if own.ops.len() > 0 && !has_journal_room(held, session) {
+            if own.ops.len() > 0 && !has_journal_room(held) {
                 return refused(alloc, held, Refusal::Full);
             }
             committed_by(alloc, held, sight.commits, session, &own.ops)

@@ -65,7 +65,7 @@ pub fn bulk(
 {
     let width = columns_in(sight.tables.as_slice(), table.as_slice()).len();
     let rows = made::row_count(width, values.as_slice());
-    if !has_ids(held, session, rows) {
+    if !has_ids(held, rows) {
         let out = refused(alloc, held, Refusal::Full)?;
         return Ok(out);
     }
@@ -103,7 +103,7 @@ pub fn update(
         table.as_slice(),
         preds.as_slice(),
     )?;
-    if !has_ids(held, session, hits.len()) {
+    if !has_ids(held, hits.len()) {
         let out = refused(alloc, held, Refusal::Full)?;
         return Ok(out);
     }
