@@ -15,17 +15,17 @@ const REFUSED_ROWS: Lines = &[
     "1 select T *",
 ];
 
-/// A load of texts in a transaction that is committed, and rows that move.
+/// A load of texts in a transaction that is committed, and rows that move. A text of more than 24 bytes takes an allocation.
 const A_LOAD_IN_A_TRANSACTION: Lines = &[
     "1 create T k:int v:text",
     "1 insert T 1 'one'",
     "1 begin",
-    "1 bulk T 2 'two' 3 'it''s' 4 ''",
+    "1 bulk T 2 'two, spelled in more than a few letters' 3 'it''s long, and has a quote in it' 4 ''",
     "1 insert T 5 'five'",
     "2 select T *",
     "0 merge l1 T 1",
-    "1 update T set v 'new' where k = 3",
-    "1 select T * where v <> 'two'",
+    "1 update T set v 'new, and no shorter than it was' where k = 3",
+    "1 select T * where v <> 'two, spelled in more than a few letters'",
     "1 commit",
     "0 merge l1 T 10",
     "0 shape T",
