@@ -1,4 +1,4 @@
-//! The algorithms of `crates/ut_speed` in plain Rust, to compare times with:
+//! The algorithms of `crates/bench_codes` in plain Rust, to compare times with:
 //! `baseline codes keys`. Both programs write the same lines to standard output.
 use std::time::Instant;
 

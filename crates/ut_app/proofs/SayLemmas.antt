@@ -17,7 +17,8 @@ use Rattle.ut_plain.specs.Journal.{Journal, journal_len, prefix}
 use Rattle.ut_plain.specs.Plain.{Plain, open_at}
 use Rattle.ut_plain.specs.View.{view}
 use Rattle.ut_plain.specs.Refusals.{refusal}
-use Rattle.ut_plain.specs.Step.{step, step_by, effect_of, committed, committed_by, said_changed, said_alone, MayAnswer, Steps, LacksMemory, may_lack_memory}
+use Rattle.ut_plain.specs.declared.stage.PendingMerge.{PendingMerge}
+use Rattle.ut_plain.specs.Step.{merge_ended, step, step_by, effect_of, committed, committed_by, said_changed, said_alone, MayAnswer, Steps, LacksMemory, may_lack_memory}
 use Rattle.ut_plain.specs.Transcript.{Answer, AnswersLine}
 use Rattle.ut_script.specs.Texts.{reply_text, is_small}
 use Rattle.ut_script.specs.Statements.{needs_memory}
@@ -71,6 +72,10 @@ never : {A : Type 0} (b : Bool) → b ≡ true → b ≡ false → A
 never true h k = cc
 never false h k = cc
 
+merge_small : (p : Plain) (pending : Option PendingMerge) → is_small (merge_ended p pending).reply ≡ true
+merge_small p None = refl
+merge_small p (Some m) = refl
+
 long_effect : (p : Plain) (session : ℕ) (st : Statement) → is_small (effect_of p session st).reply ≡ false → IsLong p st (effect_of p session st).plain
 long_effect p session (statements.Create a b) h = cc
 long_effect p session (statements.Insert a b) h = never (is_small (effect_of p session (statements.Insert a b)).reply) (changed_small (view p session).own (view p session).commits 1) h
@@ -83,7 +88,7 @@ long_effect p session statements.Commit h = never (is_small (committed p session
 long_effect p session statements.Abort h = cc
 long_effect p session (statements.MergeL1 a b) h = cc
 long_effect p session (statements.MergeBegin a b) h = cc
-long_effect p session statements.MergeEnd h = cc
+long_effect p session statements.MergeEnd h = never (is_small (merge_ended p p.pending).reply) (merge_small p p.pending) h
 long_effect p session statements.SaveBegin h = cc
 long_effect p session (statements.SaveStep n) h = cc
 long_effect p session statements.SaveSeal h = cc

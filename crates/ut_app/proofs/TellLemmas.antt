@@ -10,12 +10,14 @@ use Rattle.ut_plain.specs.declared.statement.Statement.TheVariants as statements
 use Rattle.ut_plain.specs.declared.transaction.OpenTransaction.{OpenTransaction}
 use Rattle.ut_plain.specs.declared.reply.Reply.{Reply}
 use Rattle.ut_plain.specs.declared.reply.Refusal.{Refusal}
-use Rattle.ut_plain.specs.Journal.{Journal, journal_len}
+use Rattle.ut_plain.specs.Journal.{Journal, journal_len, current}
 use Rattle.ut_plain.specs.Plain.{Plain, open_at}
 use Rattle.ut_plain.specs.View.{view}
 use Rattle.ut_plain.specs.Refusals.{refusal}
 use Rattle.ut_plain.specs.Made.{made}
-use Rattle.ut_plain.specs.Step.{step, step_by, effect_of, with_txn, with_made, committed, committed_by, MayAnswer, Steps, LacksMemory}
+use Rattle.ut_plain.specs.declared.stage.PendingMerge.{PendingMerge}
+use Rattle.ut_plain.specs.Tables.{place_in}
+use Rattle.ut_plain.specs.Step.{merge_ended, step, step_by, effect_of, with_txn, with_made, committed, committed_by, MayAnswer, Steps, LacksMemory}
 use Rattle.ut_plain.specs.Transcript.{Answer, AnswersLine, Answers, Transcript, Whole, Cut, Faults}
 use Rattle.ut_script.specs.Lines.{lines_of}
 use Rattle.ut_script.specs.Grammar.{parsed}
@@ -77,6 +79,10 @@ ended_on : (p : Plain) (session : ℕ) (t : Option OpenTransaction) → GoesOn p
 ended_on p session None = goes_nowhere p.journal
 ended_on p session (Some t) = commit_on p session t.ops
 
+merge_on : (p : Plain) (pending : Option PendingMerge) → GoesOn p.journal (merge_ended p pending).plain.journal
+merge_on p None = goes_nowhere p.journal
+merge_on p (Some m) = record { more = entries.Ended m.number ∷ []; is = refl }
+
 effect_on : (p : Plain) (session : ℕ) (st : Statement) → GoesOn p.journal (effect_of p session st).plain.journal
 effect_on p session (statements.Create name columns) = record { more = entries.Create name columns ∷ []; is = refl }
 effect_on p session (statements.Insert a b) = made_on p session (view p session).own (made (view p session).tables (view p session).rows (view p session).next_id (statements.Insert a b))
@@ -88,8 +94,8 @@ effect_on p session statements.Begin = goes_nowhere p.journal
 effect_on p session statements.Commit = ended_on p session (open_at p.sessions session)
 effect_on p session statements.Abort = goes_nowhere p.journal
 effect_on p session (statements.MergeL1 a b) = goes_nowhere p.journal
-effect_on p session (statements.MergeBegin a b) = goes_nowhere p.journal
-effect_on p session statements.MergeEnd = goes_nowhere p.journal
+effect_on p session (statements.MergeBegin a b) = record { more = entries.Begun ((current p.journal).merges + 1) (place_in (current p.journal).tables a) b ∷ []; is = refl }
+effect_on p session statements.MergeEnd = merge_on p p.pending
 effect_on p session statements.SaveBegin = goes_nowhere p.journal
 effect_on p session (statements.SaveStep n) = goes_nowhere p.journal
 effect_on p session statements.SaveSeal = goes_nowhere p.journal

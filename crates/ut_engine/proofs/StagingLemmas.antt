@@ -14,7 +14,8 @@ use Rattle.ut_plain.specs.declared.reply.Refusal.TheVariants as refusals
 use Rattle.ut_plain.specs.Journal.{journal_len, current}
 use Rattle.ut_plain.specs.Names.{has_table}
 use Rattle.ut_plain.specs.Plain.{Plain}
-use Rattle.ut_plain.specs.Refusals.{state_why, unless, or_else, refusal}
+use Rattle.ut_plain.specs.declared.stage.PendingMerge.{PendingMerge}
+use Rattle.ut_plain.specs.Refusals.{state_why, merge_why, unless, or_else, refusal}
 use Rattle.ut_plain.specs.Step.{step, step_by, may_lack_memory, MayAnswer, Steps, LacksMemory}
 use Rattle.ut_plain.specs.View as views
 use Rattle.ut_logged.specs.Logged.{Logged}
@@ -40,16 +41,24 @@ no_why-shape : (is_open : Bool) (name : List ℕ) → state_why is_open (stateme
 no_why-shape true name = refl
 no_why-shape false name = refl
 
-unknown_or-none : (there : Bool) (why : Option Refusal) → why ≡ None → or_else (unless there refusals.Name) (or_else why None) ≡ unless there refusals.Name
-unknown_or-none there why none = ap (λ a. or_else (unless there refusals.Name) (or_else a None)) none ∙ or_none (unless there refusals.Name)
+no_merge_why-merge : (pending : Option PendingMerge) (name : List ℕ) (n : ℕ) → merge_why pending (statements.MergeL1 name n) ≡ None
+no_merge_why-merge None name n = refl
+no_merge_why-merge (Some m) name n = refl
+
+no_merge_why-shape : (pending : Option PendingMerge) (name : List ℕ) → merge_why pending (statements.Shape name) ≡ None
+no_merge_why-shape None name = refl
+no_merge_why-shape (Some m) name = refl
+
+unknown_or-none : (there : Bool) (why also : Option Refusal) → why ≡ None → also ≡ None → or_else (unless there refusals.Name) (or_else why (or_else also None)) ≡ unless there refusals.Name
+unknown_or-none there why also none empty = (λ i. or_else (unless there refusals.Name) (or_else (none i) (or_else (empty i) None))) ∙ or_none (unless there refusals.Name)
 
 -- the one refusal, memory left aside, is that of a table that isn't there
 refusal-stages : (v : views.View) (st : Statement) (name : List ℕ) → table_meant st ≡ Some name → refusal v st ≡ unless (has_table v.tables name) refusals.Name
 refusal-stages v (statements.MergeL1 table n) name is =
-    unknown_or-none (has_table v.tables table) (option_map refusals.State (state_why (is_some v.own) (statements.MergeL1 table n))) (ap (option_map refusals.State) (no_why-merge (is_some v.own) table n))
+    unknown_or-none (has_table v.tables table) (option_map refusals.State (state_why (is_some v.own) (statements.MergeL1 table n))) (option_map refusals.State (merge_why v.pending (statements.MergeL1 table n))) (ap (option_map refusals.State) (no_why-merge (is_some v.own) table n)) (ap (option_map refusals.State) (no_merge_why-merge v.pending table n))
     ∙ ap (λ (o : Option (List ℕ)). unless (has_table v.tables (unwrap_or o table)) refusals.Name) is
 refusal-stages v (statements.Shape table) name is =
-    unknown_or-none (has_table v.tables table) (option_map refusals.State (state_why (is_some v.own) (statements.Shape table))) (ap (option_map refusals.State) (no_why-shape (is_some v.own) table))
+    unknown_or-none (has_table v.tables table) (option_map refusals.State (state_why (is_some v.own) (statements.Shape table))) (option_map refusals.State (merge_why v.pending (statements.Shape table))) (ap (option_map refusals.State) (no_why-shape (is_some v.own) table)) (ap (option_map refusals.State) (no_merge_why-shape v.pending table))
     ∙ ap (λ (o : Option (List ℕ)). unless (has_table v.tables (unwrap_or o table)) refusals.Name) is
 refusal-stages v (statements.Create other columns) name is = cc
 refusal-stages v (statements.Insert other values) name is = cc

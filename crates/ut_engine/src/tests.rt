@@ -136,7 +136,7 @@ fn merge(rt: &impl Abort, alloc: Global, engine: &mut Engine<'_, MemDisk>) -> Re
 #[test]
 fn a_store_is_made_and_opened_again(rt: HostRuntime) -> Result<(), Fail> {
     let alloc = rt.alloc();
-    let mut disk = MemDisk::of(alloc, &[], &[])?;
+    let mut disk = MemDisk::of(alloc, &[], &[], &[])?;
     let mut engine = made(alloc, &mut disk)?;
     fill(&rt, alloc, &mut engine)?;
     check(&rt, alloc, &engine, 2, 0)?;
@@ -151,14 +151,14 @@ fn a_store_is_made_and_opened_again(rt: HostRuntime) -> Result<(), Fail> {
 #[test]
 fn it_is_told_why_there_is_no_store(rt: HostRuntime) -> Result<(), Fail> {
     let alloc = rt.alloc();
-    let mut disk = MemDisk::of(alloc, &[], &[])?;
+    let mut disk = MemDisk::of(alloc, &[], &[], &[])?;
     assert!(rt; matches!(opened(alloc, &mut disk), Err(OpenError::NotMade)));
     assert_eq!(rt; made_and_left(alloc, &mut disk), Ok(()));
     assert_eq!(rt; made_and_left(alloc, &mut disk), Err(OpenError::Made));
     let redo = disk.bytes(Which::Redo);
-    let mut cut = MemDisk::of(alloc, &redo[..0], disk.bytes(Which::Pages))?;
+    let mut cut = MemDisk::of(alloc, &redo[..0], &[], disk.bytes(Which::Pages))?;
     assert!(rt; matches!(opened(alloc, &mut cut), Err(OpenError::Damaged)));
-    let mut failing = MemDisk::of(alloc, &[], &[])?;
+    let mut failing = MemDisk::of(alloc, &[], &[], &[])?;
     failing.fail_at(1)?;
     assert_eq!(rt; made_and_left(alloc, &mut failing), Err(OpenError::Disk));
     Ok(())

@@ -80,6 +80,7 @@ fn merge_kind_of(byte: u8) -> Option<MergeKind>
         0 => Some(MergeKind::Classic),
         1 => Some(MergeKind::Resort),
         2 => Some(MergeKind::Partial),
+        3 => Some(MergeKind::Extend),
         _ => None,
     }
 }

@@ -133,6 +133,7 @@ fn merge_kind_byte(kind: MergeKind) -> u8
         MergeKind::Classic => 0,
         MergeKind::Resort => 1,
         MergeKind::Partial => 2,
+        MergeKind::Extend => 3,
     }
 }
 

@@ -19,6 +19,8 @@ may_open p h base = record {
   load = let load = h.load in let last = h.last in omega arith;
   staged = ap (λ (s : State). length s.tables) (sym base);
   places = omega arith;
+  mains = λ n. record { parts = omega arith; few = omega arith };
+  rest = λ n. record { closed = refl; keep = refl };
 }
 
 pub may_open_new : MayOpen [] empty_journal

@@ -17,7 +17,8 @@ use Rattle.ut_plain.specs.Plain.{Plain, open_at}
 use Rattle.ut_plain.specs.View.{view}
 use Rattle.ut_plain.specs.Query.{told}
 use Rattle.ut_plain.specs.Refusals.{refusal}
-use Rattle.ut_plain.specs.Step.{step, step_by, effect_of, said_alone, said_changed, committed, committed_by, MayAnswer, Steps, LacksMemory}
+use Rattle.ut_plain.specs.declared.stage.PendingMerge.{PendingMerge}
+use Rattle.ut_plain.specs.Step.{step, step_by, effect_of, merge_ended, said_alone, said_changed, committed, committed_by, MayAnswer, Steps, LacksMemory}
 use Rattle.ut_plain.proofs.JournalLaws.{journal_len-appended}
 
 alone_sound : (commits rows : ℕ) → said_alone commits rows ≡ DiskFault → ⊥
@@ -45,6 +46,10 @@ committed_sound : (p : Plain) (session : ℕ) (own : Option OpenTransaction) →
 committed_sound p session None e = cc
 committed_sound p session (Some t) e = committed_by_sound p session t.ops e
 
+ended_sound : (p : Plain) (pending : Option PendingMerge) → (merge_ended p pending).reply ≡ DiskFault → ⊥
+ended_sound p None e = cc
+ended_sound p (Some m) e = cc
+
 effect_sound : (p : Plain) (session : ℕ) (st : Statement) → (effect_of p session st).reply ≡ DiskFault → ⊥
 effect_sound p session (statements.Create name columns) e = cc
 effect_sound p session (statements.Insert name values) e = changed_sound (view p session).own _ _ e
@@ -57,7 +62,7 @@ effect_sound p session statements.Commit e = committed_sound p session (open_at 
 effect_sound p session statements.Abort e = cc
 effect_sound p session (statements.MergeL1 name n) e = cc
 effect_sound p session (statements.MergeBegin name kind) e = cc
-effect_sound p session statements.MergeEnd e = cc
+effect_sound p session statements.MergeEnd e = ended_sound p p.pending e
 effect_sound p session statements.SaveBegin e = cc
 effect_sound p session (statements.SaveStep n) e = cc
 effect_sound p session statements.SaveSeal e = cc

@@ -5,6 +5,7 @@ use Rattle.ut_plain.specs.declared.table.Table.{Table}
 use Rattle.ut_plain.specs.declared.table.Stored.{Stored}
 use Rattle.ut_exact.specs.Stamped.{Stamped}
 use Rattle.ut_exact.specs.Exact.{with_row}
+use Rattle.ut_stamps.specs.declared.visibility.Stamp.{Stamp}
 use Rattle.ut_exact.specs.Places.{StagedRow, is_dead, stamped_in, AreHeld, Pushed}
 use Rattle.ut_exact.proofs.PlaceLemmas.{AreHeld-pushed, AreHeld-dead}
 use Rattle.ut_exact.proofs.FateLemmas.{other_number}
@@ -44,9 +45,9 @@ begins x false e = ap (λ d. is_dead (stamp_of d)) e
 pushed : (staged : List Staged) (x : Slot) → x.table < length staged → Pushed (place_at staged) (place_at (entered_in staged x)) x.table (L1 (length (staged_at staged x.table).l1)) (staged_row x)
 pushed staged x h = pushed_l1 staged x.table (staged_at staged x.table) (staged_row x) (there staged x.table h)
 
-AreHeld-entered : (staged : List Staged) (held : ℕ → Option Stamped) (x : Slot) (b : Bool) → x.dead ≡ b → x.table < length staged → (x.dead ≡ false → held x.row.id ≡ None) → AreHeld (place_at staged) held → AreHeld (place_at (entered_in staged x)) (held_with b held x)
-AreHeld-entered staged held x true e h free a = AreHeld-dead (place_at staged) (place_at (entered_in staged x)) held x.table (L1 (length (staged_at staged x.table).l1)) (staged_row x) (begins x true e) a (pushed staged x h)
-AreHeld-entered staged held x false e h free a = AreHeld-pushed (place_at staged) (place_at (entered_in staged x)) held x.table (L1 (length (staged_at staged x.table).l1)) (staged_row x) (free e) a (pushed staged x h) (begins x false e)
+AreHeld-entered : (gone : Stamp → Type 0) (staged : List Staged) (held : ℕ → Option Stamped) (x : Slot) (b : Bool) → x.dead ≡ b → x.table < length staged → (x.dead ≡ false → held x.row.id ≡ None) → AreHeld (place_at staged) gone held → AreHeld (place_at (entered_in staged x)) gone (held_with b held x)
+AreHeld-entered gone staged held x true e h free a = AreHeld-dead (place_at staged) (place_at (entered_in staged x)) gone held x.table (L1 (length (staged_at staged x.table).l1)) (staged_row x) (begins x true e) a (pushed staged x h)
+AreHeld-entered gone staged held x false e h free a = AreHeld-pushed (place_at staged) (place_at (entered_in staged x)) gone held x.table (L1 (length (staged_at staged x.table).l1)) (staged_row x) (free e) a (pushed staged x h) (begins x false e)
 
 -- no two rows that are somebody's have one id
 pub record AreOnce (xs : List Slot) : Type 0 where
@@ -66,14 +67,14 @@ free_behind held x xs false e o free i y at lives = other_row held x.row.id y.ro
     first : (i : ℕ) → zero ≡ suc i → ⊥
     first i e = omega arith
 
-AreHeld-from : (staged : List Staged) (held : ℕ → Option Stamped) (xs : List Slot) → ((i : ℕ) (x : Slot) → slice_get xs i ≡ Some x → x.table < length staged) → ((i : ℕ) (x : Slot) → slice_get xs i ≡ Some x → x.dead ≡ false → held x.row.id ≡ None)
-    → AreOnce xs → AreHeld (place_at staged) held → AreHeld (place_at (staged_from staged xs)) (held_from held xs)
-AreHeld-from staged held [] below free o a = a
-AreHeld-from staged held (x ∷ xs) below free o a =
-    AreHeld-from (entered_in staged x) (held_with x.dead held x) xs
+AreHeld-from : (gone : Stamp → Type 0) (staged : List Staged) (held : ℕ → Option Stamped) (xs : List Slot) → ((i : ℕ) (x : Slot) → slice_get xs i ≡ Some x → x.table < length staged) → ((i : ℕ) (x : Slot) → slice_get xs i ≡ Some x → x.dead ≡ false → held x.row.id ≡ None)
+    → AreOnce xs → AreHeld (place_at staged) gone held → AreHeld (place_at (staged_from staged xs)) gone (held_from held xs)
+AreHeld-from gone staged held [] below free o a = a
+AreHeld-from gone staged held (x ∷ xs) below free o a =
+    AreHeld-from gone (entered_in staged x) (held_with x.dead held x) xs
     (λ i y at. subst (λ n. y.table < n) (sym (length-set staged x.table (entered_l1 (staged_row x) (staged_at staged x.table)))) (below (suc i) y at))
     (free_behind held x xs x.dead refl o free) (AreOnce-rest x xs o)
-    (AreHeld-entered staged held x x.dead refl (below 0 x refl) (free 0 x refl) a)
+    (AreHeld-entered gone staged held x x.dead refl (below 0 x refl) (free 0 x refl) a)
 
 -- nobody stands in tables without rows
 nobody : (tables : List Table) (n : ℕ) (p : Place) (row : StagedRow) → place_at (no_staged tables) n p ≡ Some row → ⊥
@@ -82,8 +83,8 @@ nobody (t ∷ tables) zero (L1 i) row h = cc
 nobody (t ∷ tables) zero (L2 i) row h = cc
 nobody (t ∷ tables) (suc n) p row h = nobody tables n p row h
 
-AreHeld-none : (tables : List Table) → AreHeld (place_at (no_staged tables)) (λ id. None)
-AreHeld-none tables = record {
+AreHeld-none : (gone : Stamp → Type 0) (tables : List Table) → AreHeld (place_at (no_staged tables)) gone (λ id. None)
+AreHeld-none gone tables = record {
   each = λ n p row is lives. absurd (nobody tables n p row is);
   only = λ id x is. no x is;
   once = λ n m p q row other is js lives lived same. absurd (nobody tables n p row is);
@@ -142,11 +143,11 @@ module _ (tables : List Table) (xs : List Slot) (places : Places) (sound : IsSou
       ∙ ap (λ d. Some (record { stored = stored_of f.0; stamp = stamp_of d })) f.2
       ∙ sym (ap (λ o. option_map before_all (option_map stored_of o)) f.1)
 
-  pub AreHeld-sound : (below : (i : ℕ) (x : Slot) → slice_get xs i ≡ Some x → x.table < length (no_staged tables)) (rows : ℕ → Option Stored) → ((id : ℕ) → rows id ≡ row_in xs (places id)) → AreHeld (place_at (staged_from (no_staged tables) xs)) (λ id. option_map before_all (rows id))
-  AreHeld-sound below rows is = same_held (λ id. held-is id (places id) refl ∙ ap (option_map before_all) (sym (is id)))
-      (AreHeld-from (no_staged tables) (λ id. None) xs below (λ i x at lives. refl) AreOnce-sound (AreHeld-none tables))
+  pub AreHeld-sound : (gone : Stamp → Type 0) (below : (i : ℕ) (x : Slot) → slice_get xs i ≡ Some x → x.table < length (no_staged tables)) (rows : ℕ → Option Stored) → ((id : ℕ) → rows id ≡ row_in xs (places id)) → AreHeld (place_at (staged_from (no_staged tables) xs)) gone (λ id. option_map before_all (rows id))
+  AreHeld-sound gone below rows is = same_held (λ id. held-is id (places id) refl ∙ ap (option_map before_all) (sym (is id)))
+      (AreHeld-from gone (no_staged tables) (λ id. None) xs below (λ i x at lives. refl) AreOnce-sound (AreHeld-none gone tables))
     where
-      same_held : {P : Type 0} {at : ℕ → P → Option StagedRow} {f g : ℕ → Option Stamped} → ((id : ℕ) → f id ≡ g id) → AreHeld at f → AreHeld at g
+      same_held : {P : Type 0} {at : ℕ → P → Option StagedRow} {f g : ℕ → Option Stamped} → ((id : ℕ) → f id ≡ g id) → AreHeld at gone f → AreHeld at gone g
       same_held e h = record {
         each = λ n p row at lives. sym (e row.id) ∙ h.each n p row at lives;
         only = λ id x at. h.only id x (e id ∙ at);

@@ -21,6 +21,11 @@ use Rattle.ut_stamps.specs.Stamps.{fate_at, counts}
 use Rattle.ut_exact.specs.Stamped.{Stamped}
 use Rattle.ut_exact.specs.Exact.{IsExact, AreOpen, shown_by, ended_by, is_later}
 use Rattle.ut_exact.specs.Work.{AreFree}
+use Rattle.ut_plain.specs.declared.stage.TableStages.{TableStages}
+use Rattle.ut_plain.specs.Stages.{stages_at}
+use Rattle.std.specs.Option.{option_and_then}
+use Rattle.ut_exact.specs.Dropped.{kept_at}
+use Rattle.ut_exact.specs.Gone.{IsGone}
 use Rattle.ut_exact.specs.Places.{dead_number, AreHeld}
 use Rattle.ut_table.specs.Staged.{no_rows}
 use Rattle.ut_txn.specs.Seats.{Seat, AreEmpty, number_at}
@@ -111,6 +116,12 @@ open_first held numbers j opening = record {
   known = λ t runs. none_runs t runs;
 }
 
+nothing_kept : {A : Type 0} (t : TableStages) (g i : ℕ) → t.keep ≡ [] → kept_at t g i ≡ Some false → A
+nothing_kept t g i none flag = no (sym (ap (λ (k : List (List Bool)). option_and_then (λ (flags : List Bool). slice_get flags i) (slice_get k g)) none) ∙ flag)
+  where
+    no : {B : Type 0} → None ≡ Some false → B
+    no h = cc
+
 -- ---- all of it
 
 module _ (es : List Entry) (limit : ℕ) (r : Replay) (e : Held) (few : length es ≤ 1073741824) (small : limit ≤ 2147483648) (read : Replayed es r) (built : Rebuilt r limit e) where
@@ -122,6 +133,8 @@ module _ (es : List Entry) (limit : ℕ) (r : Replay) (e : Held) (few : length e
     load = omega (arith, read.load, read.sound.slots.few, finmap.len-empty nat_cmp Stored);
     staged = refl;
     places = omega arith;
+    mains = λ n. record { parts = omega arith; few = omega arith };
+    rest = λ n. record { closed = refl; keep = refl };
   }
 
   plain : IsPlain (opened_store [] (journal_of es) limit)
@@ -150,8 +163,9 @@ module _ (es : List Entry) (limit : ℕ) (r : Replay) (e : Held) (few : length e
   rows : AreRows e (opened_store [] (journal_of es) limit)
   rows = record {
     held = λ id. option_map before_all (finmap.get (current (journal_of es)).rows id);
-    places = subst (λ staged. AreHeld (place_at staged) (λ id. option_map before_all (finmap.get (current (journal_of es)).rows id))) (sym built.is.has_rows)
-        (AreHeld-sound r.tables.items r.slots.list.items (place_in r.slots.places) read.sound.slots below (finmap.get (current (journal_of es)).rows) read.agrees.rows.row);
+    places = subst (λ staged. AreHeld (place_at staged) (IsGone e.fates no_sessions) (λ id. option_map before_all (finmap.get (current (journal_of es)).rows id))) (sym built.is.has_rows)
+        (AreHeld-sound r.tables.items r.slots.list.items (place_in r.slots.places) read.sound.slots (IsGone e.fates no_sessions) below (finmap.get (current (journal_of es)).rows) read.agrees.rows.row);
+    dropped = record { each = λ n g i place at flag. nothing_kept (stages_at (opened_store [] (journal_of es) limit).stages n) g i (plain.merges n).keep flag };
     free = subst (AreFree (λ id. option_map before_all (finmap.get (current (journal_of es)).rows id))) (sym (built.is.has_next ∙ next_is)) free;
     exact = subst (λ fs. IsExact fs (λ id. option_map before_all (finmap.get (current (journal_of es)).rows id)) (journal_of es) (journal_len (journal_of es))) (sym fates_are) (exact (journal_of es));
     transactions = subst (λ fs. AreOpen fs (λ id. option_map before_all (finmap.get (current (journal_of es)).rows id)) no_sessions (number_at e.seats) (journal_of es) (journal_len (journal_of es))) (sym fates_are)

@@ -155,6 +155,7 @@ merge_kind_of word =
     if same_bytes word (codes "classic") then Some merges.Classic
     else if same_bytes word (codes "resort") then Some merges.Resort
     else if same_bytes word (codes "partial") then Some merges.Partial
+    else if same_bytes word (codes "extend") then Some merges.Extend
     else None
 
 abbrev pub merge_l1_of : List (List ℕ) → Option Statement

@@ -177,6 +177,8 @@ fn merge_kind_of(word: &[u8]) -> Option<MergeKind>
         Some(MergeKind::Resort)
     } else if same_bytes(word, b"partial") {
         Some(MergeKind::Partial)
+    } else if same_bytes(word, b"extend") {
+        Some(MergeKind::Extend)
     } else {
         None
     }

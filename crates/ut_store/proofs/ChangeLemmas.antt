@@ -31,10 +31,15 @@ use Rattle.ut_table.specs.Staged.{Staged}
 use Rattle.ut_txn.specs.declared.opened.Opened.{Opened}
 use Rattle.ut_txn.specs.Seats.{Seat, opened_at, payload_at, number_at, SeatSet, SeatsStay}
 use Rattle.ut_store.specs.declared.turn.Turn.TheVariants.{Answered, Append}
-use Rattle.ut_store.specs.Held.{Held}
+use Rattle.ut_store.specs.Held.{Held, place_at}
 use Rattle.ut_store.specs.Stands.{StandsFor, AreCounts}
 use Rattle.ut_store.specs.Answers.{Answer, Answers}
 use Rattle.ut_store.specs.Allowed.{IsRefused}
+use Rattle.ut_plain.proofs.MainLemmas.{same-with_inserts}
+use Rattle.ut_exact.specs.Gone.{IsGone}
+use Rattle.ut_exact.proofs.GoneLemmas.{gone-started, gone-ended, gone-alone, gone-changed, gone-closed}
+use Rattle.ut_exact.proofs.PlaceLemmas.{AreHeld-gone}
+use Rattle.ut_exact.proofs.DroppedLemmas.{AreDropped-gone, AreDropped-same, AreDropped-applied}
 use Rattle.ut_store.specs.Staging.{Staging}
 use Rattle.ut_store.proofs.SeatLemmas.{AreSeats-set, numbers-set, seats-stay, numbers-stay}
 use Rattle.ut_store.proofs.StandsLemmas.{answer_by, IsOpenOn, By, open_on, number_is, no_payload, dead_set, dead_pushed, renumbered}
@@ -83,7 +88,11 @@ changed_inside e staged seats frame session st o os rows some small spelled h is
         (bytes t.ops (s.seats.payloads session small ∙ ap (λ x. spelling (entries.Txn (own_ops x))) own)) set s.seats)
         (record {
           held = held;
-          places = staging.places s.rows.held s.rows.free s.rows.places;
+          places = AreHeld-gone (place_at staged) (IsGone e.fates p.sessions) (IsGone e.fates (slice_set p.sessions session (Some new))) held (λ x. gone-changed e.fates p.sessions x session t new inside own refl)
+              (staging.places e.fates p.sessions s.rows.held s.rows.free s.rows.places);
+          dropped = AreDropped-same p.stages (with_inserts (is_bulk st) p.stages os) (IsGone e.fates (slice_set p.sessions session (Some new))) held (same-with_inserts (is_bulk st) p.stages os)
+              (AreDropped-gone p.stages (IsGone e.fates p.sessions) (IsGone e.fates (slice_set p.sessions session (Some new))) held (λ x. gone-changed e.fates p.sessions x session t new inside own refl)
+              (AreDropped-applied p.stages e.fates p.sessions o.snapshot o.number e.next_id s.rows.held os mine.running s.rows.free (fits p s) s.rows.dropped));
           free = w.free;
           exact = w.exact;
           transactions = AreOpen-renumbered e.fates held (slice_set p.sessions session (Some new)) (number_at e.seats) (number_at seats) p.journal p.opening (λ r u g. same_number r) changed_sessions;
@@ -166,7 +175,11 @@ changed_alone e staged seats frame session st op rest rows small spelled h close
         (seats-stay e.seats seats p.sessions stay s.seats)
         (record {
           held = held;
-          places = staging.places s.rows.held s.rows.free s.rows.places;
+          places = staging.places now p.sessions s.rows.held s.rows.free (AreHeld-gone (place_at e.staged) (IsGone e.fates p.sessions) (IsGone now p.sessions) s.rows.held (λ x. gone-alone e.fates p.sessions x (Committed (e.entries + 1))) s.rows.places);
+          dropped = AreDropped-same p.stages (with_inserts (is_bulk st) p.stages (op ∷ rest)) (IsGone now p.sessions) held (same-with_inserts (is_bulk st) p.stages (op ∷ rest))
+              (AreDropped-gone p.stages (IsGone fates p.sessions) (IsGone now p.sessions) held (λ x. gone-ended fates p.sessions x n (Committed (e.entries + 1)) (fate-push_new e.fates Running))
+              (AreDropped-applied p.stages fates p.sessions e.entries n e.next_id s.rows.held (op ∷ rest) (fate-push_new e.fates Running) s.rows.free (fits p s)
+              (AreDropped-gone p.stages (IsGone e.fates p.sessions) (IsGone fates p.sessions) s.rows.held (λ x. gone-started e.fates p.sessions x) s.rows.dropped)));
           free = w.free;
           exact = subst (λ m. IsExact (slice_set fates n (Committed (m + 1))) held (appended p.journal entry) p.opening) (sym length_is)
               (IsExact-commit fates held p.journal p.opening n (op ∷ rest) s.plain.opened.1 w.own w.exact);
@@ -204,7 +217,10 @@ committed_something e seats frame session o some small h is has frame_is set = r
         (AreSeats-set e.seats seats p.sessions session None no_payload None some small s.plain.seats refl refl set s.seats)
         (record {
           held = s.rows.held;
-          places = s.rows.places;
+          places = AreHeld-gone (place_at e.staged) (IsGone e.fates p.sessions) (IsGone now (slice_set p.sessions session None)) s.rows.held
+              (λ x g. gone-ended e.fates (slice_set p.sessions session None) x o.number (Committed (e.entries + 1)) mine.running (gone-closed e.fates p.sessions x session inside g)) s.rows.places;
+          dropped = AreDropped-gone p.stages (IsGone e.fates p.sessions) (IsGone now (slice_set p.sessions session None)) s.rows.held
+              (λ x g. gone-ended e.fates (slice_set p.sessions session None) x o.number (Committed (e.entries + 1)) mine.running (gone-closed e.fates p.sessions x session inside g)) s.rows.dropped;
           free = s.rows.free;
           exact = subst (λ m. IsExact (slice_set e.fates o.number (Committed (m + 1))) s.rows.held (appended p.journal entry) p.opening) (sym s.counts.entries)
               (IsExact-commit e.fates s.rows.held p.journal p.opening o.number (op ∷ rest) s.plain.opened.1 mine s.rows.exact);

@@ -1,5 +1,5 @@
 -- What a scan of the store finds is what the plain store finds.
-use Rattle.std.proofs.Common.{ℕ, ◌<◌, ◌≡◌, Bool, T, true, false, ◌||◌, cond, List, [], ◌∷◌, filter, Some, refl, sym, ap, ◌∙◌, arith, nat_eq, slice_get, unwrap_or, true≢false}
+use Rattle.std.proofs.Common.{ℕ, ◌<◌, ◌≤◌, ◌≡◌, Bool, T, true, false, ◌||◌, cond, List, [], ◌∷◌, filter, None, Some, refl, sym, ap, ◌∙◌, subst, arith, nat_eq, slice_get, unwrap_or, true≢false}
 use Rattle.std.specs.Option.{option_map}
 use Rattle.std.specs.List as lists
 use Rattle.std.specs.Ordering.{nat_cmp, is_lt}
@@ -16,7 +16,8 @@ use Rattle.ut_plain.specs.Condition.{found}
 use Rattle.ut_plain.specs.Tables.{place_in, columns_in}
 use Rattle.ut_plain.specs.Refusals.{first_taken}
 use Rattle.ut_stamps.specs.declared.fates.Fate.TheVariants.{Running}
-use Rattle.ut_stamps.specs.Stamps.{fate_at, is_own, is_committed_by, is_taken}
+use Rattle.ut_stamps.specs.declared.visibility.Stamp.{Stamp}
+use Rattle.ut_stamps.specs.Stamps.{fate_at, is_own, is_committed_by, is_taken, sees}
 use Rattle.ut_scan.specs.declared.place.Place.{Place}
 use Rattle.ut_exact.specs.Exact.{ended_by, may_take}
 use Rattle.ut_exact.specs.Places.{StagedRow, dead_number, is_dead, stamped_in}
@@ -29,9 +30,11 @@ use Rattle.ut_table.specs.Staged.{Staged}
 use Rattle.ut_txn.specs.declared.opened.Opened.{Opened}
 use Rattle.ut_txn.specs.Seats.{number_at}
 use Rattle.ut_store.specs.Held.{Held, place_at}
-use Rattle.ut_store.specs.Stands.{StandsFor}
+use Rattle.ut_store.specs.Stands.{StandsFor, opened_snapshot}
 use Rattle.ut_store.specs.Reads.{looks_at, own_at, counts_for}
 use Rattle.ut_store.specs.Hits.{Hits, stamp_in, first_taken_of, plain_rows}
+use Rattle.ut_exact.specs.Gone.{IsGone}
+use Rattle.ut_exact.proofs.GoneLemmas.{gone_unseen}
 use Rattle.ut_store.specs.Staging.{AreFound}
 use Rattle.ut_store.proofs.ReadLemmas.{reads, SameSession, Closed, Open, same_session}
 use Rattle.ut_store.proofs.StageLemmas.{here}
@@ -53,6 +56,27 @@ dead_never e p session s = by (same_session e p session s.seats)
         ap (λ x. is_own (option_map (λ (y : Opened). y.number) x) dead_number || is_committed_by (fate_at e.fates dead_number) (looks_at e session)) seat
         ∙ (λ i. apart i || committed (looks_at e session) i)
 
+-- and so are rows that are gone
+pub gone_never : (e : Held) (p : Plain) (session : ℕ) → StandsFor e p → (stamp : Stamp) → IsGone e.fates p.sessions stamp → sees e.fates (looks_at e session) (own_at e session) stamp ≡ false
+gone_never e p session s stamp g = by (same_session e p session s.seats)
+  where
+    by : SameSession e p session (open_at p.sessions session) → sees e.fates (looks_at e session) (own_at e session) stamp ≡ false
+    by (Closed own seat) =
+        gone_unseen e.fates p.sessions stamp (looks_at e session) (own_at e session) (λ u h. absurd (nobody u (sym (ap (λ x. option_map (λ (o : Opened). o.number) x) seat) ∙ h)))
+        (λ b c t is behind le. let within = s.rows.exact.within t c is in omega (arith, within, s.counts.entries, ap (λ x. unwrap_or (opened_snapshot x) e.entries) seat)) g
+      where
+        nobody : (u : ℕ) → None ≡ Some u → ⊥
+        nobody u h = cc
+    by (Open t o own seat same) =
+        let number : number_at e.seats session ≡ o.number = ap (λ x. unwrap_or (option_map (λ (y : Opened). y.number) x) 0) seat in
+        let looks : looks_at e session ≡ t.snapshot = ap (λ x. unwrap_or (opened_snapshot x) e.entries) seat ∙ same in
+        gone_unseen e.fates p.sessions stamp (looks_at e session) (own_at e session)
+        (λ u h. ap (fate_at e.fates) (inside u o.number (sym h ∙ ap (λ x. option_map (λ (y : Opened). y.number) x) seat) ∙ sym number) ∙ (s.rows.transactions.own session t own).running)
+        (λ b c u is behind le. subst (λ k. c ≤ k) (sym looks) (behind session t own (subst (λ k. b ≤ k) looks le))) g
+      where
+        inside : (a b : ℕ) → Some a ≡ Some b → a ≡ b
+        inside a b h = ap (λ q. unwrap_or q a) h
+
 -- the rows that are found are those of the plain store
 pub found-is : (e : Held) (p : Plain) (session n : ℕ) (name : List ℕ) (preds : List Pred) (hits : List (ℕ × Place)) → session < 17 → StandsFor e p → place_in (view p session).tables name ≡ n
     → Hits e session n (meets (columns_in (view p session).tables name) preds) hits → found (view p session).tables (view p session).rows name preds ≡ plain_rows e n hits
@@ -61,7 +85,7 @@ found-is e p session n name preds hits small s place h =
     let rows = (view p session).rows in
     let test = meets (columns_in (view p session).tables name) preds in
     ap (λ k. filter (λ (x : ℕ × Stored). test x.1.values) (table_rows k rows)) place
-    ∙ sym (scan-is (place_at e.staged) s.rows.held n e.fates (looks_at e session) (own_at e session) test hits rows s.rows.places (dead_never e p session s) r.sorted r.shown h.scan)
+    ∙ sym (scan-is (place_at e.staged) s.rows.held n e.fates (looks_at e session) (own_at e session) test hits rows (IsGone e.fates p.sessions) (gone_never e p session s) s.rows.places (dead_never e p session s) r.sorted r.shown h.scan)
 
 -- ---- the first of them that is taken
 

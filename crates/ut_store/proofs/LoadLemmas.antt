@@ -17,6 +17,10 @@ use Rattle.ut_plain.proofs.BoolLemmas.{and_left, and_right}
 use Rattle.ut_stamps.specs.declared.fates.Fate.{Fate}
 use Rattle.ut_stamps.specs.declared.fates.Fate.TheVariants.{Running, Aborted}
 use Rattle.ut_exact.specs.Work.{AreFree}
+use Rattle.ut_exact.specs.Gone.{IsGone}
+use Rattle.ut_exact.proofs.GoneLemmas.{gone-alone}
+use Rattle.ut_exact.proofs.PlaceLemmas.{AreHeld-gone}
+use Rattle.ut_exact.proofs.DroppedLemmas.{AreDropped-gone}
 use Rattle.ut_exact.specs.Places.{AreHeld}
 use Rattle.ut_exact.proofs.FateLemmas.{fate-push_new}
 use Rattle.ut_exact.proofs.ExactLemmas.{IsExact-start, IsExact-abort}
@@ -76,7 +80,8 @@ stands-spent old new c = record { each = λ p s. by p s }
           seats = seats-stay old.seats new.seats p.sessions c.seats s.seats;
           rows = subst (λ (x : List Fate). AreRows (record new { fates = x }) p) (sym c.fates) (record {
             held = s.rows.held;
-            places = subst (λ (x : List Staged). AreHeld (place_at x) s.rows.held) (sym c.staged) s.rows.places;
+            places = subst (λ (x : List Staged). AreHeld (place_at x) (IsGone fates p.sessions) s.rows.held) (sym c.staged) (AreHeld-gone (place_at old.staged) (IsGone old.fates p.sessions) (IsGone fates p.sessions) s.rows.held (λ x. gone-alone old.fates p.sessions x Aborted) s.rows.places);
+            dropped = AreDropped-gone p.stages (IsGone old.fates p.sessions) (IsGone fates p.sessions) s.rows.held (λ x. gone-alone old.fates p.sessions x Aborted) s.rows.dropped;
             free = subst (λ m. AreFree s.rows.held m) (sym c.next_id) s.rows.free;
             exact = IsExact-abort (old.fates ++ Running ∷ []) s.rows.held p.journal p.opening (length old.fates) (fate-push_new old.fates Running) (IsExact-start old.fates s.rows.held p.journal p.opening s.rows.exact);
             transactions = AreOpen-renumbered fates s.rows.held p.sessions (number_at old.seats) (number_at new.seats) p.journal p.opening (λ r u g. numbers-stay old.seats new.seats r c.seats)

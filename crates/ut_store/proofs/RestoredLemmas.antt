@@ -1,5 +1,5 @@
 -- A store that was just made stands for the plain state without tables.
-use Rattle.std.proofs.Common.{ℕ, zero, suc, ◌+◌, ◌≤◌, ◌≡◌, List, [], length, map, replicate, max, None, Some, refl, sym, ap, ◌∙◌, subst, arith}
+use Rattle.std.proofs.Common.{false, ℕ, zero, suc, ◌+◌, ◌≤◌, ◌≡◌, List, [], length, map, replicate, max, None, Some, refl, sym, ap, ◌∙◌, subst, arith}
 use Rattle.std.specs.Ordering.{nat_cmp}
 use Rattle.std.specs.FinMap as finmap
 use Rattle.ut_value.specs.declared.entry.Entry.TheVariants.{Txn}
@@ -14,6 +14,8 @@ use Rattle.ut_scan.specs.declared.place.Place.{Place}
 use Rattle.ut_stamps.specs.declared.fates.Fate.{Fate}
 use Rattle.ut_stamps.specs.Stamps.{fate_at}
 use Rattle.ut_exact.specs.Exact.{IsExact, AreOpen}
+use Rattle.ut_stamps.specs.declared.visibility.Stamp.{Stamp}
+use Rattle.ut_exact.specs.Gone.{IsGone}
 use Rattle.ut_exact.specs.Places.{StagedRow, AreHeld, dead_number}
 use Rattle.ut_exact.proofs.OpenLemmas.{IsExact-opened, AreOpen-opened}
 use Rattle.ut_table.specs.Staged.{Staged}
@@ -42,12 +44,15 @@ nothing_at n q r h = cc
 nothing_held : {A : Type 0} {B : Type 0} (x : A) → None ≡ Some x → B
 nothing_held x h = cc
 
-no_places : AreHeld (place_at []) (λ id. None)
-no_places = record {
+no_places : (gone : Stamp → Type 0) → AreHeld (place_at []) gone (λ id. None)
+no_places gone = record {
   each = λ n q r h live. nothing_at n q r h;
   only = λ id x h. nothing_held x h;
   once = λ n m p q r s h g live alive same. nothing_at n p r h;
 }
+
+nothing_kept : {A : Type 0} → None ≡ Some false → A
+nothing_kept h = cc
 
 -- the next id of a store without rows
 first_id : max 1 (load_of empty_journal + 1) ≡ 1
@@ -60,7 +65,8 @@ restored_new e limit small r = record {
   seats = seats_of_nobody e r.seats;
   rows = record {
     held = λ id. None;
-    places = subst (λ (s : List Staged). AreHeld (place_at s) (λ id. None)) (sym r.has_rows) no_places;
+    places = subst (λ (s : List Staged). AreHeld (place_at s) (IsGone e.fates no_sessions) (λ id. None)) (sym r.has_rows) (no_places (IsGone e.fates no_sessions));
+    dropped = record { each = λ n g i place at flag. nothing_kept flag };
     free = λ id h. refl;
     exact = subst (λ (f : List Fate). IsExact f (λ id. None) empty_journal 0) (sym r.fates) (IsExact-opened (λ id. None) empty_journal (λ id. finmap.get-empty nat_cmp id) (λ id row h. nothing_held row h));
     transactions = subst (λ (f : List Fate). AreOpen f (λ id. None) no_sessions (number_at e.seats) empty_journal 0) (sym r.fates) (AreOpen-opened (λ id. None) (number_at e.seats) empty_journal 0);

@@ -11,6 +11,8 @@ use Rattle.ut_stamps.specs.declared.fates.Fate.{Fate}
 use Rattle.ut_stamps.specs.Stamps.{fate_at}
 use Rattle.ut_exact.specs.Exact.{IsExact, AreOpen}
 use Rattle.ut_exact.specs.Work.{AreFree}
+use Rattle.ut_exact.specs.Gone.{IsGone}
+use Rattle.ut_exact.specs.Dropped.{AreDropped}
 use Rattle.ut_exact.specs.Places.{AreHeld, dead_number}
 use Rattle.ut_exact.proofs.SessionLemmas.{at-set_same, at-set_other, AreOpen-renumbered}
 use Rattle.ut_table.specs.Staged.{Staged}
@@ -58,7 +60,8 @@ stands-same old new p c s = record {
   seats = seats-stay old.seats new.seats p.sessions c.seats s.seats;
   rows = record {
     held = s.rows.held;
-    places = subst (λ (x : List Staged). AreHeld (place_at x) s.rows.held) (sym c.staged) s.rows.places;
+    places = subst (λ (x : List Fate). AreHeld (place_at new.staged) (IsGone x p.sessions) s.rows.held) (sym c.fates) (subst (λ (x : List Staged). AreHeld (place_at x) (IsGone old.fates p.sessions) s.rows.held) (sym c.staged) s.rows.places);
+    dropped = subst (λ (x : List Fate). AreDropped p.stages (IsGone x p.sessions) s.rows.held) (sym c.fates) s.rows.dropped;
     free = subst (λ n. AreFree s.rows.held n) (sym c.next_id) s.rows.free;
     exact = subst (λ (x : List Fate). IsExact x s.rows.held p.journal p.opening) (sym c.fates) s.rows.exact;
     transactions = AreOpen-renumbered new.fates s.rows.held p.sessions (number_at old.seats) (number_at new.seats) p.journal p.opening

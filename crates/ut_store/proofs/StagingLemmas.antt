@@ -17,6 +17,7 @@ use Rattle.ut_scan.specs.declared.place.Place.TheVariants.{L1, L2}
 use Rattle.ut_exact.specs.Stamped.{Stamped}
 use Rattle.ut_exact.specs.Exact.{with_row, begun_by}
 use Rattle.ut_exact.specs.Work.{applied, with_ended, AreFree}
+use Rattle.ut_exact.specs.Gone.{IsGone}
 use Rattle.ut_exact.specs.Places.{StagedRow, is_dead, dead_number, AreHeld}
 use Rattle.ut_exact.proofs.FateLemmas.{other_number}
 use Rattle.ut_exact.proofs.OrderLemmas.{T_first, T_second, less}
@@ -42,11 +43,11 @@ with_inserts-append bulk stages (ops.Insert table id values ∷ os) ps = with_in
 with_inserts-append bulk stages (ops.Delete table id ∷ os) ps = with_inserts-append bulk stages os ps
 
 pub staging-none : (old : List Staged) (t : ℕ) (bulk : Bool) (next : ℕ) → Staging old old t bulk next []
-staging-none old t bulk next = record { places = λ held free h. h; free = λ held free. subst (λ n. AreFree held n) (sym (add-zero next)) free; stages = refl; columns = refl }
+staging-none old t bulk next = record { places = λ fates sessions held free h. h; free = λ held free. subst (λ n. AreFree held n) (sym (add-zero next)) free; stages = refl; columns = refl }
 
 pub staging-then : (a b c : List Staged) (t : ℕ) (bulk : Bool) (next : ℕ) (os ps : List Op) → Staging a b t bulk next os → Staging b c t bulk (next + inserts_of os) ps → Staging a c t bulk next (os ++ ps)
 staging-then a b c t bulk next os ps x y = record {
-  places = λ held free h. subst (λ f. AreHeld (place_at c) f) (sym (applied-append t held os ps)) (y.places (applied t held os) (x.free held free) (x.places held free h));
+  places = λ fates sessions held free h. subst (λ f. AreHeld (place_at c) (IsGone fates sessions) f) (sym (applied-append t held os ps)) (y.places fates sessions (applied t held os) (x.free held free) (x.places fates sessions held free h));
   free = λ held free. subst (λ f. AreFree f (next + inserts_of (os ++ ps))) (sym (applied-append t held os ps))
       (subst (λ n. AreFree (applied t (applied t held os) ps) n) (omega (arith, sum_by-append op_inserts os ps)) (y.free (applied t held os) (x.free held free)));
   stages = y.stages ∙ ap (λ s. with_inserts bulk s ps) x.stages ∙ sym (with_inserts-append bulk (map stages_of a) os ps);
@@ -96,7 +97,7 @@ staging-insert old n t next values s is alive =
     let row = new_row t next values in
     let new = slice_set old n (entered_l1 row s) in
     record {
-      places = λ held free h. AreHeld-pushed (place_at old) (place_at new) held n (L1 (length s.l1)) row (free next (omega arith)) h (pushed_l1 old n s row is) (live t next values alive);
+      places = λ fates sessions held free h. AreHeld-pushed (place_at old) (place_at new) (IsGone fates sessions) held n (L1 (length s.l1)) row (free next (omega arith)) h (pushed_l1 old n s row is) (live t next values alive);
       free = insert_free t next n values;
       stages = inserted_stages false old n next t values s (entered_l1 row s) is alive (ap (λ rows. record { l1 = rows; l2 = map placed_of s.l2; closed = None; parts = []; keep = [] }) (map-append placed_of s.l1 (row ∷ [])));
       columns = columns-set old n s (entered_l1 row s) is refl;
@@ -108,7 +109,7 @@ staging-load old n t next values s is alive =
     let row = new_row t next values in
     let new = slice_set old n (entered_l2 (row ∷ []) s) in
     record {
-      places = λ held free h. AreHeld-pushed (place_at old) (place_at new) held n (L2 (length s.l2)) row (free next (omega arith)) h (pushed_l2 old n s row is) (live t next values alive);
+      places = λ fates sessions held free h. AreHeld-pushed (place_at old) (place_at new) (IsGone fates sessions) held n (L2 (length s.l2)) row (free next (omega arith)) h (pushed_l2 old n s row is) (live t next values alive);
       free = insert_free t next n values;
       stages = inserted_stages true old n next t values s (entered_l2 (row ∷ []) s) is alive (ap (λ rows. record { l1 = map placed_of s.l1; l2 = rows; closed = None; parts = []; keep = [] }) (map-append placed_of s.l2 (row ∷ [])));
       columns = columns-set old n s (entered_l2 (row ∷ []) s) is refl;
@@ -154,7 +155,7 @@ pub staging-end : (bulk : Bool) (old : List Staged) (n t next : ℕ) (p : Place)
 staging-end bulk old n t next p s row is at lives =
     let new = slice_set old n (ended_in t p s) in
     record {
-      places = λ held free h. AreHeld-ended (place_at old) (place_at new) held n p row t h (ended_in_place old n s p row t is at) lives;
+      places = λ fates sessions held free h. AreHeld-ended (place_at old) (place_at new) (IsGone fates sessions) held n p row t h (ended_in_place old n s p row t is at) lives;
       free = λ held free. subst (λ m. AreFree (with_ended held row.id t) m) (omega (arith, sum_by-cons op_inserts (ops.Delete n row.id) [])) (AreFree-delete held row.id t next free);
       stages = stages-set old n (ended_in t p s) ∙ ap (slice_set (map stages_of old) n) (stages-ended t p s) ∙ set-same (map stages_of old) n (stages_of s) (get-map stages_of old n ∙ ap (option_map stages_of) is);
       columns = columns-set old n s (ended_in t p s) is (columns-ended t p s);

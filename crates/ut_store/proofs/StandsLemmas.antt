@@ -23,7 +23,13 @@ use Rattle.ut_stamps.specs.declared.fates.Fate.{Fate}
 use Rattle.ut_stamps.specs.declared.fates.Fate.TheVariants.{Running, Aborted}
 use Rattle.ut_stamps.specs.Stamps.{fate_at}
 use Rattle.ut_exact.specs.Exact.{IsExact, AreOpen}
-use Rattle.ut_exact.specs.Places.{dead_number}
+use Rattle.ut_stamps.specs.declared.visibility.Stamp.{Stamp}
+use Rattle.ut_exact.specs.Gone.{IsGone}
+use Rattle.ut_exact.specs.Dropped.{AreDropped}
+use Rattle.ut_exact.specs.Places.{AreHeld, dead_number}
+use Rattle.ut_exact.proofs.GoneLemmas.{gone-started, gone-ended, gone-begun, gone-closed}
+use Rattle.ut_exact.proofs.PlaceLemmas.{AreHeld-gone}
+use Rattle.ut_exact.proofs.DroppedLemmas.{AreDropped-gone}
 use Rattle.ut_exact.proofs.FateLemmas.{fate-set_other, fate-push_old}
 use Rattle.ut_exact.proofs.ExactLemmas.{IsExact-start, IsExact-abort}
 use Rattle.ut_exact.proofs.SessionLemmas.{AreOpen-begun, AreOpen-closed, AreOpen-renumbered, at-set_same}
@@ -31,7 +37,7 @@ use Rattle.ut_txn.specs.declared.opened.Opened.{Opened}
 use Rattle.ut_txn.specs.Seats.{Seat, opened_at, payload_at, number_at, SeatSet}
 use Rattle.ut_store.specs.declared.turn.Turn.{Turn}
 use Rattle.ut_store.specs.declared.turn.Turn.TheVariants.{Answered}
-use Rattle.ut_store.specs.Held.{Held}
+use Rattle.ut_store.specs.Held.{Held, place_at}
 use Rattle.ut_store.specs.Stands.{StandsFor, AreCounts, AreSeats, AreRows}
 use Rattle.ut_store.specs.Answers.{Answer, Answers, Same, Logs, reply_of}
 use Rattle.ut_store.specs.Allowed.{IsRefused}
@@ -104,7 +110,8 @@ began e seats frame session some small h closed set = record {
       (s.seats.payloads session small ∙ ap (λ o. spelling (entries.Txn (own_ops o))) none) set s.seats)
       (record {
         held = s.rows.held;
-        places = s.rows.places;
+        places = AreHeld-gone (place_at e.staged) (IsGone e.fates p.sessions) (IsGone (e.fates ++ Running ∷ []) (slice_set p.sessions session (Some t))) s.rows.held (stays p s) s.rows.places;
+        dropped = AreDropped-gone p.stages (IsGone e.fates p.sessions) (IsGone (e.fates ++ Running ∷ []) (slice_set p.sessions session (Some t))) s.rows.held (stays p s) s.rows.dropped;
         free = s.rows.free;
         exact = IsExact-start e.fates s.rows.held p.journal p.opening s.rows.exact;
         transactions = AreOpen-begun e.fates s.rows.held p.sessions (number_at e.seats) (number_at seats) p.journal p.opening session t
@@ -123,6 +130,12 @@ began e seats frame session some small h closed set = record {
     is_closed : (p : Plain) → SameSession e p session (open_at p.sessions session) → open_at p.sessions session ≡ None
     is_closed p (Closed own seat) = own
     is_closed p (Open t o own seat same) = absurd (nothing o (sym closed ∙ seat))
+
+    -- what is gone isn't seen by it either
+    stays : (p : Plain) (s : StandsFor e p) (x : Stamp) → IsGone e.fates p.sessions x → IsGone (e.fates ++ Running ∷ []) (slice_set p.sessions session (Some (record { snapshot = journal_len p.journal; ops = [] }))) x
+    stays p s x g =
+        let t : OpenTransaction = record { snapshot = journal_len p.journal; ops = [] } in
+        gone-started e.fates (slice_set p.sessions session (Some t)) x (gone-begun e.fates p.sessions x session (journal_len p.journal) t (omega (arith, small, s.plain.seats)) refl s.rows.exact.within g)
 
 -- ---- a transaction ends
 
@@ -175,7 +188,11 @@ abandoned_rows e seats frame session o payload p q t small is opened set journal
     let ended = AreOpen-closed e.fates Aborted s.rows.held p.sessions (number_at e.seats) p.journal p.journal p.opening session t inside opened refl (omega arith) s.rows.transactions in
     record {
       held = s.rows.held;
-      places = s.rows.places;
+      places = subst (λ ss. AreHeld (place_at e.staged) (IsGone (slice_set e.fates o.number Aborted) ss) s.rows.held) (sym sessions) (AreHeld-gone (place_at e.staged) (IsGone e.fates p.sessions) (IsGone (slice_set e.fates o.number Aborted) (slice_set p.sessions session None)) s.rows.held
+          (λ x g. gone-ended e.fates (slice_set p.sessions session None) x o.number Aborted runs (gone-closed e.fates p.sessions x session inside g)) s.rows.places);
+      dropped = subst (λ ss. AreDropped q.stages (IsGone (slice_set e.fates o.number Aborted) ss) s.rows.held) (sym sessions) (subst (λ st. AreDropped st (IsGone (slice_set e.fates o.number Aborted) (slice_set p.sessions session None)) s.rows.held) (sym stages)
+          (AreDropped-gone p.stages (IsGone e.fates p.sessions) (IsGone (slice_set e.fates o.number Aborted) (slice_set p.sessions session None)) s.rows.held
+          (λ x g. gone-ended e.fates (slice_set p.sessions session None) x o.number Aborted runs (gone-closed e.fates p.sessions x session inside g)) s.rows.dropped));
       free = s.rows.free;
       exact = subst (λ j. IsExact (slice_set e.fates o.number Aborted) s.rows.held j q.opening) (sym journal)
           (subst (λ n. IsExact (slice_set e.fates o.number Aborted) s.rows.held p.journal n) (sym opening) (IsExact-abort e.fates s.rows.held p.journal p.opening o.number runs s.rows.exact));

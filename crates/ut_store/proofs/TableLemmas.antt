@@ -14,14 +14,17 @@ use Rattle.ut_plain.specs.Plain.{Plain}
 use Rattle.ut_plain.specs.Spelled.{is_spelled}
 use Rattle.ut_plain.specs.View.{view}
 use Rattle.ut_plain.specs.Tables.{place_in}
-use Rattle.ut_plain.specs.Stages.{no_stages, stages_at, moved, moved_count}
+use Rattle.ut_plain.specs.Stages.{no_stages, stages_at, with_stages, moved, moved_count}
+use Rattle.ut_plain.proofs.MainLemmas.{same-created, same-moved}
 use Rattle.ut_plain.specs.Step.{created, merged_l1}
 use Rattle.ut_plain.proofs.JournalLaws.{current-appended, journal_len-appended}
 use Rattle.ut_scan.specs.declared.place.Place.{Place}
 use Rattle.ut_scan.specs.declared.place.Place.TheVariants.{L1, L2}
 use Rattle.ut_exact.specs.Places.{StagedRow, Moved}
 use Rattle.ut_exact.proofs.ExactLemmas.{IsExact-entry}
+use Rattle.ut_exact.specs.Gone.{IsGone}
 use Rattle.ut_exact.proofs.PlaceLemmas.{AreHeld-moved}
+use Rattle.ut_exact.proofs.DroppedLemmas.{AreDropped-same}
 use Rattle.ut_exact.proofs.SessionLemmas.{AreOpen-entry, AreOpen-renumbered}
 use Rattle.ut_table.specs.Staged.{Staged, no_rows, row_at}
 use Rattle.ut_table.specs.Staged as staged_tables
@@ -89,7 +92,8 @@ made_table e seats frame session name columns spelled h spells stay = record {
       (seats-stay e.seats seats p.sessions stay s.seats)
       (record {
         held = s.rows.held;
-        places = AreHeld-moved (place_at e.staged) (place_at (e.staged ++ no_rows columns ∷ [])) s.rows.held (λ m q. q) s.rows.places (same_places e.staged columns);
+        places = AreHeld-moved (place_at e.staged) (place_at (e.staged ++ no_rows columns ∷ [])) (IsGone e.fates p.sessions) s.rows.held (λ m q. q) s.rows.places (same_places e.staged columns);
+        dropped = AreDropped-same p.stages (p.stages ++ no_stages ∷ []) (IsGone e.fates p.sessions) s.rows.held (same-created p.stages) s.rows.dropped;
         free = s.rows.free;
         exact = IsExact-entry e.fates s.rows.held p.journal p.opening entry s.plain.opened.1 refl (λ id. refl) s.rows.exact;
         transactions = AreOpen-renumbered e.fates s.rows.held p.sessions (number_at e.seats) (number_at seats) (appended p.journal entry) p.opening (λ r u g. numbers-stay e.seats seats r stay)
@@ -135,7 +139,8 @@ moved_rows e seats frame session name n table s spelled h is place stay = record
       (seats-stay e.seats seats p.sessions stay st.seats)
       (record {
         held = st.rows.held;
-        places = AreHeld-moved (place_at e.staged) (place_at (slice_set e.staged table (staged_tables.merged_l1 n s))) st.rows.held (moved_from table n (length s.l2)) st.rows.places (moved_l1 e.staged table n s is);
+        places = AreHeld-moved (place_at e.staged) (place_at (slice_set e.staged table (staged_tables.merged_l1 n s))) (IsGone e.fates p.sessions) st.rows.held (moved_from table n (length s.l2)) st.rows.places (moved_l1 e.staged table n s is);
+        dropped = AreDropped-same p.stages (with_stages (moved n) table p.stages) (IsGone e.fates p.sessions) st.rows.held (same-moved n table p.stages) st.rows.dropped;
         free = st.rows.free;
         exact = st.rows.exact;
         transactions = AreOpen-renumbered e.fates st.rows.held p.sessions (number_at e.seats) (number_at seats) p.journal p.opening (λ r u g. numbers-stay e.seats seats r stay) st.rows.transactions;

@@ -6,6 +6,9 @@ use Rattle.ut_value.specs.declared.entry.Op.TheVariants as ops
 use Rattle.ut_plain.specs.Rows.{inserts_of}
 use Rattle.ut_plain.specs.Stages.{with_inserts}
 use Rattle.ut_scan.specs.declared.place.Place.{Place}
+use Rattle.ut_stamps.specs.declared.fates.Fate.{Fate}
+use Rattle.ut_plain.specs.Plain.{Sessions}
+use Rattle.ut_exact.specs.Gone.{IsGone}
 use Rattle.ut_exact.specs.Stamped.{Stamped}
 use Rattle.ut_exact.specs.Work.{applied, AreFree}
 use Rattle.ut_exact.specs.Places.{StagedRow, is_dead, AreHeld}
@@ -15,7 +18,7 @@ use Rattle.ut_store.specs.Stands.{stages_of}
 
 -- The stages after these operations of a running transaction, with new rows in the first stage or loaded in bulk into the second.
 pub record Staging (old new : List Staged) (number : ℕ) (bulk : Bool) (next : ℕ) (os : List Op) : Type 0 where
-  pub places : (held : ℕ → Option Stamped) → AreFree held next → AreHeld (place_at old) held → AreHeld (place_at new) (applied number held os)
+  pub places : (fates : List Fate) (sessions : Sessions) (held : ℕ → Option Stamped) → AreFree held next → AreHeld (place_at old) (IsGone fates sessions) held → AreHeld (place_at new) (IsGone fates sessions) (applied number held os)
   pub free : (held : ℕ → Option Stamped) → AreFree held next → AreFree (applied number held os) (next + inserts_of os)
   pub stages : map stages_of new ≡ with_inserts bulk (map stages_of old) os
   pub columns : map (λ (s : Staged). s.columns) new ≡ map (λ (s : Staged). s.columns) old

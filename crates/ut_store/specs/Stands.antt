@@ -16,6 +16,8 @@ use Rattle.ut_stamps.specs.Stamps.{fate_at}
 use Rattle.ut_exact.specs.Stamped.{Stamped}
 use Rattle.ut_exact.specs.Exact.{IsExact, AreOpen}
 use Rattle.ut_exact.specs.Work.{AreFree}
+use Rattle.ut_exact.specs.Gone.{IsGone}
+use Rattle.ut_exact.specs.Dropped.{AreDropped}
 use Rattle.ut_exact.specs.Places.{StagedRow, is_dead, dead_number, AreHeld}
 use Rattle.ut_table.specs.Staged.{Staged}
 use Rattle.ut_txn.specs.declared.opened.Opened.{Opened}
@@ -62,7 +64,9 @@ stages_of s = record { l1 = map placed_of s.l1; l2 = map placed_of s.l2; closed 
 pub record AreRows (e : Held) (p : Plain) : Type 0 where
   -- the row of each id
   pub held : ℕ → Option Stamped
-  pub places : AreHeld (place_at e.staged) held
+  pub places : AreHeld (place_at e.staged) (IsGone e.fates p.sessions) held
+  -- what a pending merge gives up is nobody's or gone
+  pub dropped : AreDropped p.stages (IsGone e.fates p.sessions) held
   pub free : AreFree held e.next_id
   pub exact : IsExact e.fates held p.journal p.opening
   pub transactions : AreOpen e.fates held p.sessions (number_at e.seats) p.journal p.opening

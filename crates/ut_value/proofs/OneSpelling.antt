@@ -151,6 +151,13 @@ one_merge_kind merges.Resort merges.Partial is = absurd (omega (arith, is))
 one_merge_kind merges.Partial merges.Classic is = absurd (omega (arith, is))
 one_merge_kind merges.Partial merges.Resort is = absurd (omega (arith, is))
 one_merge_kind merges.Partial merges.Partial is = refl
+one_merge_kind merges.Classic merges.Extend is = absurd (omega (arith, is))
+one_merge_kind merges.Resort merges.Extend is = absurd (omega (arith, is))
+one_merge_kind merges.Partial merges.Extend is = absurd (omega (arith, is))
+one_merge_kind merges.Extend merges.Classic is = absurd (omega (arith, is))
+one_merge_kind merges.Extend merges.Resort is = absurd (omega (arith, is))
+one_merge_kind merges.Extend merges.Partial is = absurd (omega (arith, is))
+one_merge_kind merges.Extend merges.Extend is = refl
 
 -- operations whose number has four bytes
 pub one_ops : (vs ws : List Op) (x y : List ℕ) → length vs < 2 ^ 32 → length ws < 2 ^ 32 → IsTrue (list_all is_op vs) → IsTrue (list_all is_op ws)

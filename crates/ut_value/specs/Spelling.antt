@@ -62,6 +62,7 @@ abbrev pub merge_kind_byte : MergeKind → ℕ
 merge_kind_byte merges.Classic = 0
 merge_kind_byte merges.Resort = 1
 merge_kind_byte merges.Partial = 2
+merge_kind_byte merges.Extend = 3
 
 -- an entry: the byte of its case, and its parts in order
 abbrev pub spelling : Entry → List ℕ

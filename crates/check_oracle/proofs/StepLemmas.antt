@@ -1,0 +1,108 @@
+-- What a step is, by the refusals that come early and those that come late.
+use Rattle.std.proofs.Common.{◌≡◌, ℕ, Bool, true, false, List, Option, None, Some, refl, sym, ap, ◌∙◌}
+use Rattle.std.specs.Option.{option_map, is_some}
+use Rattle.ut_value.specs.declared.value.Value.{Value}
+use Rattle.ut_value.specs.declared.entry.Op.{Op}
+use Rattle.ut_plain.specs.declared.statement.Pred.{Pred}
+use Rattle.ut_plain.specs.declared.statement.Statement.{Statement}
+use Rattle.ut_plain.specs.declared.statement.Statement.TheVariants as statements
+use Rattle.ut_plain.specs.declared.statement.Statement.TheVariants.{Insert, Bulk, Update, Delete}
+use Rattle.ut_plain.specs.declared.stage.PendingMerge.{PendingMerge}
+use Rattle.ut_plain.specs.declared.reply.Reply.{Reply}
+use Rattle.ut_plain.specs.declared.reply.Refusal.{Refusal}
+use Rattle.ut_plain.specs.declared.reply.Refusal.TheVariants as refusals
+use Rattle.ut_plain.specs.Journal.{current}
+use Rattle.ut_plain.specs.Plain.{Plain, open_at}
+use Rattle.ut_plain.specs.View.{View, view}
+use Rattle.ut_plain.specs.Made.{made, changes}
+use Rattle.ut_plain.specs.Names.{names_known}
+use Rattle.ut_plain.specs.Kinds.{kinds_fit}
+use Rattle.ut_plain.specs.Refusals.{is_supported, state_why, merge_why, unless, or_else, conflict, refusal}
+use Rattle.ut_plain.specs.Step.{Stepped, step, step_by, effect_of}
+use Rattle.check_oracle.specs.declared.known.Known.{Known}
+use Rattle.check_oracle.specs.Store.{Gives, Allowed, early, late, refuses, change_by, change_step}
+
+-- ---- early and late refusals
+
+or_else_else : (a b c : Option Refusal) → or_else a (or_else b c) ≡ or_else (or_else a b) c
+or_else_else None b c = refl
+or_else_else (Some why) b c = refl
+
+no_merge : (pending : Option PendingMerge) (st : Statement) → is_supported st ≡ true → merge_why pending st ≡ None
+no_merge None statements.MergeEnd h = cc
+no_merge None _ h = refl
+no_merge (Some m) (statements.MergeBegin name kind) h = cc
+no_merge (Some m) _ h = refl
+
+without_merge : (pending : Option PendingMerge) (st : Statement) (a b c late : Option Refusal) → or_else (unless (is_supported st) refusals.Syntax) (or_else a (or_else b (or_else c (or_else (option_map refusals.State (merge_why pending st)) late))))
+    ≡ or_else (unless (is_supported st) refusals.Syntax) (or_else a (or_else b (or_else c late)))
+without_merge pending st a b c late = by (is_supported st) refl
+  where
+    by : (t : Bool) → is_supported st ≡ t → or_else (unless t refusals.Syntax) (or_else a (or_else b (or_else c (or_else (option_map refusals.State (merge_why pending st)) late)))) ≡ or_else (unless t refusals.Syntax) (or_else a (or_else b (or_else c late)))
+    by true is = ap (λ w. or_else a (or_else b (or_else c (or_else (option_map refusals.State w) late)))) (no_merge pending st is)
+    by false is = refl
+
+refusal_parts : (v : View) (st : Statement) → refusal v st ≡ or_else (early v.tables (is_some v.own) st) (late v st)
+refusal_parts v st =
+    let a = unless (is_supported st) refusals.Syntax in
+    let b = unless (names_known v.tables st) refusals.Name in
+    let c = unless (kinds_fit v.tables st) refusals.Kind in
+    let d = option_map refusals.State (state_why (is_some v.own) st) in
+    without_merge v.pending st b c d (late v st)
+    ∙ ap (λ x. or_else a (or_else b x)) (or_else_else c d (late v st)) ∙ ap (or_else a) (or_else_else b (or_else c d) (late v st)) ∙ or_else_else a (or_else b (or_else c d)) (late v st)
+
+-- a statement that an early refusal meets
+pub gives_early : (p : Plain) (session : ℕ) (st : Statement) (why : Refusal) (reply : Reply) (q : Plain) → early (current p.journal).tables (is_some (open_at p.sessions session)) st ≡ Some why → Gives (refuses p why) reply q → Gives (step p session st) reply q
+gives_early p session st why reply q h g =
+    let is : step p session st ≡ refuses p why = ap (λ o. step_by o p session st) (refusal_parts (view p session) st ∙ ap (λ o. or_else o (late (view p session) st)) h) in
+    record { answer = g.answer ∙ ap (λ (s : Stepped). s.reply) (sym is); state = g.state ∙ ap (λ (s : Stepped). s.plain) (sym is) }
+
+late_step : (p : Plain) (sight : Known) (session : ℕ) (st : Statement) → Allowed p sight session st → step p session st ≡ step_by (late (view p session) st) p session st
+late_step p sight session st h = ap (λ o. step_by o p session st) (refusal_parts (view p session) st ∙ ap (λ o. or_else o (late (view p session) st)) h.clear)
+
+gives_by : (p : Plain) (session : ℕ) (st : Statement) (does : Stepped) (reply : Reply) (q : Plain) → step p session st ≡ does → Gives does reply q → Gives (step p session st) reply q
+gives_by p session st does reply q is g = record { answer = g.answer ∙ ap (λ (s : Stepped). s.reply) (sym is); state = g.state ∙ ap (λ (s : Stepped). s.plain) (sym is) }
+
+-- a statement that none meets
+pub gives_effect : (p : Plain) (sight : Known) (session : ℕ) (st : Statement) (reply : Reply) (q : Plain) → Allowed p sight session st → late (view p session) st ≡ None → Gives (effect_of p session st) reply q → Gives (step p session st) reply q
+gives_effect p sight session st reply q h l g = gives_by p session st (effect_of p session st) reply q (late_step p sight session st h ∙ ap (λ o. step_by o p session st) l) g
+
+-- ---- changes of rows
+
+inserted_by : (o : Option Refusal) (p : Plain) (session : ℕ) (name : List ℕ) (values : List Value) → step_by o p session (Insert name values) ≡ change_by o p session false (made (current p.journal).tables (view p session).rows p.next_id (Insert name values)) 1
+inserted_by None p session name values = refl
+inserted_by (Some why) p session name values = refl
+
+loaded_by : (o : Option Refusal) (p : Plain) (session : ℕ) (name : List ℕ) (values : List Value) → step_by o p session (Bulk name values) ≡ change_by o p session true (made (current p.journal).tables (view p session).rows p.next_id (Bulk name values)) (changes (current p.journal).tables (view p session).rows (Bulk name values))
+loaded_by None p session name values = refl
+loaded_by (Some why) p session name values = refl
+
+updated_by : (o : Option Refusal) (p : Plain) (session : ℕ) (name column : List ℕ) (value : Value) (preds : List Pred) → step_by o p session (Update name column value preds) ≡ change_by o p session false (made (current p.journal).tables (view p session).rows p.next_id (Update name column value preds)) (changes (current p.journal).tables (view p session).rows (Update name column value preds))
+updated_by None p session name column value preds = refl
+updated_by (Some why) p session name column value preds = refl
+
+deleted_by : (o : Option Refusal) (p : Plain) (session : ℕ) (name : List ℕ) (preds : List Pred) → step_by o p session (Delete name preds) ≡ change_by o p session false (made (current p.journal).tables (view p session).rows p.next_id (Delete name preds)) (changes (current p.journal).tables (view p session).rows (Delete name preds))
+deleted_by None p session name preds = refl
+deleted_by (Some why) p session name preds = refl
+
+-- the change that a statement comes to: its operations, how many rows, and the row that was taken
+pub record Makes (p : Plain) (session : ℕ) (st : Statement) (bulk : Bool) (os : List Op) (rows : ℕ) (taken : Option ℕ) : Type 0 where
+  pub does : step_by (late (view p session) st) p session st ≡ change_step p session bulk os rows taken
+
+pub makes_same : (p : Plain) (session : ℕ) (st : Statement) (bulk : Bool) (os ps : List Op) (rows many : ℕ) (taken first : Option ℕ) → ps ≡ os → many ≡ rows → first ≡ taken → Makes p session st bulk os rows taken → Makes p session st bulk ps many first
+makes_same p session st bulk os ps rows many taken first e f g m = record { does = m.does ∙ (λ i. change_step p session bulk (sym e i) (sym f i) (sym g i)) }
+
+pub insert_makes : (p : Plain) (session : ℕ) (name : List ℕ) (values : List Value) → Makes p session (Insert name values) false (made (current p.journal).tables (view p session).rows p.next_id (Insert name values)) 1 None
+insert_makes p session name values = record { does = inserted_by (late (view p session) (Insert name values)) p session name values }
+
+pub bulk_makes : (p : Plain) (session : ℕ) (name : List ℕ) (values : List Value) → Makes p session (Bulk name values) true (made (current p.journal).tables (view p session).rows p.next_id (Bulk name values)) (changes (current p.journal).tables (view p session).rows (Bulk name values)) None
+bulk_makes p session name values = record { does = loaded_by (late (view p session) (Bulk name values)) p session name values }
+
+pub update_makes : (p : Plain) (session : ℕ) (name column : List ℕ) (value : Value) (preds : List Pred) → Makes p session (Update name column value preds) false (made (current p.journal).tables (view p session).rows p.next_id (Update name column value preds)) (changes (current p.journal).tables (view p session).rows (Update name column value preds)) (conflict (view p session) (Update name column value preds))
+update_makes p session name column value preds = record { does = updated_by (late (view p session) (Update name column value preds)) p session name column value preds }
+
+pub delete_makes : (p : Plain) (session : ℕ) (name : List ℕ) (preds : List Pred) → Makes p session (Delete name preds) false (made (current p.journal).tables (view p session).rows p.next_id (Delete name preds)) (changes (current p.journal).tables (view p session).rows (Delete name preds)) (conflict (view p session) (Delete name preds))
+delete_makes p session name preds = record { does = deleted_by (late (view p session) (Delete name preds)) p session name preds }
+
+pub gives_change : (p : Plain) (sight : Known) (session : ℕ) (st : Statement) (bulk : Bool) (os : List Op) (rows : ℕ) (taken : Option ℕ) (reply : Reply) (q : Plain) → Allowed p sight session st → Makes p session st bulk os rows taken → Gives (change_step p session bulk os rows taken) reply q → Gives (step p session st) reply q
+gives_change p sight session st bulk os rows taken reply q h m g = gives_by p session st (change_step p session bulk os rows taken) reply q (late_step p sight session st h ∙ m.does) g

@@ -1,0 +1,98 @@
+-- The plain state that the slow program stands for, and what it answers.
+use Rattle.std.specs.Prelude.{ℕ, ◌+◌, ◌<◌, ◌≤◌, ◌≡◌, Bool, List, length, Option, None, Some, is_some, nat_eq, IsTrue}
+use Rattle.std.specs.Option.{option_map}
+use Rattle.std.specs.List.{list_all}
+use Rattle.std.specs.FinMap as finmap
+use Rattle.ut_value.specs.declared.entry.Op.{Op}
+use Rattle.ut_plain.specs.declared.table.Table.{Table}
+use Rattle.ut_plain.specs.declared.stage.TableStages.{TableStages}
+use Rattle.ut_plain.specs.declared.statement.Statement.{Statement}
+use Rattle.ut_plain.specs.declared.reply.Reply.{Reply}
+use Rattle.ut_plain.specs.declared.reply.Reply.TheVariants as replies
+use Rattle.ut_plain.specs.declared.reply.Refusal.{Refusal}
+use Rattle.ut_plain.specs.declared.reply.Refusal.TheVariants as refusals
+use Rattle.ut_plain.specs.Rows.{inserts_of}
+use Rattle.ut_plain.specs.State.{empty_state}
+use Rattle.ut_plain.specs.Journal.{current}
+use Rattle.ut_plain.specs.Stages.{Stages, with_inserts}
+use Rattle.ut_plain.specs.Plain.{Plain, Idle, open_at, seen}
+use Rattle.ut_plain.specs.View.{View, view}
+use Rattle.ut_plain.specs.Names.{names_known}
+use Rattle.ut_plain.specs.Kinds.{kinds_fit}
+use Rattle.ut_plain.specs.Limits.{has_room, has_ops_room}
+use Rattle.ut_plain.specs.Refusals.{is_supported, state_why, unless, or_else, conflict}
+use Rattle.ut_plain.specs.Reached.{IsPlain}
+use Rattle.ut_plain.specs.Step.{Stepped, with_made, said_changed}
+use Rattle.check_oracle.specs.declared.known.Known.{Known}
+use Rattle.check_oracle.specs.declared.held.Held.{Held}
+
+-- the plain state of what is held: a journal that begins with nothing
+abbrev pub plain_of : Held → Plain
+plain_of h = record {
+  journal = record { base = empty_state; entries = h.entries.items };
+  opening = h.opening;
+  sessions = h.sessions.items;
+  next_id = h.next_id;
+  rows_limit = h.rows_limit;
+  pending = None;
+  phase = Idle;
+  root_pages = 0;
+  stages = h.stages.items;
+}
+
+-- no table has a part of main
+abbrev pub has_no_part : TableStages → Bool
+has_no_part t = nat_eq (length t.parts) 0
+
+abbrev pub have_no_part : Stages → Bool
+have_no_part stages = list_all has_no_part stages
+
+-- what the store always keeps: the plain state is one that a store reaches, and there is no main
+pub record IsHeld (h : Held) : Type 0 where
+  pub plain : IsPlain (plain_of h)
+  pub parts : IsTrue (have_no_part h.stages.items)
+
+-- a reply and a state are those of a step
+pub record Gives (does : Stepped) (reply : Reply) (new : Plain) : Type 0 where
+  pub answer : reply ≡ does.reply
+  pub state : new ≡ does.plain
+
+-- what a session sees was worked out: the tables, the rows by ascending id, and the number of commits
+pub record IsSight (sight : Known) (p : Plain) (session : ℕ) : Type 0 where
+  pub tables : sight.tables.items ≡ (current p.journal).tables
+  pub rows : sight.rows.items ≡ finmap.entries (seen p session)
+  pub commits : sight.commits ≡ (current p.journal).commits
+  pub few : length sight.rows.items < 4294967296
+  pub counted : sight.commits ≤ 1073741824
+
+-- the refusals that no limit and no conflict is asked for
+abbrev pub early : List Table → Bool → Statement → Option Refusal
+early tables is_open st = or_else (unless (is_supported st) refusals.Syntax) (or_else (unless (names_known tables st) refusals.Name) (or_else (unless (kinds_fit tables st) refusals.Kind) (option_map refusals.State (state_why is_open st))))
+
+-- the other refusals
+abbrev pub late : View → Statement → Option Refusal
+late v st = or_else (unless (has_room v st) refusals.Full) (option_map refusals.Conflict (conflict v st))
+
+-- a session makes a statement that no early refusal meets
+pub record Allowed (p : Plain) (sight : Known) (session : ℕ) (st : Statement) : Type 0 where
+  pub plain : IsPlain p
+  pub seat : session < 17
+  pub sees : IsSight sight p session
+  pub clear : early (current p.journal).tables (is_some (open_at p.sessions session)) st ≡ None
+
+-- a refusal, and the state as it was
+abbrev pub refuses : Plain → Refusal → Stepped
+refuses p why = record { reply = replies.Refused why; plain = p }
+
+-- the state with these operations made by a session
+abbrev pub changed_by : Plain → ℕ → Bool → List Op → Plain
+changed_by p session bulk os = record (with_made p session (open_at p.sessions session) os) { next_id = p.next_id + inserts_of os; stages = with_inserts bulk p.stages os }
+
+-- a change of rows that nothing stands against, or its refusal
+abbrev pub change_by : Option Refusal → Plain → ℕ → Bool → List Op → ℕ → Stepped
+change_by (Some why) p session bulk os rows = refuses p why
+change_by None p session bulk os rows = record { reply = said_changed (open_at p.sessions session) (current p.journal).commits rows; plain = changed_by p session bulk os }
+
+-- what becomes of a change of so many rows by these operations, where this row was taken
+abbrev pub change_step : Plain → ℕ → Bool → List Op → ℕ → Option ℕ → Stepped
+change_step p session bulk os rows taken = change_by (or_else (unless (has_ops_room (view p session) os) refusals.Full) (option_map refusals.Conflict taken)) p session bulk os rows

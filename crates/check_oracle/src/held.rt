@@ -1,0 +1,155 @@
+//! What the store holds: the entries of its journal, the open transactions, and where rows stand.
+ghost use Rattle.std.specs.Prelude.{◌≡◌, ◌<◌, length, slice_set, IfOk};
+ghost use Rattle.ut_plain.specs.Plain.{new_store, no_sessions, open_at, with_entry, with_session};
+ghost use Rattle.check_oracle.specs.Store.{plain_of};
+
+use crate::stages::stages_copied;
+use std::alloc::{AllocError, Global};
+use ut_plain::{OpenTransaction, TableStages};
+use ut_value::{Duplicate, Entry};
+
+/// Sixteen sessions, and a first place that is nobody's.
+const PLACES: usize = 17;
+
+/// The entries of the journal, the transaction of each session, and the stages of each table.
+#[derive(Drop)]
+pub struct Held {
+    pub entries: Vec<Entry>,
+    pub opening: u32,
+    pub sessions: Vec<Option<OpenTransaction>>,
+    pub next_id: u32,
+    pub rows_limit: u32,
+    pub stages: Vec<TableStages>,
+}
+
+impl Held {
+    /// What a store that was just made holds.
+    pub fn new(alloc: Global, rows_limit: u32) -> Result<Held, AllocError>
+        ensures { IfOk result (λ held. plain_of held ≡ new_store rows_limit) }
+    {
+        let sessions = nobody(alloc)?;
+        Ok(Held {
+            entries: Vec::new(alloc),
+            opening: 0,
+            sessions,
+            next_id: 1,
+            rows_limit,
+            stages: Vec::new(alloc),
+        })
+    }
+
+    /// A copy.
+    pub fn copy(&self, alloc: Global) -> Result<Held, AllocError>
+        ensures { IfOk result (λ copy. plain_of copy ≡ plain_of self.now) }
+    {
+        let entries = entries_copied(alloc, self.entries.as_slice())?;
+        let sessions = sessions_copied(alloc, self.sessions.as_slice())?;
+        let stages = stages_copied(alloc, self.stages.as_slice())?;
+        Ok(Held {
+            entries,
+            opening: self.opening,
+            sessions,
+            next_id: self.next_id,
+            rows_limit: self.rows_limit,
+            stages,
+        })
+    }
+
+    /// The transaction of a session.
+    pub fn own(&self, session: u8) -> &Option<OpenTransaction>
+        requires { session < length self.now.sessions.items }
+        ensures { result.now ≡ open_at self.now.sessions.items session }
+    {
+        &self.sessions[usize::from(session)]
+    }
+
+    /// The same with another transaction of a session, or none.
+    pub fn with_session(
+        &self,
+        alloc: Global,
+        session: u8,
+        transaction: Option<OpenTransaction>,
+    ) -> Result<Held, AllocError>
+        requires { session < length self.now.sessions.items }
+        ensures { IfOk result (λ next. plain_of next ≡ with_session (plain_of self.now) session transaction) }
+    {
+        let mut next = self.copy(alloc)?;
+        set_session(&mut next.sessions, session, transaction);
+        Ok(next)
+    }
+
+    /// The same with one more entry.
+    pub fn with_entry(&self, alloc: Global, entry: Entry) -> Result<Held, AllocError>
+        ensures { IfOk result (λ next. plain_of next ≡ with_entry (plain_of self.now) entry) }
+    {
+        let mut next = self.copy(alloc)?;
+        next.entries.push(entry)?;
+        Ok(next)
+    }
+}
+
+/// No open transactions.
+pub fn nobody(alloc: Global) -> Result<Vec<Option<OpenTransaction>>, AllocError>
+    ensures { IfOk result (λ sessions. sessions.items ≡ no_sessions) }
+{
+    let mut sessions = Vec::new(alloc);
+    for i in 0..PLACES {
+        sessions.push(None)?;
+    }
+    Ok(sessions)
+}
+
+/// A copy of the entries.
+pub fn entries_copied(alloc: Global, entries: &[Entry]) -> Result<Vec<Entry>, AllocError>
+    ensures { IfOk result (λ copy. copy.items ≡ entries.now) }
+{
+    let mut copies = Vec::new(alloc);
+    for entry in entries {
+        let copy = entry.duplicate(alloc)?;
+        copies.push(copy)?;
+    }
+    Ok(copies)
+}
+
+fn sessions_copied(
+    alloc: Global,
+    sessions: &[Option<OpenTransaction>],
+) -> Result<Vec<Option<OpenTransaction>>, AllocError>
+    ensures { IfOk result (λ copy. copy.items ≡ sessions.now) }
+{
+    let mut copies = Vec::new(alloc);
+    for transaction in sessions {
+        let copy = transaction_copied(alloc, transaction)?;
+        copies.push(copy)?;
+    }
+    Ok(copies)
+}
+
+fn transaction_copied(
+    alloc: Global,
+    transaction: &Option<OpenTransaction>,
+) -> Result<Option<OpenTransaction>, AllocError>
+    ensures { IfOk result (λ copy. copy ≡ transaction.now) }
+{
+    match transaction {
+        None => Ok(None),
+        Some(open) => {
+            let ops = open.ops.duplicate(alloc)?;
+            Ok(Some(OpenTransaction {
+                snapshot: open.snapshot,
+                ops,
+            }))
+        }
+    }
+}
+
+fn set_session(
+    sessions: &mut Vec<Option<OpenTransaction>>,
+    session: u8,
+    transaction: Option<OpenTransaction>,
+)
+    requires { session < length sessions.old.items }
+    ensures { sessions.new.items ≡ slice_set sessions.old.items session transaction }
+{
+    sessions[usize::from(session)] = transaction;
+}

@@ -1,0 +1,79 @@
+//! The store as its sessions know it.
+ghost use Rattle.std.specs.Prelude.{◌≡◌, ◌≤◌, ◌<◌, [], IsTrue, IfOk, OnErr};
+ghost use Rattle.ut_plain.specs.Plain.{new_store, opened_store};
+ghost use Rattle.ut_plain.specs.Spelled.{is_spelled};
+ghost use Rattle.ut_plain.specs.Step.{step};
+ghost use Rattle.check_oracle.specs.Store.{Gives};
+
+use crate::held::Held;
+use crate::outcome::Outcome;
+use crate::reopen::reopened;
+use crate::step::stepped;
+use std::alloc::{AllocError, Global};
+use std::marker::Model;
+use ut_plain::{Reply, Statement, plain_laws};
+
+/// A store that works as the plain definitions say. Each statement takes time and memory for all that was ever done.
+#[derive(Drop)]
+pub struct Oracle {
+    held: Held,
+}
+
+impl Model for Oracle {
+    ghost use Rattle.ut_plain.specs.Plain.{Plain};
+
+    ghost Value = { Plain };
+
+    ghost use Rattle.std.specs.Coded.{codes};
+    ghost use Rattle.std.specs.FinMap as finmap;
+    ghost use Rattle.ut_plain.specs.contracts.table.Stored as stored;
+
+    ghost coded = { Prim.hlevel (codes, finmap.code, stored.the_row.coded) };
+
+    ghost use Rattle.check_oracle.specs.Store.{plain_of, IsHeld};
+
+    ghost view = { λ o. plain_of o.held };
+
+    ghost invariant = { λ o. IsHeld o.held };
+}
+
+impl Oracle {
+    /// A store that was just made, with the greatest id that a row may get.
+    pub fn new(alloc: Global, rows_limit: u32) -> Result<Oracle, AllocError>
+        requires { rows_limit ≤ 2147483648 }
+        ensures { IfOk result (λ oracle. oracle ≡ new_store rows_limit) }
+    {
+        plain_laws();
+        let held = Held::new(alloc, rows_limit)?;
+        Ok(Oracle { held })
+    }
+
+    /// The store that is opened with this one's journal, its open transactions forgotten.
+    pub fn reopened(&self, alloc: Global, rows_limit: u32) -> Result<Oracle, AllocError>
+        requires { rows_limit ≤ 2147483648 }
+        ensures { IfOk result (λ oracle. oracle ≡ opened_store [] self.now.journal rows_limit) }
+    {
+        plain_laws();
+        let held = reopened(alloc, &self.held, rows_limit)?;
+        Ok(Oracle { held })
+    }
+
+    /// Makes a statement of a session. Where memory runs out nothing changes.
+    pub fn statement(
+        &mut self,
+        alloc: Global,
+        session: u8,
+        st: &Statement,
+    ) -> Result<Reply, AllocError>
+        requires seat { session < 17 }
+        requires spelled { IsTrue (is_spelled st.now) }
+        ensures steps { IfOk result (λ reply. Gives (step self.old session st.now) reply self.new) }
+        ensures stays { OnErr result (self.new ≡ self.old) }
+    {
+        plain_laws();
+        let out = stepped(alloc, &self.held, session, st)?;
+        let Outcome { reply, held } = out;
+        self.held = held;
+        Ok(reply)
+    }
+}

@@ -1,0 +1,50 @@
+//! What a session sees.
+ghost use Rattle.std.specs.Prelude.{◌≡◌, ◌≤◌, ◌<◌, length, Some, IfOk};
+ghost use Rattle.std.specs.FinMap as finmap;
+ghost use Rattle.ut_plain.specs.Plain.{seen_by};
+ghost use Rattle.ut_plain.specs.Reached.{IsPlain};
+ghost use Rattle.check_oracle.specs.Store.{plain_of, IsSight};
+
+use crate::held::Held;
+use crate::known::{Known, state_after};
+use crate::rows::apply_all;
+use std::alloc::{AllocError, Global};
+use ut_plain::OpenTransaction;
+
+/// The tables and commits of the journal, and the rows that a session sees.
+pub fn sight_of(alloc: Global, held: &Held, session: u8) -> Result<Known, AllocError>
+    requires plain { IsPlain (plain_of held.now) }
+    requires seat { session < 17 }
+    ensures { IfOk result (λ sight. IsSight sight (plain_of held.now) session) }
+{
+    let now = state_after(alloc, held.entries.as_slice())?;
+    match held.own(session) {
+        None => Ok(now),
+        Some(own) => {
+            let sight = seen_inside(alloc, held, now, own)?;
+            Ok(sight)
+        }
+    }
+}
+
+fn seen_inside(
+    alloc: Global,
+    held: &Held,
+    now: Known,
+    own: &OpenTransaction,
+) -> Result<Known, AllocError>
+    requires plain { IsPlain (plain_of held.now) }
+    requires since { own.now.snapshot ≤ length held.now.entries.items }
+    ensures tables { IfOk result (λ sight. sight.tables.items ≡ now.tables.items) }
+    ensures commits { IfOk result (λ sight. sight.commits ≡ now.commits) }
+    ensures rows { IfOk result (λ sight. sight.rows.items ≡ finmap.entries (seen_by (plain_of held.now).journal (Some own.now))) }
+{
+    let then = state_after(alloc, &held.entries[..own.snapshot as usize])?;
+    let mut rows = then.rows;
+    apply_all(alloc, &mut rows, own.ops.as_slice())?;
+    Ok(Known {
+        tables: now.tables,
+        rows,
+        commits: now.commits,
+    })
+}

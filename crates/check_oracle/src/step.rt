@@ -1,0 +1,111 @@
+//! One statement of a session: its refusals in order, and then what it does.
+ghost use Rattle.std.specs.Prelude.{◌≡◌, ◌<◌, IfOk};
+ghost use Rattle.ut_plain.specs.Step.{step};
+ghost use Rattle.check_oracle.specs.Store.{plain_of, early, IsHeld, Allowed, Gives};
+
+use crate::answers::told;
+use crate::held::Held;
+use crate::known::Known;
+use crate::outcome::{Outcome, refused, stays};
+use crate::session::{abort, begin, commit, create};
+use crate::shapes::{merge_l1, shape};
+use crate::sight::sight_of;
+use crate::writes::{bulk, delete, insert, update};
+use std::alloc::{AllocError, Global};
+use ut_plain::{Query, Refusal, Statement, Table, is_supported, kinds_fit, names_known, state_why};
+
+/// What a statement of a session comes to.
+pub fn stepped(
+    alloc: Global,
+    held: &Held,
+    session: u8,
+    st: &Statement,
+) -> Result<Outcome, AllocError>
+    requires held { IsHeld held.now }
+    requires seat { session < 17 }
+    ensures { IfOk result (λ out. Gives (step (plain_of held.now) session st.now) out.reply (plain_of out.held)) }
+{
+    let sight = sight_of(alloc, held, session)?;
+    let is_open = held.own(session).is_some();
+    match early(sight.tables.as_slice(), is_open, st) {
+        Some(why) => {
+            let out = refused(alloc, held, why)?;
+            Ok(out)
+        }
+        None => allowed(alloc, held, &sight, session, st),
+    }
+}
+
+/// The refusal that no limit and no conflict is asked for.
+fn early(tables: &[Table], is_open: bool, st: &Statement) -> Option<Refusal>
+    ensures { result ≡ early tables.now is_open st.now }
+{
+    if !is_supported(st) {
+        return Some(Refusal::Syntax);
+    }
+    if !names_known(tables, st) {
+        return Some(Refusal::Name);
+    }
+    if !kinds_fit(tables, st) {
+        return Some(Refusal::Kind);
+    }
+    match state_why(is_open, st) {
+        None => None,
+        Some(why) => Some(Refusal::State(why)),
+    }
+}
+
+fn allowed(
+    alloc: Global,
+    held: &Held,
+    sight: &Known,
+    session: u8,
+    st: &Statement,
+) -> Result<Outcome, AllocError>
+    requires held { IsHeld held.now }
+    requires allowed { Allowed (plain_of held.now) sight.now session st.now }
+    ensures { IfOk result (λ out. Gives (step (plain_of held.now) session st.now) out.reply (plain_of out.held)) }
+{
+    match st {
+        Statement::Create { table, columns } => {
+            create(alloc, held, sight, session, table, columns)
+        }
+        Statement::Insert { table, values } => insert(alloc, held, sight, session, table, values),
+        Statement::Bulk { table, values } => bulk(alloc, held, sight, session, table, values),
+        Statement::Ask(query) => ask(alloc, held, sight, session, query),
+        Statement::Update {
+            table,
+            column,
+            value,
+            preds,
+        } => update(alloc, held, sight, session, table, column, value, preds),
+        Statement::Delete { table, preds } => delete(alloc, held, sight, session, table, preds),
+        Statement::Begin => begin(alloc, held, sight, session),
+        Statement::Commit => commit(alloc, held, sight, session),
+        Statement::Abort => abort(alloc, held, sight, session),
+        Statement::MergeL1 { table, n } => merge_l1(alloc, held, sight, session, table, *n),
+        Statement::Shape { table } => shape(alloc, held, sight, session, table),
+        Statement::MergeBegin { .. } => refused(alloc, held, Refusal::Syntax),
+        Statement::MergeEnd => refused(alloc, held, Refusal::Syntax),
+        Statement::SaveBegin => refused(alloc, held, Refusal::Syntax),
+        Statement::SaveStep { .. } => refused(alloc, held, Refusal::Syntax),
+        Statement::SaveSeal => refused(alloc, held, Refusal::Syntax),
+        Statement::SaveFlip => refused(alloc, held, Refusal::Syntax),
+        Statement::SaveDrop => refused(alloc, held, Refusal::Syntax),
+    }
+}
+
+fn ask(
+    alloc: Global,
+    held: &Held,
+    sight: &Known,
+    session: u8,
+    query: &Query,
+) -> Result<Outcome, AllocError>
+    requires { Allowed (plain_of held.now) sight.now session (Statement.Ask query.now) }
+    ensures { IfOk result (λ out. Gives (step (plain_of held.now) session (Statement.Ask query.now)) out.reply (plain_of out.held)) }
+{
+    let _session = session;
+    let reply = told(alloc, sight.tables.as_slice(), sight.rows.as_slice(), query)?;
+    stays(alloc, held, reply)
+}

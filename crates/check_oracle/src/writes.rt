@@ -1,0 +1,163 @@
+//! The statements that change rows, each as the change that it comes to.
+ghost use Rattle.std.specs.Prelude.{◌≡◌, ◌≤◌, ◌<◌, length, IfOk};
+ghost use Rattle.ut_plain.specs.Tables.{place_in};
+ghost use Rattle.ut_plain.specs.Step.{step};
+ghost use Rattle.check_oracle.specs.Store.{plain_of, Allowed, Gives};
+
+use crate::change::{Change, make};
+use crate::held::Held;
+use crate::known::Known;
+use crate::made;
+use crate::outcome::{Outcome, refused};
+use crate::query::found;
+use crate::room::has_ids;
+use crate::taken::first_taken;
+use std::alloc::{AllocError, Global};
+use ut_plain::{Pred, Refusal, Statement, Table, columns_in, place_of};
+use ut_value::{Name, Seq, Value};
+
+/// The place of a table that is there.
+pub fn place_in(tables: &[Table], name: &[u8]) -> u16
+    requires { length tables.now ≤ 256 }
+    ensures { result ≡ place_in tables.now name.now }
+{
+    match place_of(tables, name) {
+        None => 0,
+        Some(place) => place as u16,
+    }
+}
+
+/// `insert`
+pub fn insert(
+    alloc: Global,
+    held: &Held,
+    sight: &Known,
+    session: u8,
+    table: &Name,
+    values: &Seq<Value>,
+) -> Result<Outcome, AllocError>
+    requires { Allowed (plain_of held.now) sight.now session (Statement.Insert table.now values.now) }
+    ensures { IfOk result (λ out. Gives (step (plain_of held.now) session (Statement.Insert table.now values.now)) out.reply (plain_of out.held)) }
+{
+    let place = place_in(sight.tables.as_slice(), table.as_slice());
+    let ops = made::insert(alloc, place, held.next_id, values)?;
+    let change = Change {
+        bulk: false,
+        ops,
+        rows: 1,
+        taken: None,
+    };
+    let out = make(alloc, held, sight.commits, session, change)?;
+    Ok(out)
+}
+
+/// `bulk`
+pub fn bulk(
+    alloc: Global,
+    held: &Held,
+    sight: &Known,
+    session: u8,
+    table: &Name,
+    values: &Seq<Value>,
+) -> Result<Outcome, AllocError>
+    requires { Allowed (plain_of held.now) sight.now session (Statement.Bulk table.now values.now) }
+    ensures { IfOk result (λ out. Gives (step (plain_of held.now) session (Statement.Bulk table.now values.now)) out.reply (plain_of out.held)) }
+{
+    let width = columns_in(sight.tables.as_slice(), table.as_slice()).len();
+    let rows = made::row_count(width, values.as_slice());
+    if !has_ids(held, rows) {
+        let out = refused(alloc, held, Refusal::Full)?;
+        return Ok(out);
+    }
+    let place = place_in(sight.tables.as_slice(), table.as_slice());
+    let ops = made::load(alloc, place, held.next_id, width, values.as_slice())?;
+    let change = Change {
+        bulk: true,
+        ops,
+        rows: rows as u32,
+        taken: None,
+    };
+    let out = make(alloc, held, sight.commits, session, change)?;
+    Ok(out)
+}
+
+/// `update`
+pub fn update(
+    alloc: Global,
+    held: &Held,
+    sight: &Known,
+    session: u8,
+    table: &Name,
+    column: &Name,
+    value: &Value,
+    preds: &Seq<Pred>,
+) -> Result<Outcome, AllocError>
+    requires { Allowed (plain_of held.now) sight.now session (Statement.Update table.now column.now value.now preds.now) }
+    ensures { IfOk result (λ out. Gives (step (plain_of held.now) session (Statement.Update table.now column.now value.now preds.now)) out.reply (plain_of out.held)) }
+{
+    let tables = sight.tables.as_slice();
+    let hits = found(
+        alloc,
+        tables,
+        sight.rows.as_slice(),
+        table.as_slice(),
+        preds.as_slice(),
+    )?;
+    if !has_ids(held, hits.len()) {
+        let out = refused(alloc, held, Refusal::Full)?;
+        return Ok(out);
+    }
+    let taken = first_taken(held, session, hits.as_slice());
+    let place = place_in(tables, table.as_slice());
+    let columns = columns_in(tables, table.as_slice());
+    let ops = made::update(
+        alloc,
+        place,
+        held.next_id,
+        columns,
+        column.as_slice(),
+        value,
+        hits.as_slice(),
+    )?;
+    let change = Change {
+        bulk: false,
+        ops,
+        rows: hits.len() as u32,
+        taken,
+    };
+    let out = make(alloc, held, sight.commits, session, change)?;
+    Ok(out)
+}
+
+/// `delete`
+pub fn delete(
+    alloc: Global,
+    held: &Held,
+    sight: &Known,
+    session: u8,
+    table: &Name,
+    preds: &Seq<Pred>,
+) -> Result<Outcome, AllocError>
+    requires { Allowed (plain_of held.now) sight.now session (Statement.Delete table.now preds.now) }
+    ensures { IfOk result (λ out. Gives (step (plain_of held.now) session (Statement.Delete table.now preds.now)) out.reply (plain_of out.held)) }
+{
+    let tables = sight.tables.as_slice();
+    let hits = found(
+        alloc,
+        tables,
+        sight.rows.as_slice(),
+        table.as_slice(),
+        preds.as_slice(),
+    )?;
+    let taken = first_taken(held, session, hits.as_slice());
+    let place = place_in(tables, table.as_slice());
+    let ops = made::delete(alloc, place, hits.as_slice())?;
+    let change = Change {
+        bulk: false,
+        ops,
+        rows: hits.len() as u32,
+        taken,
+    };
+    let out = make(alloc, held, sight.commits, session, change)?;
+    Ok(out)
+}

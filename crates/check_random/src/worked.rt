@@ -1,0 +1,60 @@
+//! Worked scripts for runs with a refused allocation.
+use std::alloc::{AllocError, Global};
+use check_scripts::rows::{self, Row};
+
+/// A script whose replies aren't worked out: the slow store says them.
+pub type Lines = &'static [&'static str];
+
+/// Rows that are refused for their names and kinds.
+const REFUSED_ROWS: Lines = &[
+    "1 create T k:int v:text",
+    "1 insert X 1",
+    "1 insert T 5",
+    "1 insert T 'a' 5",
+    "2 select T *",
+    "1 select T *",
+];
+
+/// A load of texts in a transaction that is committed, and rows that move. A text of more than 24 bytes takes an allocation.
+const A_LOAD_IN_A_TRANSACTION: Lines = &[
+    "1 create T k:int v:text",
+    "1 insert T 1 'one'",
+    "1 begin",
+    "1 bulk T 2 'two, spelled in more than a few letters' 3 'it''s long, and has a quote in it' 4 ''",
+    "1 insert T 5 'five'",
+    "2 select T *",
+    "0 merge l1 T 1",
+    "1 update T set v 'new, and no shorter than it was' where k = 3",
+    "1 select T * where v <> 'two, spelled in more than a few letters'",
+    "1 commit",
+    "0 merge l1 T 10",
+    "0 shape T",
+    "2 select T *",
+];
+
+/// So many scripts there are.
+pub const COUNT: usize = 7;
+
+/// The tables of rows that are run, and then the scripts without replies.
+const TABLES: [&[Row]; 5] = [
+    rows::A_ROW_IS_SELECTED,
+    rows::A_SNAPSHOT_SEES_NO_LATER_COMMIT,
+    rows::ROWS_STAND_IN_TWO_STAGES,
+    rows::AN_UPDATE_MOVES_A_ROW_TO_THE_END,
+    rows::PAIRS_ARE_JOINED_AND_GROUPS_SUMMED,
+];
+
+/// The lines of the script of a number.
+pub fn lines_of(alloc: Global, number: usize) -> Result<Vec<&'static str>, AllocError> {
+    let mut lines = Vec::new(alloc);
+    match number {
+        0 => lines.extend_from_slice(REFUSED_ROWS)?,
+        1 => lines.extend_from_slice(A_LOAD_IN_A_TRANSACTION)?,
+        _ => {
+            for (line, _) in TABLES.get(number - 2).copied().unwrap_or(&[]) {
+                lines.push(*line)?;
+            }
+        }
+    }
+    Ok(lines)
+}

@@ -1,0 +1,90 @@
+//! Stores that answer lines, and the first line that is answered otherwise than a table says.
+use crate::rows::Row;
+use crate::scripts::{LINES, script_line};
+use std::alloc::{AllocError, Global};
+use check_oracle::{Oracle, is_spelled};
+use ut_plain::{Parsed, Refusal, Reply, Statement};
+use ut_script::{parse_line, put_reply};
+
+/// The number of the last session.
+const LAST_SESSION: u8 = 16;
+
+/// A store that answers lines.
+pub trait Answers {
+    /// Puts the answer to a line at the end. A comment has none.
+    fn answer(&mut self, alloc: Global, line: &[u8], out: &mut Vec<u8>) -> Result<(), AllocError>;
+}
+
+impl Answers for Oracle {
+    fn answer(&mut self, alloc: Global, line: &[u8], out: &mut Vec<u8>) -> Result<(), AllocError> {
+        let syntax = Reply::Refused(Refusal::Syntax);
+        match parse_line(alloc, line, false) {
+            Err(_) => Err(AllocError),
+            Ok(Parsed::Comment) => Ok(()),
+            Ok(Parsed::Stranger) => put_reply(out, None, &syntax),
+            Ok(Parsed::Bad(session)) => put_reply(out, Some(session), &syntax),
+            Ok(Parsed::Good(session, st)) => {
+                let reply = reply_to(self, alloc, session, &st)?;
+                put_reply(out, Some(session), &reply)
+            }
+        }
+    }
+}
+
+/// The reply to a statement. A statement that no line can spell doesn't come, and would be refused.
+fn reply_to(
+    store: &mut Oracle,
+    alloc: Global,
+    session: u8,
+    st: &Statement,
+) -> Result<Reply, AllocError> {
+    if session > LAST_SESSION || !is_spelled(st) {
+        return Ok(Reply::Refused(Refusal::Syntax));
+    }
+    store.statement(alloc, session, st)
+}
+
+/// The place of the first row of a table whose line is answered otherwise.
+pub fn first_wrong<S: Answers>(
+    alloc: Global,
+    store: &mut S,
+    table: &[Row],
+) -> Result<Option<usize>, AllocError> {
+    for (place, (line, want)) in table.iter().enumerate() {
+        let mut out = Vec::new(alloc);
+        store.answer(alloc, line.as_bytes(), &mut out)?;
+        if !is_line(out.as_slice(), want.as_bytes()) {
+            return Ok(Some(place));
+        }
+    }
+    Ok(None)
+}
+
+/// Whether bytes are a text and a line end.
+fn is_line(bytes: &[u8], text: &[u8]) -> bool {
+    match bytes {
+        [front @ .., b'\n'] => front == text,
+        _ => false,
+    }
+}
+
+/// The first line of the script of a seed that two stores answer otherwise.
+pub fn first_apart<A: Answers, B: Answers>(
+    alloc: Global,
+    left: &mut A,
+    right: &mut B,
+    seed: u64,
+) -> Result<Option<u32>, AllocError> {
+    for number in 0..LINES {
+        let mut line = Vec::new(alloc);
+        script_line(seed, number, &mut line)?;
+        let mut one = Vec::new(alloc);
+        left.answer(alloc, line.as_slice(), &mut one)?;
+        let mut other = Vec::new(alloc);
+        right.answer(alloc, line.as_slice(), &mut other)?;
+        if one.as_slice() != other.as_slice() {
+            return Ok(Some(number));
+        }
+    }
+    Ok(None)
+}

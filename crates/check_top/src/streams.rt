@@ -1,0 +1,97 @@
+//! Sources that give a script in pieces, long lines, and streams that fail.
+ghost use Rattle.std.specs.Prelude.{◌<◌};
+
+use crate::run::{REPLIES, RUN_NEW, Ran, SCRIPT, run_between, run_on};
+use std::alloc::{AllocError, Global};
+use std::test::Fail;
+use std::thread::Threads;
+use ut_app::Status;
+use ut_outside::{MemDisk, MemSink, MemSource};
+
+/// The longest line that is read.
+const LINE_LIMIT: usize = 65536;
+
+fn run_in_pieces(
+    rt: &(impl Threads + Sync),
+    alloc: Global,
+    script: &[u8],
+    piece: usize,
+) -> Result<Ran, AllocError>
+    requires { 0 < piece }
+{
+    let mut disk = MemDisk::of(alloc, &[], &[], &[])?;
+    let source = MemSource::new(alloc, script, piece, None)?;
+    run_between(
+        rt,
+        alloc,
+        RUN_NEW,
+        source,
+        MemSink::new(alloc, None),
+        &mut disk,
+    )
+}
+
+#[test]
+fn pieces_make_no_difference(rt: HostRuntime) -> Result<(), Fail> {
+    let alloc = rt.alloc();
+    let unended = SCRIPT.strip_suffix(b"\n").expect(&rt, "a line end");
+    for script in [SCRIPT, unended] {
+        for piece in [1, 7, 4096] {
+            let ran = run_in_pieces(&rt, alloc, script, piece)?;
+            assert_eq!(rt; ran.status, Status::Done);
+            assert_eq!(rt; ran.replies.as_slice(), REPLIES);
+        }
+    }
+    Ok(())
+}
+
+#[test]
+fn a_line_that_is_too_long_ends_the_run(rt: HostRuntime) -> Result<(), Fail> {
+    let alloc = rt.alloc();
+    for (len, status) in [
+        (LINE_LIMIT, Status::Done),
+        (LINE_LIMIT + 1, Status::TooLong),
+    ] {
+        let mut script = Vec::from_slice(alloc, SCRIPT)?;
+        script.resize(SCRIPT.len() + len, b'#')?;
+        let mut disk = MemDisk::of(alloc, &[], &[], &[])?;
+        let ran = run_on(&rt, alloc, RUN_NEW, &script, &mut disk)?;
+        assert_eq!(rt; ran.status, status, "at {len}");
+        assert_eq!(rt; ran.replies.as_slice(), REPLIES);
+    }
+    Ok(())
+}
+
+#[test]
+fn a_source_that_fails_ends_the_run(rt: HostRuntime) -> Result<(), Fail> {
+    let alloc = rt.alloc();
+    for call in 0..=SCRIPT.len() as u64 {
+        let mut disk = MemDisk::of(alloc, &[], &[], &[])?;
+        let source = MemSource::new(alloc, SCRIPT, 1, Some(call))?;
+        let ran = run_between(
+            &rt,
+            alloc,
+            RUN_NEW,
+            source,
+            MemSink::new(alloc, None),
+            &mut disk,
+        )?;
+        assert_eq!(rt; ran.status, Status::ReadFault, "at {call}");
+        assert!(rt; REPLIES.starts_with(&ran.replies), "at {call}");
+    }
+    Ok(())
+}
+
+#[test]
+fn a_sink_that_fails_ends_the_run(rt: HostRuntime) -> Result<(), Fail> {
+    let alloc = rt.alloc();
+    for (call, told) in [(0, 0), (1, 14), (2, 30)] {
+        let mut disk = MemDisk::of(alloc, &[], &[], &[])?;
+        let source = MemSource::new(alloc, SCRIPT, 4096, None)?;
+        let sink = MemSink::new(alloc, Some(call));
+        let ran = run_between(&rt, alloc, RUN_NEW, source, sink, &mut disk)?;
+        assert_eq!(rt; ran.status, Status::WriteFault, "at {call}");
+        assert_eq!(rt; ran.replies.len(), told, "at {call}");
+    }
+    Ok(())
+}

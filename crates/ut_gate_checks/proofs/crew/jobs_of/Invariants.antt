@@ -1,9 +1,0 @@
-use Rattle.std.proofs.Common.{◌≡◌, length}
-use Rattle.std.specs.Prelude.{All}
-use Rattle.ut_gate_checks.proofs.crew.jobs_of.Given as goal
-
-abbrev pub invariant-loop-act : goal.invariant-loop-act
-invariant-loop-act g l = All (λ p. p.gate ≡ l.gate) l.passes × All (λ j. j.pass.gate ≡ l.gate) l.jobs.items
-
-abbrev pub decreases-loop-act : goal.decreases-loop-act
-decreases-loop-act g l = length l.acts.items

@@ -1,5 +1,0 @@
-use Rattle.ut_oracle.proofs.SightLemmas.{plain_new}
-use Rattle.ut_oracle.proofs.held.Held.new.Goals as goal
-
-pub returns : goal.returns
-returns c = plain_new _ _ c.args.rows_limit _ c.new.ensures.items c.in_ok-sessions.ensures c.new-2.ensures.items
