@@ -1,2 +1,3 @@
+pub mod UnionLemmas
 pub mod MemberLemmas
 pub mod ColumnLemmas

@@ -7,6 +7,7 @@ use Rattle.std.proofs.lemmas.Cmp.{nat_list_cmp_total, tied_itself, ranked}
 use Rattle.std.specs.Ordering.{ordering_reverse, ordering_then, MatchOrdering, nat_cmp}
 use Rattle.std.specs.List.{list_any}
 use Rattle.ut_key.specs.Keys.{key_cmp}
+use Rattle.ut_own.proofs.UnionLemmas.{turned, Ascends-union}
 use Rattle.ut_own.specs.Own.{placed, insert_key, union, used, news, own_dict, cells_of, recoded, In, Below, Ascends}
 
 -- ---- keys that compare as equal
@@ -21,40 +22,6 @@ key_same (x ∷ xs) (y ∷ ys) h = by (nat_cmp x y) (ranked x y (nat_cmp x y) re
     by Less m g rest = cc
     by Equal m g rest = λ i. m i ∷ rest g i
     by Greater m g rest = cc
-
-turned : (a b : List ℕ) → key_cmp a b ≡ Less → key_cmp b a ≡ Greater
-turned a b e = nat_list_cmp_total.antisymm b a ∙ ap (λ o. ordering_reverse o) e
-
-reversed : (a b : List ℕ) → key_cmp a b ≡ Greater → key_cmp b a ≡ Less
-reversed a b e = nat_list_cmp_total.antisymm b a ∙ ap (λ o. ordering_reverse o) e
-
--- ---- ascending keys
-
-Below-placed : (o : Ordering) (key x first : List ℕ) (rest inserted : List (List ℕ)) → key_cmp key x ≡ Less → key_cmp key first ≡ Less → Below key rest → Below key inserted → Below key (placed o x first rest inserted)
-Below-placed Less key x first rest inserted h f r i = (h, (f, r))
-Below-placed Equal key x first rest inserted h f r i = (f, r)
-Below-placed Greater key x first rest inserted h f r i = (f, i)
-
-Below-insert : (key x : List ℕ) (ys : List (List ℕ)) → key_cmp key x ≡ Less → Below key ys → Below key (insert_key x ys)
-Below-insert key x [] h k = (h, tt)
-Below-insert key x (y ∷ ys) h k = Below-placed (key_cmp x y) key x y ys (insert_key x ys) h k.0 k.1 (Below-insert key x ys h k.1)
-
-Below-trans : (k f : List ℕ) (ys : List (List ℕ)) → key_cmp k f ≡ Less → Below f ys → Below k ys
-Below-trans k f [] h t = tt
-Below-trans k f (y ∷ ys) h t = (nat_list_cmp_total.trans k f y h t.0, Below-trans k f ys h t.1)
-
-Ascends-placed : (o : Ordering) (key first : List ℕ) (rest : List (List ℕ)) → key_cmp key first ≡ o → Below first rest → Ascends rest → Ascends (insert_key key rest) → Ascends (placed o key first rest (insert_key key rest))
-Ascends-placed Less key first rest e b r i = ((e, Below-trans key first rest e b), (b, r))
-Ascends-placed Equal key first rest e b r i = (b, r)
-Ascends-placed Greater key first rest e b r i = (Below-insert first key rest (reversed key first e) b, i)
-
-Ascends-insert : (key : List ℕ) (ys : List (List ℕ)) → Ascends ys → Ascends (insert_key key ys)
-Ascends-insert key [] h = (tt, tt)
-Ascends-insert key (y ∷ ys) h = Ascends-placed (key_cmp key y) key y ys refl h.0 h.1 (Ascends-insert key ys h.1)
-
-pub Ascends-union : (xs ys : List (List ℕ)) → Ascends ys → Ascends (union xs ys)
-Ascends-union [] ys h = h
-Ascends-union (x ∷ xs) ys h = Ascends-insert x (union xs ys) (Ascends-union xs ys h)
 
 -- ---- which keys stand where
 
@@ -162,11 +129,11 @@ own_dict-order earlier cells others to from =
 
 -- Codes by a map that keeps the keys of the codes that stand there mean the same.
 pub recoded-is : (old new : List (List ℕ)) (entries : List (Option ℕ)) (codes : List ℕ)
-    → ((c : ℕ) → list_any (nat_eq c) codes ≡ true → (d : ℕ) × (slice_get entries c ≡ Some (Some d)) × (get_or new d [] ≡ get_or old c [])) → cells_of new (recoded entries codes) ≡ cells_of old codes
+    → ((c : ℕ) → list_any (nat_eq c) codes ≡ true → (d : ℕ) × (get_or entries c None ≡ Some d) × (get_or new d [] ≡ get_or old c [])) → cells_of new (recoded entries codes) ≡ cells_of old codes
 recoded-is old new entries [] h = refl
 recoded-is old new entries (c ∷ codes) h =
     let here = h c (ap (λ b. b || list_any (nat_eq c) codes) (eq-eqb c c refl)) in
-    let first : get_or new (unwrap_or (unwrap_or (slice_get entries c) None) 0) [] ≡ get_or old c [] = ap (λ o. get_or new (unwrap_or (unwrap_or o None) 0) []) here.1 ∙ here.2 in
+    let first : get_or new (unwrap_or (get_or entries c None) 0) [] ≡ get_or old c [] = ap (λ o. get_or new (unwrap_or o 0) []) here.1 ∙ here.2 in
     let rest = recoded-is old new entries codes (λ d at. h d (or_right (nat_eq d c) (list_any (nat_eq d) codes) at)) in
     λ i. first i ∷ rest i
   where

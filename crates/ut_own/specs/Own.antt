@@ -1,5 +1,5 @@
 -- The own dictionary of a column of a part, and what its codes stand for.
-use Rattle.std.specs.Prelude.{◌≡◌, ◌⊎◌, ℕ, Bool, true, false, not, List, [], ◌∷◌, filter, map, get_or, Option, None, slice_get}
+use Rattle.std.specs.Prelude.{◌≡◌, ◌⊎◌, ℕ, Bool, true, false, not, List, [], ◌∷◌, filter, map, get_or, Option, None}
 use Rattle.std.specs.declared.cmp.Ordering.{Ordering}
 use Rattle.std.specs.declared.cmp.Ordering.TheVariants.{Less, Equal, Greater}
 use Rattle.std.specs.List.{list_any}
@@ -47,7 +47,7 @@ cells_of keys codes = map (λ c. get_or keys c []) codes
 
 -- codes by a map of the old ones to new ones
 abbrev pub recoded : List (Option ℕ) → List ℕ → List ℕ
-recoded entries codes = map (λ c. unwrap_or (unwrap_or (slice_get entries c) None) 0) codes
+recoded entries codes = map (λ c. unwrap_or (get_or entries c None) 0) codes
 
 -- a key is one of these
 abbrev pub In : List ℕ → List (List ℕ) → Type 0
@@ -63,3 +63,8 @@ Below key (first ∷ rest) = (key_cmp key first ≡ Less) × Below key rest
 abbrev pub Ascends : List (List ℕ) → Type 0
 Ascends [] = Unit {0}
 Ascends (key ∷ keys) = Below key keys × Ascends keys
+
+-- each of the first keys is below each of the others
+abbrev pub AreBelow : List (List ℕ) → List (List ℕ) → Type 0
+AreBelow [] others = Unit {0}
+AreBelow (key ∷ keys) others = Below key others × AreBelow keys others
