@@ -21,8 +21,8 @@ same_key x y e = slice_cmp-IsAntisymmetric nat_cmp-IsAntisymmetric _ _ e
 before_on : (xs : List (List ℕ)) (key : List ℕ) (m p : ℕ) → IsAscending xs → key_cmp (get_or xs m []) key ≡ Less → p ≤ m → m < length xs → key_cmp (get_or xs p []) key ≡ Less
 before_on xs key m p up h le within =
     elim (cases_lt p m) [
-      inl lt ↦ nat_list_cmp_total.trans (get_or xs p []) (get_or xs m []) key (up p m lt within) h
-    | inr ge ↦ let e : m ≡ p = omega arith in ap (λ (k : ℕ). key_cmp (get_or xs k []) key) (sym e) ∙ h
+      | inl lt ↦ nat_list_cmp_total.trans (get_or xs p []) (get_or xs m []) key (up p m lt within) h
+      | inr ge ↦ let e : m ≡ p = omega arith in ap (λ (k : ℕ). key_cmp (get_or xs k []) key) (sym e) ∙ h
     ]
 
 -- what the keys at its border say
@@ -41,8 +41,8 @@ parted : (a b : List (List ℕ)) (i j p q : ℕ) → IsCut a b p q → p + q ≡
 parted a b i j p q c e ia pos jb same =
     let key = same_key (get_or a i []) (get_or b (j - 1) []) same in
     elim (cases_lt i p) [
-      inl lt ↦ less_equal (sym (c.below_b i (j - 1) lt (omega arith) (omega arith)) ∙ same)
-    | inr ge ↦ less_equal (sym (c.below_a i (j - 1) (omega arith) ge ia) ∙ ap (λ x. key_cmp (get_or b (j - 1) []) x) key ∙ tied_itself nat_list_cmp_total (get_or b (j - 1) []))
+      | inl lt ↦ less_equal (sym (c.below_b i (j - 1) lt (omega arith) (omega arith)) ∙ same)
+      | inr ge ↦ less_equal (sym (c.below_a i (j - 1) (omega arith) ge ia) ∙ ap (λ x. key_cmp (get_or b (j - 1) []) x) key ∙ tied_itself nat_list_cmp_total (get_or b (j - 1) []))
     ]
 
 -- the search stands between two places of the first list
@@ -63,12 +63,12 @@ not_less Greater h k = refl
 pub found : (a b : List (List ℕ)) (least i j : ℕ) → IsAscending a → IsAscending b → IsBetween a b least i i → j ≡ least - i
     → (0 < j → i < length a → key_cmp (get_or a i []) (get_or b (j - 1) []) ≢ Equal) → IsCutBehind a b least i j
 found a b least i j ua ub s e apart = record {
-  cut = is_cut a b i j ua ub s.within (omega (arith, s.low_least)) 
-    (λ pos lt. ap (λ (k : ℕ). key_cmp (get_or a (i - 1) []) (get_or b k [])) e ∙ s.under pos (omega (arith, s.high_least)))
-    (λ pos lt. reversed (get_or a i []) (get_or b (j - 1) [])
+  cut = is_cut a b i j ua ub s.within (omega (arith, s.low_least))
+      (λ pos lt. ap (λ (k : ℕ). key_cmp (get_or a (i - 1) []) (get_or b k [])) e ∙ s.under pos (omega (arith, s.high_least)))
+      (λ pos lt. reversed (get_or a i []) (get_or b (j - 1) [])
       (not_less (key_cmp (get_or a i []) (get_or b (j - 1) []))
-        (λ less. s.over lt (omega arith) (ap (λ (k : ℕ). key_cmp (get_or a i []) (get_or b (k - 1) [])) (sym e) ∙ less))
-        (apart pos lt)));
+      (λ less. s.over lt (omega arith) (ap (λ (k : ℕ). key_cmp (get_or a i []) (get_or b (k - 1) [])) (sym e) ∙ less))
+      (apart pos lt)));
   place = inl (omega (arith, s.high_least));
 }
 
@@ -81,8 +81,8 @@ found_behind a b least i j ua ub s e pos ia same =
     let at : i + 1 - 1 ≡ i = omega arith in
     record {
       cut = is_cut a b (i + 1) j ua ub (omega arith) jb
-        (λ _ lt. ap (λ (k : ℕ). key_cmp (get_or a k []) (get_or b j [])) at ∙ ap (λ x. key_cmp x (get_or b j [])) key ∙ ub (j - 1) j (omega arith) lt)
-        (λ _ lt. ap (λ x. key_cmp x (get_or a (i + 1) [])) (sym key) ∙ ua i (i + 1) (omega arith) lt);
+          (λ _ lt. ap (λ (k : ℕ). key_cmp (get_or a k []) (get_or b j [])) at ∙ ap (λ x. key_cmp x (get_or b j [])) key ∙ ub (j - 1) j (omega arith) lt)
+          (λ _ lt. ap (λ x. key_cmp x (get_or a (i + 1) [])) (sym key) ∙ ua i (i + 1) (omega arith) lt);
       place = inr (omega (arith, s.high_least), record { first = omega arith; second = pos; same = ap (λ (k : ℕ). get_or a k []) at ∙ key });
     }
 
@@ -94,11 +94,11 @@ nearest a b least i j p q x d le = by x.place
     by (inl e) = omega (arith, e, le)
     by (inr e) =
         elim (cases_lt least (p + q)) [
-          inl lt ↦ omega (arith, e.0, lt)
-        | inr ge ↦
-          let at : i - 1 + j ≡ p + q = omega (arith, e.0, e.1.first, ge, le) in
-          absurd (parted a b (i - 1) j p q d (sym at) (omega (arith, x.cut.first, e.1.first)) e.1.second x.cut.second
-            (ap (λ key. key_cmp key (get_or b (j - 1) [])) e.1.same ∙ tied_itself nat_list_cmp_total (get_or b (j - 1) [])))
+          | inl lt ↦ omega (arith, e.0, lt)
+          | inr ge ↦
+              let at : i - 1 + j ≡ p + q = omega (arith, e.0, e.1.first, ge, le) in
+              absurd (parted a b (i - 1) j p q d (sym at) (omega (arith, x.cut.first, e.1.first)) e.1.second x.cut.second
+              (ap (λ key. key_cmp key (get_or b (j - 1) [])) e.1.same ∙ tied_itself nat_list_cmp_total (get_or b (j - 1) [])))
         ]
 
 pub reaches : (a b : List (List ℕ)) (least i j : ℕ) → IsCutBehind a b least i j → (least ≤ i + j) × (i + j ≤ least + 1)
@@ -114,25 +114,27 @@ in_order a b i j p q c d le = (forward, backward)
   where
     less_less : (x y : List ℕ) → key_cmp x y ≡ Less → key_cmp y x ≡ Less → ⊥
     less_less x y h k = let e : Less ≡ Greater = sym k ∙ turned x y h in cc
+
     forward : i ≤ p
     forward =
         elim (cases_lt p i) [
-          inl lt ↦ absurd (less_less (get_or a p []) (get_or b j []) (c.below_b p j lt (omega arith) (omega (arith, d.second))) (d.below_a p j (omega arith) (omega arith) (omega (arith, c.first))))
-        | inr ge ↦ ge
+          | inl lt ↦ absurd (less_less (get_or a p []) (get_or b j []) (c.below_b p j lt (omega arith) (omega (arith, d.second))) (d.below_a p j (omega arith) (omega arith) (omega (arith, c.first))))
+          | inr ge ↦ ge
         ]
+
     backward : j ≤ q
     backward =
         elim (cases_lt q j) [
-          inl lt ↦ absurd (less_less (get_or b q []) (get_or a i []) (c.below_a i q lt (omega arith) (omega (arith, d.first))) (d.below_b i q (omega arith) (omega arith) (omega (arith, c.second))))
-        | inr ge ↦ ge
+          | inl lt ↦ absurd (less_less (get_or b q []) (get_or a i []) (c.below_a i q lt (omega arith) (omega (arith, d.first))) (d.below_b i q (omega arith) (omega arith) (omega (arith, c.second))))
+          | inr ge ↦ ge
         ]
 
 -- one more cut
 pub pushed : (P : ℕ → Cut → Type 0) (cuts : List Cut) (x : Cut) (n : ℕ) → length cuts ≡ n → ((k : ℕ) → k < n → P k (cut_at cuts k)) → P n x → (k : ℕ) → k < n + 1 → P k (cut_at (cuts ++ x ∷ []) k)
 pushed P cuts x n size h p = λ k lt.
     elim (cases_lt k n) [
-      inl before ↦ subst (λ c. P k c) (sym (get_or_append_left cuts (x ∷ []) record { a = 0; b = 0 } k (omega (arith, size)))) (h k before)
-    | inr here ↦
-      let e : n ≡ k = omega arith in
-      subst (λ (m : ℕ). P m (cut_at (cuts ++ x ∷ []) m)) e (subst (λ c. P n c) (sym (get_or_push cuts x record { a = 0; b = 0 } n size)) p)
+      | inl before ↦ subst (λ c. P k c) (sym (get_or_append_left cuts (x ∷ []) record { a = 0; b = 0 } k (omega (arith, size)))) (h k before)
+      | inr here ↦
+          let e : n ≡ k = omega arith in
+          subst (λ (m : ℕ). P m (cut_at (cuts ++ x ∷ []) m)) e (subst (λ c. P n c) (sym (get_or_push cuts x record { a = 0; b = 0 } n size)) p)
     ]

@@ -23,8 +23,8 @@ AreBelow-span : (xs ys : List (List ℕ)) (lo hi from to : ℕ) → hi ≤ lengt
 AreBelow-span xs ys lo hi from to a b h =
     let size = length-span lo hi xs a in
     AreBelow-at (span lo hi xs) (span from to ys) (λ p lt.
-      let within : p < hi - lo = omega (arith, size, lt) in
-      subst (λ k. Below k (span from to ys)) (sym (get_or-span lo hi xs p [] within)) (Below-span (get_or xs (lo + p) []) from to ys b (λ q le up. h (lo + p) q (omega arith) (omega arith) le up)))
+    let within : p < hi - lo = omega (arith, size, lt) in
+    subst (λ k. Below k (span from to ys)) (sym (get_or-span lo hi xs p [] within)) (Below-span (get_or xs (lo + p) []) from to ys b (λ q le up. h (lo + p) q (omega arith) (omega arith) le up)))
 
 -- what is in front of a later cut is in front of the earlier one or between the two
 pub front-more : (a : List (List ℕ)) (ua : List Bool) (b : List (List ℕ)) (ub : List Bool) (from to : Cut) → IsAscending a → IsAscending b → length ua ≡ length a → length ub ≡ length b
@@ -143,8 +143,8 @@ pub sums_more : (xs all : List ℕ) (k sum : ℕ) (next : List ℕ) → length a
 sums_more xs all k sum next size s h e = λ i lt.
     ap (λ l. get_or l i 0) e
     ∙ elim (cases_lt i k) [
-      inl before ↦ get_or_append_left all (sum ∷ []) 0 i (omega (arith, size)) ∙ h i before
-    | inr here ↦ let at : k ≡ i = omega arith in get_or_push all sum 0 i (size ∙ at) ∙ s ∙ ap (λ (n : ℕ). total (take n xs)) at
+      | inl before ↦ get_or_append_left all (sum ∷ []) 0 i (omega (arith, size)) ∙ h i before
+      | inr here ↦ let at : k ≡ i = omega arith in get_or_push all sum 0 i (size ∙ at) ∙ s ∙ ap (λ (n : ℕ). total (take n xs)) at
     ]
 
 -- a piece and what is in front of it fit
@@ -163,4 +163,3 @@ piece_fits a ua b ub pieces cuts k r lt =
 pub ok_then : {T E : Type 0} (r : Result T E) (P Q : T → Type 0) → IfOk r P → ((v : T) → P v → Q v) → IfOk r Q
 ok_then (Ok v) P Q h f = f v h
 ok_then (Err e) P Q h f = h
-

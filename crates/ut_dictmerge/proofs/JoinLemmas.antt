@@ -31,14 +31,14 @@ ArePlaces-behind : (d keys all : List (List ℕ)) (flags : List Bool) (from : �
     → ArePlaces 0 (d ++ keys) all flags 0 (es ++ more)
 ArePlaces-behind d keys all flags from es more size h k = λ i lt.
     elim (cases_lt i (length es)) [
-      inl before ↦
-      subst (λ e. IsPlace 0 (d ++ keys) (get_or all (0 + i) []) (get_or flags (0 + i) false) e) (sym (get_or_append_left es more None i before)) (ArePlaces-more 0 d keys all flags 0 es h i before)
-    | inr behind ↦
-      let within : i - length es < length more = omega (arith, lt, length-append es more) in
-      let at : from + (i - length es) ≡ 0 + i = omega (arith, size) in
-      subst (λ e. IsPlace 0 (d ++ keys) (get_or all (0 + i) []) (get_or flags (0 + i) false) e) (sym (get_or-append_right es more (length es) i None refl behind))
-      (subst (λ (n : ℕ). IsPlace 0 (d ++ keys) (get_or all n []) (get_or flags n false) (get_or more (i - length es) None)) at
-      (IsPlace-behind d keys (get_or all (from + (i - length es)) []) (get_or flags (from + (i - length es)) false) (get_or more (i - length es) None) (k (i - length es) within)))
+      | inl before ↦
+          subst (λ e. IsPlace 0 (d ++ keys) (get_or all (0 + i) []) (get_or flags (0 + i) false) e) (sym (get_or_append_left es more None i before)) (ArePlaces-more 0 d keys all flags 0 es h i before)
+      | inr behind ↦
+          let within : i - length es < length more = omega (arith, lt, length-append es more) in
+          let at : from + (i - length es) ≡ 0 + i = omega (arith, size) in
+          subst (λ e. IsPlace 0 (d ++ keys) (get_or all (0 + i) []) (get_or flags (0 + i) false) e) (sym (get_or-append_right es more (length es) i None refl behind))
+          (subst (λ (n : ℕ). IsPlace 0 (d ++ keys) (get_or all n []) (get_or flags n false) (get_or more (i - length es) None)) at
+          (IsPlace-behind d keys (get_or all (from + (i - length es)) []) (get_or flags (from + (i - length es)) false) (get_or more (i - length es) None) (k (i - length es) within)))
     ]
 
 -- k pieces are laid end to end

@@ -47,6 +47,7 @@ place-in dict key up h = by (at dict key h)
     at [] k h = absurd h
     at (x ∷ ks) k (inl e) = (0, omega arith, sym e)
     at (x ∷ ks) k (inr h) = let r = at ks k h in (suc r.0, omega (arith, r.1), r.2)
+
     by : (p : ℕ) × (p < length dict) × (get_or dict p [] ≡ key) → (place_of key dict < length dict) × (get_or dict (place_of key dict) [] ≡ key)
     by r =
         let e : r.0 ≡ place_of key dict = one_place dict key r.0 up r.1 r.2 in

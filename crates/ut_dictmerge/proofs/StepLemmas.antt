@@ -29,8 +29,8 @@ Below-span key lo hi ys le h =
 pub below_on : (ys : List (List ℕ)) (key : List ℕ) (j q : ℕ) → IsAscending ys → key_cmp key (get_or ys j []) ≡ Less → j ≤ q → q < length ys → key_cmp key (get_or ys q []) ≡ Less
 below_on ys key j q up h le within =
     elim (cases_lt j q) [
-      inl lt ↦ nat_list_cmp_total.trans key (get_or ys j []) (get_or ys q []) h (up j q lt within)
-    | inr ge ↦ let e : j ≡ q = omega arith in ap (λ (k : ℕ). key_cmp key (get_or ys k [])) (sym e) ∙ h
+      | inl lt ↦ nat_list_cmp_total.trans key (get_or ys j []) (get_or ys q []) h (up j q lt within)
+      | inr ge ↦ let e : j ≡ q = omega arith in ap (λ (k : ℕ). key_cmp key (get_or ys k [])) (sym e) ∙ h
     ]
 
 used-one : (f : Bool) (x : List ℕ) → used (x ∷ []) (f ∷ []) ≡ kept f x

@@ -37,12 +37,12 @@ pub ArePlaces-push : (base : ℕ) (d keys : List (List ℕ)) (flags : List Bool)
     → IsPlace base d (get_or keys i []) (get_or flags i false) entry → ArePlaces base d keys flags from (es ++ entry ∷ [])
 ArePlaces-push base d keys flags from i es entry size le h k = λ n lt.
     elim (cases_lt n (length es)) [
-      inl within ↦ subst (λ e. IsPlace base d (get_or keys (from + n) []) (get_or flags (from + n) false) e) (sym (get_or_append_left es (entry ∷ []) None n within)) (h n within)
-    | inr past ↦
-      let at : n ≡ length es = omega (arith, lt, length_push es entry) in
-      let here : i ≡ from + n = omega arith in
-      subst (λ e. IsPlace base d (get_or keys (from + n) []) (get_or flags (from + n) false) e) (sym (get_or_push es entry None n (sym at)))
-      (subst (λ (m : ℕ). IsPlace base d (get_or keys m []) (get_or flags m false) entry) here k)
+      | inl within ↦ subst (λ e. IsPlace base d (get_or keys (from + n) []) (get_or flags (from + n) false) e) (sym (get_or_append_left es (entry ∷ []) None n within)) (h n within)
+      | inr past ↦
+          let at : n ≡ length es = omega (arith, lt, length_push es entry) in
+          let here : i ≡ from + n = omega arith in
+          subst (λ e. IsPlace base d (get_or keys (from + n) []) (get_or flags (from + n) false) e) (sym (get_or_push es entry None n (sym at)))
+          (subst (λ (m : ℕ). IsPlace base d (get_or keys m []) (get_or flags m false) entry) here k)
     ]
 
 -- the merge stands at i and j
@@ -93,7 +93,7 @@ written_a a ua b ub fa fb ta tb base keys xa xb i j place keys' xa' l w n p k x 
       size_a = omega (arith, sa, w.size_a, w.after_a);
       size_b = w.size_b;
       places_a = subst (λ m. ArePlaces base m a ua fa xa') (sym k) (subst (λ m. ArePlaces base (keys ++ kept (get_or ua i false) (get_or a i [])) a ua fa m) (sym x)
-        (ArePlaces-push base (keys ++ kept (get_or ua i false) (get_or a i [])) a ua fa i xa (entry_of (get_or ua i false) place) w.size_a w.after_a (ArePlaces-more base keys (kept (get_or ua i false) (get_or a i [])) a ua fa xa w.places_a)
+          (ArePlaces-push base (keys ++ kept (get_or ua i false) (get_or a i [])) a ua fa i xa (entry_of (get_or ua i false) place) w.size_a w.after_a (ArePlaces-more base keys (kept (get_or ua i false) (get_or a i [])) a ua fa xa w.places_a)
           (IsPlace-last base keys (get_or a i []) (get_or ua i false) (get_or ua i false) place p (λ e. e))));
       places_b = subst (λ m. ArePlaces base m b ub fb xb) (sym k) (ArePlaces-more base keys (kept (get_or ua i false) (get_or a i [])) b ub fb xb w.places_b);
     }
@@ -117,7 +117,7 @@ written_b a ua b ub fa fb ta tb base keys xa xb i j place keys' xb' l w n p k x 
       size_b = omega (arith, sb, w.size_b, w.after_b);
       places_a = subst (λ m. ArePlaces base m a ua fa xa) (sym k) (ArePlaces-more base keys (kept (get_or ub j false) (get_or b j [])) a ua fa xa w.places_a);
       places_b = subst (λ m. ArePlaces base m b ub fb xb') (sym k) (subst (λ m. ArePlaces base (keys ++ kept (get_or ub j false) (get_or b j [])) b ub fb m) (sym x)
-        (ArePlaces-push base (keys ++ kept (get_or ub j false) (get_or b j [])) b ub fb j xb (entry_of (get_or ub j false) place) w.size_b w.after_b (ArePlaces-more base keys (kept (get_or ub j false) (get_or b j [])) b ub fb xb w.places_b)
+          (ArePlaces-push base (keys ++ kept (get_or ub j false) (get_or b j [])) b ub fb j xb (entry_of (get_or ub j false) place) w.size_b w.after_b (ArePlaces-more base keys (kept (get_or ub j false) (get_or b j [])) b ub fb xb w.places_b)
           (IsPlace-last base keys (get_or b j []) (get_or ub j false) (get_or ub j false) place p (λ e. e))));
     }
 
@@ -139,15 +139,14 @@ written_both a ua b ub fa fb ta tb base keys xa xb i j place used keys' xa' xb' 
       before_b = omega (arith, n.1);
       count = omega (arith, size, small, w.count, w.after_a, w.after_b);
       keys_are = onward keys (kept used (get_or a i [])) (left a ua b ub ta tb i j) (left a ua b ub ta tb (i + 1) (j + 1)) (left a ua b ub ta tb fa fb) keys' w.keys_are
-        (step_both a ua b ub ta tb i j l n ∙ ap (λ f. kept f (get_or a i []) ++ left a ua b ub ta tb (i + 1) (j + 1)) (sym u)) k;
+          (step_both a ua b ub ta tb i j l n ∙ ap (λ f. kept f (get_or a i []) ++ left a ua b ub ta tb (i + 1) (j + 1)) (sym u)) k;
       size_a = omega (arith, sa, w.size_a, w.after_a);
       size_b = omega (arith, sb, w.size_b, w.after_b);
       places_a = subst (λ m. ArePlaces base m a ua fa xa') (sym k) (subst (λ m. ArePlaces base (keys ++ kept used (get_or a i [])) a ua fa m) (sym x)
-        (ArePlaces-push base (keys ++ kept used (get_or a i [])) a ua fa i xa (entry_of (get_or ua i false) place) w.size_a w.after_a (ArePlaces-more base keys (kept used (get_or a i [])) a ua fa xa w.places_a)
+          (ArePlaces-push base (keys ++ kept used (get_or a i [])) a ua fa i xa (entry_of (get_or ua i false) place) w.size_a w.after_a (ArePlaces-more base keys (kept used (get_or a i [])) a ua fa xa w.places_a)
           (IsPlace-last base keys (get_or a i []) (get_or ua i false) used place p (λ e. u ∙ or_left (get_or ua i false) (get_or ub j false) e))));
       places_b = subst (λ m. ArePlaces base m b ub fb xb') (sym k) (subst (λ m. ArePlaces base (keys ++ kept used (get_or a i [])) b ub fb m) (sym y)
-        (ArePlaces-push base (keys ++ kept used (get_or a i [])) b ub fb j xb (entry_of (get_or ub j false) place) w.size_b w.after_b (ArePlaces-more base keys (kept used (get_or a i [])) b ub fb xb w.places_b)
+          (ArePlaces-push base (keys ++ kept used (get_or a i [])) b ub fb j xb (entry_of (get_or ub j false) place) w.size_b w.after_b (ArePlaces-more base keys (kept used (get_or a i [])) b ub fb xb w.places_b)
           (subst (λ key. IsPlace base (keys ++ kept used key) (get_or b j []) (get_or ub j false) (entry_of (get_or ub j false) place)) (sym same)
-            (IsPlace-last base keys (get_or b j []) (get_or ub j false) used place p (λ e. u ∙ or_right (get_or ua i false) (get_or ub j false) e)))));
+          (IsPlace-last base keys (get_or b j []) (get_or ub j false) used place p (λ e. u ∙ or_right (get_or ua i false) (get_or ub j false) e)))));
     }
-

@@ -18,12 +18,7 @@ pub struct Cut {
 /// Cuts both lists into so many pieces. The cuts are one more than these.
 ///
 /// Each is found by binary search, so that they take next to no time beside a merge.
-pub fn cuts(
-    alloc: Global,
-    a: &KeyList,
-    b: &KeyList,
-    pieces: u32,
-) -> Result<Vec<Cut>, AllocError>
+pub fn cuts(alloc: Global, a: &KeyList, b: &KeyList, pieces: u32) -> Result<Vec<Cut>, AllocError>
     requires ascending_a { IsAscending a.now }
     requires ascending_b { IsAscending b.now }
     requires room { length a.now + length b.now < 2 ^ 32 }

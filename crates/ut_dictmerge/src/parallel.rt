@@ -31,9 +31,12 @@ pub fn merge_pieces<R: Threads + Sync>(
     let count = pieces as usize;
     let sums = bases_of(rt, alloc, a, used_a, b, used_b, cuts, count)?;
     let bases = sums.as_slice();
-    let parts = thread::map_indices(rt, alloc, count, &|k: usize| {
-        write_at(alloc, a, used_a, b, used_b, cuts, bases, count, k)
-    })?;
+    let parts = thread::map_indices(
+        rt,
+        alloc,
+        count,
+        &|k: usize| { write_at(alloc, a, used_a, b, used_b, cuts, bases, count, k) },
+    )?;
     join_pieces(alloc, a, used_a, b, used_b, cuts, parts.as_slice())
 }
 
@@ -77,9 +80,12 @@ fn counts_of<R: Threads + Sync>(
     ensures count { IfOk result (λ v. length v.items ≡ pieces) }
     ensures counts { IfOk result (λ v. (i : ℕ) → i < pieces → slice_index v.items i ≡ length (between a.now used_a.now b.now used_b.now (cut_at cuts.now i) (cut_at cuts.now (i + 1)))) }
 {
-    thread::map_indices(rt, alloc, pieces, &|k: usize| {
-        count_at(a, used_a, b, used_b, cuts, pieces, k)
-    })
+    thread::map_indices(
+        rt,
+        alloc,
+        pieces,
+        &|k: usize| { count_at(a, used_a, b, used_b, cuts, pieces, k) },
+    )
 }
 
 /// How many used keys the piece behind cut `k` has.

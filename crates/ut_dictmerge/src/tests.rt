@@ -1,6 +1,4 @@
 //! A worked merge in two pieces, on real threads, and as one.
-ghost use Rattle.std.specs.Prelude.{◌≡◌, length, IfOk};
-
 use crate::cut::{Cut, cuts};
 use crate::merging::merge;
 use crate::parallel::merge_pieces;
@@ -10,9 +8,7 @@ use std::test::Fail;
 use ut_key::{KeyList, is_ascending};
 
 // Keys of one byte each.
-fn keys_of(alloc: Global, bytes: &[u8]) -> Result<KeyList, AllocError>
-    ensures { IfOk result (λ keys. length keys ≡ length bytes.now) }
-{
+fn keys_of(alloc: Global, bytes: &[u8]) -> Result<KeyList, AllocError> {
     let mut keys = KeyList::new(alloc);
     for byte in bytes {
         keys.push(&[*byte])?;
@@ -35,8 +31,8 @@ fn equal_keys_at_a_border_are_one(rt: HostRuntime) -> Result<(), Fail> {
     let alloc = rt.alloc();
     let a = keys_of(alloc, &[2, 4, 6])?;
     let b = keys_of(alloc, &[1, 4, 9])?;
-    if !is_ascending(&a) || !is_ascending(&b) {
-        return Ok(());
+    if !is_ascending(&a) || !is_ascending(&b) || a.len() != 3 || b.len() != 3 {
+        panic!(rt; "not two lists of three");
     }
     let all = [true; 3];
     let borders = cuts(alloc, &a, &b, 2)?;

@@ -61,9 +61,12 @@ pub fn recode_shares<R: Threads + Sync>(
     requires pieces { (1 ≤ pieces) × (pieces ≤ 64) }
     ensures { IfOk result (λ v. v.items ≡ recoded map.now codes.now) }
 {
-    let shares = thread::map_indices(rt, alloc, pieces as usize, &|k: usize| {
-        recode_share(alloc, codes, map, reach, pieces, k)
-    })?;
+    let shares = thread::map_indices(
+        rt,
+        alloc,
+        pieces as usize,
+        &|k: usize| { recode_share(alloc, codes, map, reach, pieces, k) },
+    )?;
     join_shares(alloc, codes, map, shares.as_slice())
 }
 

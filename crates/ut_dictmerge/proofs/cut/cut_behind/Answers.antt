@@ -28,4 +28,4 @@ returns-in-Less-compare_at c =
     let e : c.loop-low.high ≡ c.loop-low.low = omega arith in
     let s = subst (λ (h : ℕ). IsBetween c.args.a.now c.args.b.now c.args.keys c.loop-low.low h) e c.loop-low.invariant in
     found c.args.a.now c.args.b.now c.args.keys c.loop-low.low (c.args.keys - c.loop-low.low) c.requires.ascending_a c.requires.ascending_b s refl
-        (λ pos lt same. elim c.in-Less-compare_at.is [ inl less ↦ less_equal (sym less ∙ c.compare_at-2.ensures ∙ same) | inr greater ↦ greater_equal (sym greater ∙ c.compare_at-2.ensures ∙ same) ])
+    (λ pos lt same. elim c.in-Less-compare_at.is [ inl less ↦ less_equal (sym less ∙ c.compare_at-2.ensures ∙ same) | inr greater ↦ greater_equal (sym greater ∙ c.compare_at-2.ensures ∙ same) ])

@@ -13,7 +13,7 @@ loop-i-preserved-in-Less c =
       before_b = omega (arith, n.0);
       small = omega (arith, c.count_of-count.ensures.small);
       count_is = counted c.loop-i.count _ (kept (get_or c.args.used_a.now c.loop-i.i false) (get_or c.args.a.now c.loop-i.i [])) (left c.args.a.now c.args.used_a.now c.args.b.now c.args.used_b.now c.args.to.now.a c.args.to.now.b c.loop-i.i c.loop-i.j) (left c.args.a.now c.args.used_a.now c.args.b.now c.args.used_b.now c.args.to.now.a c.args.to.now.b (c.loop-i.i + 1) c.loop-i.j) _ c.loop-i.invariant.count_is
-        (step_a c.args.a.now c.args.used_a.now c.args.b.now c.args.used_b.now c.args.to.now.a c.args.to.now.b c.loop-i.i c.loop-i.j (record { lists = c.requires.lists; end_a = c.requires.borders.to_a; end_b = c.requires.borders.to_b }) n) (ap (λ k. c.loop-i.count + k) (c.count_of-count.ensures.count (get_or c.args.a.now c.loop-i.i [])));
+          (step_a c.args.a.now c.args.used_a.now c.args.b.now c.args.used_b.now c.args.to.now.a c.args.to.now.b c.loop-i.i c.loop-i.j (record { lists = c.requires.lists; end_a = c.requires.borders.to_a; end_b = c.requires.borders.to_b }) n) (ap (λ k. c.loop-i.count + k) (c.count_of-count.ensures.count (get_or c.args.a.now c.loop-i.i [])));
     }
 
 pub loop-i-preserved-in-Greater : goal.loop-i-preserved-in-Greater
@@ -26,7 +26,7 @@ loop-i-preserved-in-Greater c =
       before_b = omega (arith, n.0);
       small = omega (arith, c.count_of-count-in-Greater.ensures.small);
       count_is = counted c.loop-i.count _ (kept (get_or c.args.used_b.now c.loop-i.j false) (get_or c.args.b.now c.loop-i.j [])) (left c.args.a.now c.args.used_a.now c.args.b.now c.args.used_b.now c.args.to.now.a c.args.to.now.b c.loop-i.i c.loop-i.j) (left c.args.a.now c.args.used_a.now c.args.b.now c.args.used_b.now c.args.to.now.a c.args.to.now.b c.loop-i.i (c.loop-i.j + 1)) _ c.loop-i.invariant.count_is
-        (step_b c.args.a.now c.args.used_a.now c.args.b.now c.args.used_b.now c.args.to.now.a c.args.to.now.b c.loop-i.i c.loop-i.j (record { lists = c.requires.lists; end_a = c.requires.borders.to_a; end_b = c.requires.borders.to_b }) n) (ap (λ k. c.loop-i.count + k) (c.count_of-count-in-Greater.ensures.count (get_or c.args.b.now c.loop-i.j [])));
+          (step_b c.args.a.now c.args.used_a.now c.args.b.now c.args.used_b.now c.args.to.now.a c.args.to.now.b c.loop-i.i c.loop-i.j (record { lists = c.requires.lists; end_a = c.requires.borders.to_a; end_b = c.requires.borders.to_b }) n) (ap (λ k. c.loop-i.count + k) (c.count_of-count-in-Greater.ensures.count (get_or c.args.b.now c.loop-i.j [])));
     }
 
 pub loop-i-preserved : goal.loop-i-preserved
@@ -39,5 +39,5 @@ loop-i-preserved c =
       before_b = omega (arith, n.0, n.1);
       small = omega (arith, c.count_of-count-in-Equal.ensures.small);
       count_is = counted c.loop-i.count _ (kept (get_or c.args.used_a.now c.loop-i.i false || get_or c.args.used_b.now c.loop-i.j false) (get_or c.args.a.now c.loop-i.i [])) (left c.args.a.now c.args.used_a.now c.args.b.now c.args.used_b.now c.args.to.now.a c.args.to.now.b c.loop-i.i c.loop-i.j) (left c.args.a.now c.args.used_a.now c.args.b.now c.args.used_b.now c.args.to.now.a c.args.to.now.b (c.loop-i.i + 1) (c.loop-i.j + 1)) _ c.loop-i.invariant.count_is
-        (step_both c.args.a.now c.args.used_a.now c.args.b.now c.args.used_b.now c.args.to.now.a c.args.to.now.b c.loop-i.i c.loop-i.j (record { lists = c.requires.lists; end_a = c.requires.borders.to_a; end_b = c.requires.borders.to_b }) n) (ap (λ k. c.loop-i.count + k) (c.count_of-count-in-Equal.ensures.count (get_or c.args.a.now c.loop-i.i [])));
+          (step_both c.args.a.now c.args.used_a.now c.args.b.now c.args.used_b.now c.args.to.now.a c.args.to.now.b c.loop-i.i c.loop-i.j (record { lists = c.requires.lists; end_a = c.requires.borders.to_a; end_b = c.requires.borders.to_b }) n) (ap (λ k. c.loop-i.count + k) (c.count_of-count-in-Equal.ensures.count (get_or c.args.a.now c.loop-i.i [])));
     }

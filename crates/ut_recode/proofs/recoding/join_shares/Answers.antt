@@ -8,7 +8,7 @@ pub loop-share-preserved : goal.loop-share-preserved
 loop-share-preserved c =
     share_more c.args.map.now c.args.codes.now c.loop-share.out.items c.extend_from_slice.new.self.items c.in-Ok.part.items c.loop-share.share-index (length c.args.shares.now) (omega arith) c.loop-share.invariant
     (subst (λ r. IfOk r (λ v. v.items ≡ recoded c.args.map.now (span (c.loop-share.share-index * length c.args.codes.now / length c.args.shares.now) ((c.loop-share.share-index + 1) * length c.args.codes.now / length c.args.shares.now) c.args.codes.now)))
-      (sym c.share-item.is ∙ c.in-Ok.is) (c.requires.shares c.loop-share.share-index c.share-item.result c.loop-share-test.true))
+    (sym c.share-item.is ∙ c.in-Ok.is) (c.requires.shares c.loop-share.share-index c.share-item.result c.loop-share-test.true))
     (c.in_ok-extend_from_slice-in-Ok.ensures.items ∙ ap (λ l. c.loop-share.out.items ++ l) c.as_slice.ensures.value)
 
 pub returns : goal.returns
