@@ -1,5 +1,5 @@
 -- The cuts of two lists into even pieces.
-use Rattle.std.proofs.Common.{◌≡◌, ℕ, zero, suc, ◌+◌, ◌-◌, ◌*◌, ◌/◌, ◌<◌, ◌≤◌, List, [], length, get_or, sym, ◌∙◌, ap, subst, arith}
+use Rattle.std.proofs.Common.{◌≡◌, ℕ, ◌+◌, ◌-◌, ◌*◌, ◌/◌, ◌<◌, ◌≤◌, List, length, ◌∙◌, ap, subst, arith}
 use Rattle.std.proofs.lemmas.Nat.{div_below}
 use Rattle.std.proofs.Math.Nat.{mul-div_cancel_left, zero-div, zero-mul, lt-mul-div-succ, mul_comm}
 use Rattle.ut_key.specs.Keys.{IsAscending}

@@ -1,22 +1,19 @@
 -- What is in front of each cut, and how much it is.
-use Rattle.std.proofs.Common.{◌≡◌, ℕ, zero, suc, ◌+◌, ◌-◌, ◌<◌, ◌≤◌, List, [], ◌∷◌, ◌++◌, length, take, drop, get_or, refl, sym, ◌∙◌, ap, subst, arith, Bool, true, false, Option, Some, None, inl, inr, Result, Ok, Err, IfOk}
+use Rattle.std.proofs.Common.{◌≡◌, ℕ, zero, suc, ◌+◌, ◌-◌, ◌<◌, ◌≤◌, List, [], ◌∷◌, ◌++◌, length, take, get_or, sym, ◌∙◌, ap, subst, arith, Bool, true, false, inl, inr, Result, Ok, Err, IfOk}
 use Rattle.std.specs.declared.cmp.Ordering.TheVariants.{Less, Equal, Greater}
 use Rattle.std.proofs.lemmas.Bool.{cases_lt}
-use Rattle.std.proofs.lemmas.List.{length-append, take_more, take_all, get_or_append_left, get_or-append-add, get_or-append_right, get_or_push}
+use Rattle.std.proofs.lemmas.List.{length-append, take_more, take_all, get_or_append_left, get_or_push}
 use Rattle.ut_key.specs.Keys.{key_cmp, IsAscending}
-use Rattle.ut_own.specs.Own.{used, placed, insert_key, union, Below, AreBelow, Ascends, In}
-use Rattle.ut_own.proofs.UnionLemmas.{Ascends-union, Ascends-used, Ascends-at, AreBelow-at, IsAscending-from}
-use Rattle.ut_own.proofs.MemberLemmas.{in-union, union-in}
+use Rattle.ut_own.specs.Own.{used, placed, insert_key, union, Below, AreBelow}
+use Rattle.ut_own.proofs.UnionLemmas.{AreBelow-at}
 use Rattle.ut_recode.specs.Spans.{span}
-use Rattle.ut_recode.proofs.ShareLemmas.{span-append, span-all, span-none}
+use Rattle.ut_recode.proofs.ShareLemmas.{span-append, span-all}
 use Rattle.ut_dictmerge.specs.declared.cut.Cut.{Cut}
-use Rattle.ut_dictmerge.specs.Merge.{AreSources, merged, places, IsMerge}
+use Rattle.ut_dictmerge.specs.Merge.{AreSources, merged}
 use Rattle.ut_dictmerge.specs.Cuts.{IsCut, AreCuts, cut_at}
-use Rattle.ut_dictmerge.specs.Pieces.{AreBorders, IsPiece, IsPart, between, front, total, IsPlace, ArePlaces}
+use Rattle.ut_dictmerge.specs.Pieces.{AreBorders, between, front, total}
 use Rattle.ut_dictmerge.proofs.SpanLemmas.{length-span, get_or-span}
 use Rattle.ut_dictmerge.proofs.StepLemmas.{Below-span, merged-cut}
-use Rattle.ut_dictmerge.proofs.WriteLemmas.{ArePlaces-more}
-use Rattle.ut_dictmerge.proofs.PlaceLemmas.{places_are}
 
 AreBelow-span : (xs ys : List (List ℕ)) (lo hi from to : ℕ) → hi ≤ length xs → to ≤ length ys
     → ((p q : ℕ) → lo ≤ p → p < hi → from ≤ q → q < to → key_cmp (get_or xs p []) (get_or ys q []) ≡ Less) → AreBelow (span lo hi xs) (span from to ys)

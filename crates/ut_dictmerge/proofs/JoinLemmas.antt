@@ -1,20 +1,14 @@
 -- Pieces laid end to end.
-use Rattle.std.proofs.Common.{◌≡◌, ℕ, zero, suc, ◌+◌, ◌-◌, ◌<◌, ◌≤◌, List, [], ◌∷◌, ◌++◌, length, take, drop, get_or, refl, sym, ◌∙◌, ap, subst, arith, Bool, true, false, Option, Some, None, inl, inr, Result, Ok, Err, IfOk}
-use Rattle.std.specs.declared.cmp.Ordering.TheVariants.{Less, Equal, Greater}
+use Rattle.std.proofs.Common.{◌≡◌, ℕ, ◌+◌, ◌-◌, ◌<◌, List, [], ◌++◌, length, get_or, refl, sym, ◌∙◌, ap, subst, arith, Bool, true, false, Option, Some, None, inl, inr}
 use Rattle.std.proofs.lemmas.Bool.{cases_lt}
-use Rattle.std.proofs.lemmas.List.{length-append, take_more, take_all, get_or_append_left, get_or-append-add, get_or-append_right, get_or_push}
-use Rattle.ut_key.specs.Keys.{key_cmp, IsAscending}
-use Rattle.ut_own.specs.Own.{used, placed, insert_key, union, Below, AreBelow, Ascends, In}
-use Rattle.ut_own.proofs.UnionLemmas.{Ascends-union, Ascends-used, Ascends-at, AreBelow-at, IsAscending-from}
+use Rattle.std.proofs.lemmas.List.{length-append, get_or_append_left, get_or-append_right}
+use Rattle.ut_own.specs.Own.{used, Ascends, In}
+use Rattle.ut_own.proofs.UnionLemmas.{Ascends-union, Ascends-used, Ascends-at, IsAscending-from}
 use Rattle.ut_own.proofs.MemberLemmas.{in-union, union-in}
-use Rattle.ut_recode.specs.Spans.{span}
-use Rattle.ut_recode.proofs.ShareLemmas.{span-append, span-all, span-none}
 use Rattle.ut_dictmerge.specs.declared.cut.Cut.{Cut}
-use Rattle.ut_dictmerge.specs.Merge.{AreSources, merged, places, IsMerge}
-use Rattle.ut_dictmerge.specs.Cuts.{IsCut, AreCuts, cut_at}
-use Rattle.ut_dictmerge.specs.Pieces.{AreBorders, IsPiece, IsPart, between, front, total, IsPlace, ArePlaces}
-use Rattle.ut_dictmerge.proofs.SpanLemmas.{length-span, get_or-span}
-use Rattle.ut_dictmerge.proofs.StepLemmas.{Below-span, merged-cut}
+use Rattle.ut_dictmerge.specs.Merge.{AreSources, merged, IsMerge}
+use Rattle.ut_dictmerge.specs.Cuts.{cut_at}
+use Rattle.ut_dictmerge.specs.Pieces.{IsPiece, IsPart, front, IsPlace, ArePlaces}
 use Rattle.ut_dictmerge.proofs.WriteLemmas.{ArePlaces-more}
 use Rattle.ut_dictmerge.proofs.PlaceLemmas.{places_are}
 use Rattle.ut_dictmerge.proofs.FrontLemmas.{front-none, front-all, AreReady, next_front}

@@ -1,8 +1,7 @@
 -- The place of a key among ascending keys is where it stands.
-use Rattle.std.proofs.Common.{◌≡◌, ℕ, zero, suc, ◌+◌, ◌-◌, ◌<◌, ◌≤◌, List, [], ◌∷◌, length, get_or, refl, sym, ◌∙◌, ap, subst, arith, Bool, true, false, Option, Some, None, inl, inr, true≢false}
+use Rattle.std.proofs.Common.{◌≡◌, ℕ, zero, suc, ◌+◌, ◌-◌, ◌<◌, List, [], ◌∷◌, length, get_or, refl, sym, ◌∙◌, ap, subst, arith, Bool, true, false, Option, Some, None, inl, inr, true≢false}
 use Rattle.std.proofs.lemmas.Cmp.{nat_list_cmp_total, tied_itself}
-use Rattle.std.specs.declared.cmp.Ordering.TheVariants.{Less, Equal, Greater}
-use Rattle.ut_own.specs.Own.{Below, Ascends, In}
+use Rattle.ut_own.specs.Own.{Ascends, In}
 use Rattle.ut_own.proofs.UnionLemmas.{turned, Below-get_or}
 use Rattle.ut_dictmerge.specs.Merge.{place_of, place_behind, places}
 use Rattle.ut_dictmerge.specs.Pieces.{IsPlace, ArePlaces}

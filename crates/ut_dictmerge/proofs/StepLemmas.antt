@@ -1,17 +1,16 @@
 -- One step of the merge, at the places in both lists.
-use Rattle.std.proofs.Common.{◌≡◌, ℕ, zero, suc, ◌+◌, ◌-◌, ◌<◌, ◌≤◌, List, [], ◌∷◌, ◌++◌, length, take, drop, get_or, refl, sym, ◌∙◌, ap, subst, arith, Bool, true, false, ◌||◌, inl, inr, Option, Some, None, lit≤}
-use Rattle.std.specs.declared.cmp.Ordering.{Ordering}
+use Rattle.std.proofs.Common.{◌≡◌, ℕ, ◌+◌, ◌-◌, ◌<◌, ◌≤◌, List, [], ◌∷◌, ◌++◌, length, take, drop, get_or, refl, sym, ◌∙◌, ap, arith, Bool, true, false, ◌||◌, inl, inr}
 use Rattle.std.specs.declared.cmp.Ordering.TheVariants.{Less, Equal, Greater}
 use Rattle.std.proofs.lemmas.Bool.{cases_lt}
-use Rattle.std.proofs.lemmas.List.{length-append, append-nil, append_assoc, get_or_append_left, get_or-append-add, length_push, get_or_push}
+use Rattle.std.proofs.lemmas.List.{length-append}
 use Rattle.std.proofs.lemmas.Cmp.{nat_list_cmp_total, tied_itself}
 use Rattle.std.specs.FinMap.{slice_cmp-IsAntisymmetric, nat_cmp-IsAntisymmetric}
 use Rattle.ut_key.specs.Keys.{key_cmp, IsAscending}
-use Rattle.ut_own.specs.Own.{used, placed, insert_key, union, Below, AreBelow}
-use Rattle.ut_own.proofs.UnionLemmas.{turned, reversed, Below-at, AreBelow-used, union-cut, used-append}
+use Rattle.ut_own.specs.Own.{used, placed, union, Below, AreBelow}
+use Rattle.ut_own.proofs.UnionLemmas.{reversed, Below-at, AreBelow-used, union-cut, used-append}
 use Rattle.ut_recode.specs.Spans.{span}
 use Rattle.ut_dictmerge.specs.Merge.{AreSources, merged}
-use Rattle.ut_dictmerge.specs.Pieces.{IsNext, kept, entry_of, IsPlace, ArePlaces}
+use Rattle.ut_dictmerge.specs.Pieces.{IsNext, kept}
 use Rattle.ut_dictmerge.proofs.SpanLemmas.{length-span, span-more, get_or-span}
 
 -- lists that are cut are merged apart

@@ -1,10 +1,10 @@
 -- Ascending lists of the same keys are the same list, so whatever way finds the used keys finds the own dictionary.
-use Rattle.std.proofs.Common.{◌≡◌, ◌⊎◌, inl, inr, ℕ, ◌<◌, List, [], ◌∷◌, ◌++◌, get_or, refl, sym, ◌∙◌, ap, subst, Bool, true, false, ◌||◌, nat_eq, Option, None, Some, slice_get, unwrap_or}
+use Rattle.std.proofs.Common.{◌≡◌, ◌⊎◌, inl, inr, ℕ, ◌<◌, List, [], ◌∷◌, ◌++◌, get_or, refl, sym, ◌∙◌, ap, subst, Bool, true, false, ◌||◌, nat_eq, Option, None, Some, unwrap_or}
 use Rattle.std.proofs.lemmas.Bool.{eq-eqb}
 use Rattle.std.specs.declared.cmp.Ordering.{Ordering}
 use Rattle.std.specs.declared.cmp.Ordering.TheVariants.{Less, Equal, Greater}
 use Rattle.std.proofs.lemmas.Cmp.{nat_list_cmp_total, tied_itself, ranked}
-use Rattle.std.specs.Ordering.{ordering_reverse, ordering_then, MatchOrdering, nat_cmp}
+use Rattle.std.specs.Ordering.{ordering_then, MatchOrdering, nat_cmp}
 use Rattle.std.specs.List.{list_any}
 use Rattle.ut_key.specs.Keys.{key_cmp}
 use Rattle.ut_own.proofs.UnionLemmas.{turned, Ascends-union}

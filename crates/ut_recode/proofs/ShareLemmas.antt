@@ -1,12 +1,12 @@
 -- Shares of a list.
-use Rattle.std.proofs.Common.{◌≡◌, ℕ, zero, suc, ◌+◌, ◌-◌, ◌*◌, ◌/◌, ◌<◌, ◌≤◌, List, [], ◌∷◌, ◌++◌, length, take, drop, get_or, refl, sym, ◌∙◌, ap, subst, arith, Option, Some, None, map, min, unwrap_or, Result, Ok, Err, IfOk}
-use Rattle.std.proofs.lemmas.List.{length-take, length-drop, drop_more, take_more, take_all, take-append-drop, drop-drop, take-take, drop-take, map-append, get_or-drop, get_or-take}
+use Rattle.std.proofs.Common.{◌≡◌, ℕ, suc, ◌+◌, ◌-◌, ◌*◌, ◌/◌, ◌<◌, ◌≤◌, List, [], ◌∷◌, ◌++◌, length, take, drop, get_or, sym, ◌∙◌, ap, subst, arith, Option, Some, None, unwrap_or, Result, Ok, Err, IfOk}
+use Rattle.std.proofs.lemmas.List.{length-drop, take_more, take_all, take-append-drop, drop-drop, take-take, drop-take, map-append, get_or-drop}
 use Rattle.std.proofs.lemmas.Nat.{le-div}
 use Rattle.std.proofs.Math.Nat.{mul-div_cancel_left, div-mul-le_self, zero-div, zero-mul}
 use Rattle.ut_bits.specs.Bits.{AllBelow}
 use Rattle.ut_recode.specs.Recode.{HaveEntries, IsBelow}
 use Rattle.ut_own.specs.Own.{recoded}
-use Rattle.ut_recode.specs.Spans.{span, share_at}
+use Rattle.ut_recode.specs.Spans.{span}
 
 pub span-none : {X : Type 0} (from : ℕ) (xs : List X) → span from from xs ≡ []
 span-none from xs = let e : from - from ≡ 0 = omega arith in ap (λ (k : ℕ). take k (drop from xs)) e

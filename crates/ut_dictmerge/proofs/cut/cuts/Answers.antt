@@ -1,6 +1,6 @@
-use Rattle.std.proofs.Common.{◌≡◌, ◌+◌, ◌*◌, ◌/◌, ◌++◌, ◌∷◌, [], ℕ, List, length, ap, sym, ◌∙◌, subst, arith}
+use Rattle.std.proofs.Common.{◌≡◌, ◌+◌, ◌*◌, ◌/◌, ℕ, length, ap, ◌∙◌, subst, arith}
 use Rattle.std.proofs.lemmas.List.{length_push}
-use Rattle.ut_dictmerge.specs.Cuts.{IsCutBehind, cut_at}
+use Rattle.ut_dictmerge.specs.Cuts.{IsCutBehind}
 use Rattle.ut_dictmerge.proofs.CutLemmas.{pushed}
 use Rattle.ut_dictmerge.proofs.DivisionLemmas.{cuts_are}
 use Rattle.ut_dictmerge.proofs.cut.cuts.Goals as goal

@@ -1,5 +1,5 @@
-use Rattle.std.proofs.Common.{◌≡◌, ◌+◌, ◌<◌, ◌≤◌, arith, ap, sym, ◌∙◌, length, get_or}
-use Rattle.ut_dictmerge.proofs.FrontLemmas.{AreReady, sum_is, sum_small, ok_then}
+use Rattle.std.proofs.Common.{arith, ap, ◌∙◌, length, get_or}
+use Rattle.ut_dictmerge.proofs.FrontLemmas.{sum_is, sum_small, ok_then}
 use Rattle.ut_dictmerge.proofs.parallel.bases_of.Goals as goal
 
 pub sums-requires : goal.sums-requires

@@ -1,4 +1,4 @@
-use Rattle.std.proofs.Common.{◌≡◌, ◌+◌, ◌<◌, ◌≤◌, ◌++◌, [], arith, ap, sym, ◌∙◌, length, ℕ, subst, IfOk, Ok, get_or}
+use Rattle.std.proofs.Common.{◌≡◌, ◌++◌, arith, ap, sym, ◌∙◌, length, ℕ, subst, IfOk}
 use Rattle.ut_dictmerge.specs.Cuts.{cut_at}
 use Rattle.ut_dictmerge.specs.Pieces.{IsPart}
 use Rattle.ut_dictmerge.proofs.JoinLemmas.{AreJoined, none_joined, one_joined, all_joined}

@@ -1,4 +1,4 @@
-use Rattle.std.proofs.Common.{◌≡◌, ◌+◌, ◌<◌, ◌≤◌, arith, ap, sym, ◌∙◌, length, ℕ}
+use Rattle.std.proofs.Common.{◌+◌, arith, ap, ◌∙◌, length}
 use Rattle.std.proofs.lemmas.List.{length_push}
 use Rattle.ut_dictmerge.proofs.FrontLemmas.{sums_small, sums_more, total-more}
 use Rattle.ut_dictmerge.proofs.parallel.sums.Goals as goal

@@ -1,4 +1,4 @@
-use Rattle.std.proofs.Common.{◌≡◌, ℕ, ◌<◌, ◌≤◌, take, length, get_or}
+use Rattle.std.proofs.Common.{◌≡◌, ℕ, ◌<◌, take, length, get_or}
 use Rattle.ut_dictmerge.specs.Pieces.{total}
 use Rattle.ut_dictmerge.proofs.parallel.sums.Given as goal
 

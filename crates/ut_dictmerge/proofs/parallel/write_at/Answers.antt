@@ -1,4 +1,4 @@
-use Rattle.std.proofs.Common.{◌≡◌, ◌+◌, ◌<◌, ◌≤◌, arith}
+use Rattle.std.proofs.Common.{arith}
 use Rattle.ut_dictmerge.proofs.FrontLemmas.{borders_at, piece_fits}
 use Rattle.ut_dictmerge.proofs.parallel.write_at.Goals as goal
 

@@ -1,6 +1,6 @@
-use Rattle.std.proofs.Common.{◌≡◌, ◌+◌, ◌||◌, false, get_or, refl, ap, [], arith}
+use Rattle.std.proofs.Common.{◌+◌, ◌||◌, false, get_or, ap, [], arith}
 use Rattle.ut_dictmerge.specs.Pieces.{kept}
-use Rattle.ut_dictmerge.proofs.StepLemmas.{AreLists, left, step_a, step_b, step_both, counted}
+use Rattle.ut_dictmerge.proofs.StepLemmas.{left, step_a, step_b, step_both, counted}
 use Rattle.ut_dictmerge.proofs.piece.count_piece.Goals as goal
 
 pub loop-i-preserved-in-Less : goal.loop-i-preserved-in-Less

@@ -1,4 +1,4 @@
-use Rattle.std.proofs.Common.{◌≡◌, ◌+◌, ◌-◌, ◌<◌, ◌≤◌, ℕ, List, Bool, length}
+use Rattle.std.proofs.Common.{◌≡◌, ◌+◌, ◌-◌, ◌≤◌, ℕ, List, Bool, length}
 use Rattle.ut_recode.specs.Spans.{span}
 use Rattle.ut_dictmerge.specs.Merge.{merged}
 use Rattle.ut_dictmerge.proofs.piece.count_piece.Given as goal

@@ -1,6 +1,5 @@
-use Rattle.std.proofs.Common.{◌≡◌, ◌∙◌, ◌++◌, ◌+◌, ◌||◌, false, get_or, refl, ap}
+use Rattle.std.proofs.Common.{◌∙◌, ◌++◌, ◌+◌, ◌||◌, false, get_or, refl, ap}
 use Rattle.ut_dictmerge.specs.Pieces.{kept}
-use Rattle.ut_dictmerge.proofs.StepLemmas.{AreLists}
 use Rattle.ut_dictmerge.proofs.WriteLemmas.{written_a, written_b, written_both}
 use Rattle.ut_dictmerge.proofs.piece.write_piece.Goals as goal
 

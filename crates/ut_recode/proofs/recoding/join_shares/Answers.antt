@@ -1,6 +1,6 @@
 use Rattle.std.proofs.Common.{◌≡◌, ◌+◌, ◌*◌, ◌/◌, ◌++◌, sym, ap, ◌∙◌, length, subst, arith, IfOk}
 use Rattle.ut_own.specs.Own.{recoded}
-use Rattle.ut_recode.specs.Spans.{span, share_at}
+use Rattle.ut_recode.specs.Spans.{span}
 use Rattle.ut_recode.proofs.ShareLemmas.{share_more, all_shares}
 use Rattle.ut_recode.proofs.recoding.join_shares.Goals as goal
 

@@ -1,6 +1,6 @@
 use Rattle.std.proofs.Common.{◌≡◌, ◌*◌, ◌/◌, length}
 use Rattle.ut_own.specs.Own.{recoded}
-use Rattle.ut_recode.specs.Spans.{span, share_at}
+use Rattle.ut_recode.specs.Spans.{span}
 use Rattle.ut_recode.proofs.recoding.join_shares.Given as goal
 
 abbrev pub invariant-loop-share : goal.invariant-loop-share

@@ -1,4 +1,4 @@
-use Rattle.std.proofs.Common.{◌≡◌, ◌≤◌, ap, arith}
+use Rattle.std.proofs.Common.{arith}
 use Rattle.ut_recode.proofs.recoding.recode_share.Goals as goal
 
 pub recode_span-requires-clause-to : goal.recode_span-requires-clause-to

@@ -1,6 +1,4 @@
-use Rattle.std.proofs.Common.{◌≡◌, ◌+◌, ◌*◌, ◌/◌, ◌++◌, sym, ap, ◌∙◌, length, subst, arith, get_or, None}
-use Rattle.ut_own.specs.Own.{recoded}
-use Rattle.ut_recode.specs.Spans.{span, share_at}
+use Rattle.std.proofs.Common.{arith}
 use Rattle.ut_recode.proofs.ShareLemmas.{one_more}
 use Rattle.ut_recode.proofs.recoding.recode_span.Goals as goal
 

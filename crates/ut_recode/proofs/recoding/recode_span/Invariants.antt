@@ -1,6 +1,6 @@
 use Rattle.std.proofs.Common.{◌≡◌}
 use Rattle.ut_own.specs.Own.{recoded}
-use Rattle.ut_recode.specs.Spans.{span, share_at}
+use Rattle.ut_recode.specs.Spans.{span}
 use Rattle.ut_recode.proofs.recoding.recode_span.Given as goal
 
 abbrev pub invariant-loop-i : goal.invariant-loop-i
