@@ -103,7 +103,7 @@ module _ (start : Start) (input : List ℕ) (before : Option (List ℕ)) (entry 
   goes_acked : (q : Plain) → GoesOn p.plain.journal q.journal → Keeps was now q.journal (journal_len p.plain.journal) → Runs new now q → IsTold entry → Kept start entry now p.first q.journal (acks ++ record { journal = journal_len q.journal; moment = now.moment } ∷ [])
   goes_acked q on keeps runs e =
       let kept = goes q on keeps e in
-      kept_ack start entry now p.first q.journal acks (journal_len q.journal) (omega arith) (λ c h. whole q.journal new.log.end c (runs.held kept.told c (only c h))) kept
+      kept_ack start entry now p.first q.journal acks (journal_len q.journal) (omega arith) (λ c h. whole q.journal new.log c (runs.held kept.told c (only c h))) kept
 
   loses_acked : (q : Plain) → GoesOn p.plain.journal q.journal → Keeps was now q.journal (journal_len p.plain.journal) → IsTold entry → Kept start entry now p.first q.journal (acks ++ record { journal = journal_len p.plain.journal; moment = now.moment } ∷ [])
   loses_acked q on keeps e =
