@@ -1,7 +1,8 @@
 -- How a run begins.
-use Rattle.std.proofs.Common.{inl, inr, ◌≡◌, refl, sym, ◌∙◌, subst, arith}
+use Rattle.std.proofs.Common.{inl, inr, ◌≡◌, refl, sym, ◌∙◌, subst, arith, IsTrue}
 use Rattle.ut_outside.specs.Disk.{View, Image, IsTold}
-use Rattle.ut_outside.specs.Run.{Always, LeavesOnly}
+use Rattle.ut_outside.specs.Run.{Always, LeavesOnly, ReadsOnly}
+use Rattle.ut_outside.proofs.RunLemmas.{reads_start}
 use Rattle.ut_pages.specs.Layout.{IsMade}
 use Rattle.ut_plain.specs.Journal.{Journal, empty_journal, journal_len}
 use Rattle.ut_plain.specs.Plain.{new_store}
@@ -11,7 +12,9 @@ use Rattle.ut_logged.specs.Runs.{Runs, Opens, NotMadeOrEmpty}
 use Rattle.ut_app.specs.declared.words.Start.{Start}
 use Rattle.ut_app.specs.declared.words.Start.TheVariants.{New, Open}
 use Rattle.ut_app.specs.Keeping.{Begins, SinceEntry, HoldsRun, NothingPending}
-use Rattle.ut_app.specs.Serving.{rows_limit}
+use Rattle.ut_app.specs.declared.report.Status.{Status}
+use Rattle.ut_app.specs.declared.report.Status.TheVariants.{Memory}
+use Rattle.ut_app.specs.Serving.{rows_limit, LosesNothing}
 use Rattle.ut_app.specs.Beginning.{Begun}
 use Rattle.ut_app.proofs.SayLemmas.{whole}
 
@@ -32,8 +35,9 @@ since_made entry now leaves told first begins nothing =
     let l = leaves told (none_made entry begins.1 nothing) in
     record { past = l.later; holds = λ c h. subst (λ (j : Journal). HoldsRun New j (journal_len j) c) (sym begins.0) (new_run c (l.each c h)) }
 
-pub since_opened : (entry now : View) → LeavesOnly entry now entry.crash_states → (first : Journal) → HoldsJournal first entry.seen → NothingPending entry → SinceEntry Open entry now first first
-since_opened entry now l first holds nothing =
+pub since_opened : (entry now : View) → ReadsOnly entry now → (first : Journal) → HoldsJournal first entry.seen → NothingPending entry → SinceEntry Open entry now first first
+since_opened entry now reads first holds nothing =
+    let l = reads.any_moment in
     record { past = l.later; holds = λ c h. subst (λ (i : Image). HoldsPrefix first (journal_len first) i) (sym (nothing c (l.each c h))) (whole_of first entry.seen holds) }
 
 pub begun_new : (entry now : View) (e : Logged) → now.told ≡ entry.told → Runs e now (new_store rows_limit) → (IsTold entry → IsMade entry.seen.pages → ⊥)
@@ -50,20 +54,40 @@ begun_new entry now e same runs unmade leaves = record {
   };
 }
 
-pub begun_open : (entry now : View) (e : Logged) → now.told ≡ entry.told → Opens e rows_limit entry now → LeavesOnly entry now entry.crash_states → Begun Open entry now e
-begun_open entry now e same opens leaves = record {
+pub begun_open : (entry now : View) (e : Logged) → Opens e rows_limit entry now → ReadsOnly entry now → Begun Open entry now e
+begun_open entry now e opens reads = record {
   first = opens.journal;
   runs = opens.runs;
   begins = opens.said;
   kept = λ told. record {
-    told = same ∙ told;
+    told = subst IsTrue (sym reads.told) told;
     no_more = omega arith;
     acknowledged = tt;
-    since_entry = since_opened entry now leaves opens.journal (opens.said told);
+    since_entry = since_opened entry now reads opens.journal (opens.said told);
   };
 }
 
--- what is read is what a run begins with
-pub seen_run : (start : Start) (entry : View) (first : Journal) → Begins start first entry.seen → NothingPending entry → (c : Image) → entry.crash_states c → HoldsRun start first (journal_len first) c
-seen_run New entry first begins nothing c h = inr (λ made. begins.1 (subst (λ (i : Image). IsMade i.pages) (nothing c h) made))
-seen_run Open entry first begins nothing c h = subst (λ (i : Image). HoldsPrefix first (journal_len first) i) (sym (nothing c h)) (whole_of first entry.seen begins)
+-- ---- where no store could be made or opened
+
+pub loses_opened : (entry now : View) (status : Status) → ReadsOnly entry now → LosesNothing Open entry now status
+loses_opened entry now status reads = record {
+  reads = λ told may. reads;
+  unbegun = λ memory. reads;
+  since_entry = λ told first begins nothing c h. (since_opened entry now reads first begins nothing).holds c h;
+}
+
+pub loses_made : (entry now : View) (status : Status) → (IsTold entry → IsMade entry.seen.pages → ReadsOnly entry now) → (status ≡ Memory → ReadsOnly entry now) → (IsTold entry → Always entry (λ c. IsMade c.pages → ⊥) → LeavesOnly entry now NotMadeOrEmpty) → LosesNothing New entry now status
+loses_made entry now status kept unbegun leaves = record {
+  reads = kept;
+  unbegun = unbegun;
+  since_entry = λ told first begins nothing c h. (since_made entry now leaves told first begins nothing).holds c h;
+}
+
+-- nothing was done
+pub loses_untouched : (start : Start) (v : View) (status : Status) → ((c : Image) → v.crash_states_since v.moment c → v.crash_states c) → LosesNothing start v v status
+loses_untouched Open v status only = loses_opened v v status (reads_start v only)
+loses_untouched New v status only = record {
+  reads = λ told made. reads_start v only;
+  unbegun = λ memory. reads_start v only;
+  since_entry = λ told first begins nothing c h. inr (λ made. begins.1 (subst (λ (i : Image). IsMade i.pages) (nothing c (only c h)) made));
+}

@@ -1,4 +1,6 @@
 pub mod Words
+pub mod World
+pub mod Script
 pub mod Writing
 pub mod Telling
 pub mod Saying
