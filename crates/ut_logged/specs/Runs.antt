@@ -2,9 +2,9 @@
 use Rattle.std.specs.Prelude.{ℕ, ◌*◌, ◌≡◌, ◌≤◌, ◌⊎◌, false, []}
 use Rattle.ut_outside.specs.Disk.{View, Image, IsTold}
 use Rattle.ut_outside.specs.Run.{Always}
-use Rattle.ut_outside.specs.declared.disk.Which.TheVariants.{Redo}
 use Rattle.ut_pages.specs.Layout.{IsMade}
 use Rattle.ut_redo.specs.Appends.{HasClosedGate}
+use Rattle.ut_redo.specs.Logs.{IsLogFile}
 use Rattle.ut_plain.specs.State.{empty_state}
 use Rattle.ut_plain.specs.Journal.{Journal, empty_journal, journal_len}
 use Rattle.ut_plain.specs.Plain.{Plain, opened_store}
@@ -17,8 +17,8 @@ pub record Runs (e : Logged) (disk : View) (p : Plain) : Type 0 where
   pub up : e.down ≡ false
   pub stands : StandsFor e.store p
   pub base : p.journal.base ≡ empty_state
-  pub held : IsTold disk → Always disk (IsReading p.journal e.log.end)
-  pub file : e.log.file ≡ Redo
+  pub held : IsTold disk → Always disk (IsReading p.journal e.log)
+  pub file : IsLogFile e.log.file
   pub gate : HasClosedGate e.log disk
   pub short : e.log.end ≤ journal_len p.journal * 1073741829
 

@@ -88,7 +88,7 @@ impl LoggedStore {
         if !Pages::made(disk)? {
             return Err(OpenError::NotMade);
         }
-        let (redo, entries) = Redo::read_all(alloc, disk, 0)?;
+        let (redo, entries) = Redo::read_all(alloc, disk, Which::Redo, 0)?;
         let store = reopen(alloc, entries, rows)?;
         Ok(LoggedStore {
             store,
@@ -184,12 +184,13 @@ impl LoggedStore {
     }
 }
 
-// Syncs both files, so that a crash leaves what a read returns.
+// Syncs the three files, so that a crash leaves what a read returns.
 fn settle<D: Disk>(disk: &mut D) -> Result<(), Failed>
     ensures settled { OnOk result (IsTold (D.view disk.old) → Always (D.view disk.new) (λ c. (file : Which) → content file c ≡ content file (D.view disk.old).seen)) }
     ensures reads { ReadsOnly (D.view disk.old) (D.view disk.new) }
     ensures cause { HasCause (D.view disk.old).faults (D.view disk.new).faults result }
 {
     disk.sync(Which::Redo)?;
+    disk.sync(Which::Redo2)?;
     disk.sync(Which::Pages)
 }

@@ -1,5 +1,6 @@
 -- When a source is asked, and how many lines end in what is handed out.
-use Rattle.std.proofs.Common.{ℕ, zero, suc, ◌≡◌, ◌≤◌, ◌<◌, ◌+◌, Bool, true, false, cond, List, [], ◌∷◌, ◌++◌, length, take, drop, refl, ap, ◌∙◌, sym, subst, arith, append_assoc, append-nil, Option, None, Some, Ok, Err}
+use Rattle.std.proofs.Common.{ℕ, suc, ◌≡◌, ◌≤◌, ◌<◌, ◌+◌, Bool, true, false, cond, List, [], ◌∷◌, ◌++◌, length, take, drop, refl, ap, ◌∙◌, sym, subst, arith, append_assoc, append-nil, Option, None, Some, Ok, Err}
+use Rattle.std.proofs.lemmas.Grind.{common_steps}
 use Rattle.std.specs.Prelude.{nat_eq, nat_lt}
 use Rattle.std.specs.List.{AllByRecursion}
 use Rattle.std.specs.Bool.{MatchBool}
@@ -57,8 +58,11 @@ asks_failed E old (Some before) (Some taken) (Some asks) e now notes = record { 
 -- ---- what is held then
 
 by_count : (count : ℕ) (A : Type 0) → (count ≡ 0 → A) → MatchBool (nat_lt 0 count) (Unit {0}) A
-by_count zero A h = h refl
-by_count (suc n) A h = tt
+by_count count A h = by (nat_lt 0 count) refl
+  where
+    by : (t : Bool) → nat_lt 0 count ≡ t → MatchBool t (Unit {0}) A
+    by true e = tt
+    by false e = h (grind (arith, common_steps, e))
 
 pub fills_taken : (E F : Type 0) (old : Reading) (before left : Option (List ℕ)) (count : ℕ) (buf : List ℕ) (new : Reading) → old.held ≡ [] → new.held ≡ take count buf → TakesBytes {E = E} before left (Ok count) buf → Fills {E = F} old before (Ok (nat_lt 0 count)) new left
 fills_taken E F old None left count buf new none is t = tt
