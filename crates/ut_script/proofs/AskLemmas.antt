@@ -4,7 +4,7 @@ use Rattle.std.proofs.lemmas.Grind.{common_steps}
 use Rattle.std.specs.Prelude.{nat_eq, nat_lt}
 use Rattle.std.specs.List.{AllByRecursion}
 use Rattle.std.specs.Bool.{MatchBool}
-use Rattle.std.proofs.lemmas.List.{take-append-drop}
+use Rattle.std.proofs.lemmas.List.{take-append-drop, take-append-le, take_all}
 use Rattle.ut_outside.specs.declared.ask.Ask.{Ask}
 use Rattle.ut_outside.specs.Streams.{NotesAsk, TakesBytes}
 use Rattle.ut_script.specs.Lines.{Reading, has_no_feed, ended_lines, IsNeeded, AsksMore, AsksFew, StepsLine}
@@ -57,12 +57,21 @@ asks_failed E old (Some before) (Some taken) (Some asks) e now notes = record { 
 
 -- ---- what is held then
 
+pub drop_none : (xs : List ℕ) → drop 0 xs ≡ xs
+drop_none [] = refl
+drop_none (x ∷ xs) = refl
+
 by_count : (count : ℕ) (A : Type 0) → (count ≡ 0 → A) → MatchBool (nat_lt 0 count) (Unit {0}) A
 by_count count A h = by (nat_lt 0 count) refl
   where
     by : (t : Bool) → nat_lt 0 count ≡ t → MatchBool t (Unit {0}) A
     by true e = tt
     by false e = h (grind (arith, common_steps, e))
+
+-- the front of a block into which bytes were put
+pub block_front : (count len : ℕ) (buf rest : List ℕ) → length buf ≡ len → drop 0 (take count (take len (buf ++ rest))) ≡ take count buf
+block_front count len buf rest h =
+    drop_none (take count (take len (buf ++ rest))) ∙ ap (λ (xs : List ℕ). take count xs) (take-append-le len buf rest (omega (arith, h)) ∙ take_all len buf (omega (arith, h)))
 
 pub fills_taken : (E F : Type 0) (old : Reading) (before left : Option (List ℕ)) (count : ℕ) (buf : List ℕ) (new : Reading) → old.held ≡ [] → new.held ≡ take count buf → TakesBytes {E = E} before left (Ok count) buf → Fills {E = F} old before (Ok (nat_lt 0 count)) new left
 fills_taken E F old None left count buf new none is t = tt
