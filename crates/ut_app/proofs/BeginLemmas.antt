@@ -1,5 +1,7 @@
 -- How a run begins.
-use Rattle.std.proofs.Common.{inl, inr, ◌≡◌, refl, sym, ◌∙◌, subst, arith, IsTrue}
+use Rattle.std.proofs.Common.{inl, inr, ◌≡◌, refl, sym, ◌∙◌, subst, arith, IsTrue, Err}
+use Rattle.std.specs.Prelude.{IsErrOf}
+use Rattle.ut_outside.specs.Faults.{Rose}
 use Rattle.ut_outside.specs.Disk.{View, Image, IsTold}
 use Rattle.ut_outside.specs.Run.{Always, LeavesOnly, ReadsOnly}
 use Rattle.ut_outside.proofs.RunLemmas.{reads_start}
@@ -8,14 +10,17 @@ use Rattle.ut_plain.specs.Journal.{Journal, empty_journal, journal_len}
 use Rattle.ut_plain.specs.Plain.{new_store}
 use Rattle.ut_logged.specs.Logged.{Logged}
 use Rattle.ut_logged.specs.Readings.{HoldsJournal, HoldsPrefix}
+use Rattle.ut_logged.specs.declared.error.OpenError.{OpenError}
+use Rattle.ut_logged.specs.declared.error.OpenError.TheVariants as errors
+use Rattle.ut_logged.specs.Opening.{MayOnlyRead}
 use Rattle.ut_logged.specs.Runs.{Runs, Opens, NotMadeOrEmpty}
 use Rattle.ut_app.specs.declared.words.Start.{Start}
 use Rattle.ut_app.specs.declared.words.Start.TheVariants.{New, Open}
 use Rattle.ut_app.specs.Keeping.{Begins, SinceEntry, HoldsRun, NothingPending}
 use Rattle.ut_app.specs.declared.report.Status.{Status}
-use Rattle.ut_app.specs.declared.report.Status.TheVariants.{Memory}
+use Rattle.ut_app.specs.declared.report.Status.TheVariants.{NoStore, Exists, DiskFault, Damaged, Memory}
 use Rattle.ut_app.specs.Serving.{rows_limit, LosesNothing}
-use Rattle.ut_app.specs.Beginning.{Begun}
+use Rattle.ut_app.specs.Beginning.{Begun, NotBegun, OpenStatus}
 use Rattle.ut_app.proofs.SayLemmas.{whole}
 
 whole_of : (j : Journal) (c : Image) → HoldsJournal j c → HoldsPrefix j (journal_len j) c
@@ -91,3 +96,29 @@ loses_untouched New v status only = record {
   unbegun = λ memory. reads_start v only;
   since_entry = λ told first begins nothing c h. inr (λ made. begins.1 (subst (λ (i : Image). IsMade i.pages) (nothing c (only c h)) made));
 }
+
+-- why no store was made
+pub not_made : (entry now : View) (error : OpenError) (status : Status) → OpenStatus error status → (IsErrOf (Err {A = Logged} error) errors.Made → IsTold entry → IsMade entry.seen.pages) → (IsErrOf (Err {A = Logged} error) errors.Disk → Rose entry.faults now.faults)
+    → (IsErrOf (Err {A = Logged} error) errors.NotMade → ⊥) × (IsErrOf (Err {A = Logged} error) errors.Damaged → ⊥) → (MayOnlyRead (Err {A = Logged} error) entry → ReadsOnly entry now) → (IsTold entry → Always entry (λ c. IsMade c.pages → ⊥) → LeavesOnly entry now NotMadeOrEmpty)
+    → NotBegun New entry now status
+not_made entry now errors.Made status is made disk others reads leaves =
+    subst (λ (s : Status). NotBegun New entry now s) (sym is) (record { early = tt; fits = λ told. (refl, made refl told); cause = λ e. cc; disk = loses_made entry now Exists (λ told is. reads (inr (told, is))) (λ e. cc) leaves })
+not_made entry now errors.NotMade status is made disk others reads leaves = absurd (others.0 refl)
+not_made entry now errors.Damaged status is made disk others reads leaves = absurd (others.1 refl)
+not_made entry now errors.Disk status is made disk others reads leaves =
+    subst (λ (s : Status). NotBegun New entry now s) (sym is) (record { early = tt; fits = λ told. tt; cause = λ e. disk refl; disk = loses_made entry now DiskFault (λ told is. reads (inr (told, is))) (λ e. cc) leaves })
+not_made entry now errors.Memory status is made disk others reads leaves =
+    subst (λ (s : Status). NotBegun New entry now s) (sym is) (record { early = tt; fits = λ told. tt; cause = λ e. cc; disk = loses_made entry now Memory (λ told is. reads (inr (told, is))) (λ e. reads (inl refl)) leaves })
+
+-- why none was opened
+pub not_opened : (entry now : View) (error : OpenError) (status : Status) → OpenStatus error status → (IsErrOf (Err {A = Logged} error) errors.NotMade → IsTold entry → IsMade entry.seen.pages → ⊥) → (IsErrOf (Err {A = Logged} error) errors.Damaged → IsTold entry → IsMade entry.seen.pages × ((j : Journal) → HoldsJournal j entry.seen → ⊥))
+    → (IsErrOf (Err {A = Logged} error) errors.Disk → Rose entry.faults now.faults) → (IsErrOf (Err {A = Logged} error) errors.Made → ⊥) → ReadsOnly entry now → NotBegun Open entry now status
+not_opened entry now errors.Made status is none damaged disk others reads = absurd (others refl)
+not_opened entry now errors.NotMade status is none damaged disk others reads =
+    subst (λ (s : Status). NotBegun Open entry now s) (sym is) (record { early = tt; fits = λ told. (refl, none refl told); cause = λ e. cc; disk = loses_opened entry now NoStore reads })
+not_opened entry now errors.Damaged status is none damaged disk others reads =
+    subst (λ (s : Status). NotBegun Open entry now s) (sym is) (record { early = tt; fits = λ told. (let d = damaged refl told in (refl, d.0, d.1)); cause = λ e. cc; disk = loses_opened entry now Damaged reads })
+not_opened entry now errors.Disk status is none damaged disk others reads =
+    subst (λ (s : Status). NotBegun Open entry now s) (sym is) (record { early = tt; fits = λ told. tt; cause = λ e. disk refl; disk = loses_opened entry now DiskFault reads })
+not_opened entry now errors.Memory status is none damaged disk others reads =
+    subst (λ (s : Status). NotBegun Open entry now s) (sym is) (record { early = tt; fits = λ told. tt; cause = λ e. cc; disk = loses_opened entry now Memory reads })

@@ -4,7 +4,8 @@ use Rattle.std.specs.Prelude.{◌&&◌, ◌||◌, nat_le, nat_lt}
 use Rattle.std.proofs.lemmas.Grind.{common_steps}
 use Rattle.std.proofs.lemmas.List.{length-append}
 use Rattle.ut_script.specs.declared.lines.LineError.TheVariants as failed
-use Rattle.ut_script.specs.Lines.{Reading, lines_of, is_long, has_line, NextLine}
+use Rattle.ut_script.specs.Lines.{Reading, lines_of, is_long, has_line, NextLine, StepsLine}
+use Rattle.ut_script.proofs.AskLemmas.{ended-append}
 use Rattle.ut_app.specs.declared.report.Status.{Status}
 use Rattle.ut_app.specs.declared.report.Status.TheVariants.{Done, Usage, NoStore, Exists, ReadFault, WriteFault, DiskFault, Damaged, Memory, TooLong}
 use Rattle.ut_app.specs.Script.{lines_limit, all_fit, is_too_long, FitsInput, IsPast, EndsBy, ReadsInput, ReadSoFar, IsReading}
@@ -68,16 +69,29 @@ past_too_long input script rest parts (inr long) = over_too_long input (ap all_f
 
 pub reading-start : (source : Option (List ℕ)) (held : List ℕ) → held ≡ [] → IsReading source [] held source
 reading-start None held e = tt
-reading-start (Some input) held e = record { after = input; is_left = refl; parts = ap (λ (h : List ℕ). lines_of (h ++ input)) (sym e) }
+reading-start (Some input) held e = record {
+  after = input;
+  is_left = refl;
+  parts = ap (λ (h : List ℕ). lines_of (h ++ input)) (sym e);
+  front = [];
+  input_is = ap (λ (h : List ℕ). h ++ input) (sym e);
+  ended = omega arith;
+}
 
-pub reading-more : (source : Option (List ℕ)) (script : List (List ℕ)) (old new : Reading) (left left2 : Option (List ℕ)) → IsReading source script old.held left → NextLine old left (Ok true) new left2 → IsReading source (script ++ new.line ∷ []) new.held left2
-reading-more None script old new left left2 r n = tt
-reading-more (Some input) script old new left left2 r n =
+pub reading-more : (source : Option (List ℕ)) (script : List (List ℕ)) (old new : Reading) (left left2 : Option (List ℕ)) → IsReading source script old.held left → NextLine old left (Ok true) new left2 → StepsLine old left new left2 → IsReading source (script ++ new.line ∷ []) new.held left2
+reading-more None script old new left left2 r n m = tt
+reading-more (Some input) script old new left left2 r n m =
     let took = subst (λ (l : Option (List ℕ)). NextLine old l (Ok true) new left2) r.is_left n in
+    let step = subst (λ (l : Option (List ℕ)). StepsLine old l new left2) r.is_left m in
+    let same : Some step.after ≡ Some took.after = sym step.is_left ∙ took.is_left in
+    let after : step.after ≡ took.after = cc in
     record {
       after = took.after;
       is_left = took.is_left;
       parts = r.parts ∙ ap (λ (ls : List (List ℕ)). script ++ ls) took.taken.line ∙ sym (append_assoc script (new.line ∷ []) (lines_of (new.held ++ took.after)));
+      front = r.front ++ step.piece;
+      input_is = r.input_is ∙ ap (λ (xs : List ℕ). r.front ++ xs) (step.parts ∙ ap (λ (xs : List ℕ). step.piece ++ (new.held ++ xs)) after) ∙ sym (append_assoc r.front step.piece (new.held ++ took.after));
+      ended = omega (arith, r.ended, step.one, ended-append r.front step.piece, length-append script (new.line ∷ []));
     }
 
 -- what a status says at the end of the reading

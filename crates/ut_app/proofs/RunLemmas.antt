@@ -1,11 +1,13 @@
 -- What a run comes to, at each of its ends.
-use Rattle.std.proofs.Common.{inl, inr, ℕ, ◌+◌, ◌≡◌, ◌≤◌, ◌<◌, ◌⊎◌, List, [], ◌∷◌, ◌++◌, length, Option, None, Some, Ok, Err, refl, sym, ap, ◌∙◌, subst, arith, true, false}
+use Rattle.std.proofs.Common.{inl, inr, ℕ, suc, ◌+◌, ◌≡◌, ◌≤◌, ◌<◌, ◌⊎◌, List, [], ◌∷◌, ◌++◌, length, Option, None, Some, Ok, Err, refl, sym, ap, ◌∙◌, subst, arith, true, false}
 use Rattle.std.proofs.lemmas.List.{length-append}
 use Rattle.ut_outside.specs.Disk.{View, Image, IsTold}
 use Rattle.ut_outside.specs.Faults.{Rose}
 use Rattle.ut_outside.specs.declared.ack.Ack.{Ack}
+use Rattle.ut_outside.specs.declared.ask.Ask.{Ask}
 use Rattle.ut_plain.specs.Journal.{Journal}
-use Rattle.ut_script.specs.Lines.{Reading, NextLine, Counts}
+use Rattle.ut_plain.specs.Plain.{opened_store}
+use Rattle.ut_script.specs.Lines.{Reading, NextLine, StepsLine, AsksFew, Counts}
 use Rattle.ut_script.specs.Grammar.{parsed}
 use Rattle.ut_logged.specs.Logged.{Logged}
 use Rattle.ut_app.specs.declared.words.Start.{Start}
@@ -20,7 +22,8 @@ use Rattle.ut_app.specs.Script.{lines_limit, all_fit}
 use Rattle.ut_app.specs.Turning.{Turns, TurnCauses, EndStatus}
 use Rattle.ut_app.specs.Keeping.{Begins}
 use Rattle.ut_app.specs.Beginning.{Begun, NotBegun}
-use Rattle.ut_app.specs.Serving.{Answered, Ran, IsWritten}
+use Rattle.ut_app.specs.Asking.{replies_of, AsksInTime}
+use Rattle.ut_app.specs.Serving.{rows_limit, parsed_lines, lengths_of, Answered, Ran, IsWritten}
 use Rattle.ut_app.specs.Input.{NoLine}
 use Rattle.ut_app.specs.Ends.{FitsStore, HasRisen, IsEarly, IsLate, Early, Late, Run}
 use Rattle.ut_app.specs.Top.{RunsWords}
@@ -28,6 +31,7 @@ use Rattle.ut_app.specs.Going.{Going}
 use Rattle.ut_app.proofs.SayLemmas.{OnlyNow}
 use Rattle.ut_app.proofs.BeginLemmas.{loses_untouched}
 use Rattle.ut_app.proofs.ServeLemmas.{CountsNow, progress-start, progress-more, progress-end, write_end, disk_end}
+use Rattle.ut_app.proofs.AskLemmas.{in_time_read}
 use Rattle.ut_app.proofs.EndsLemmas.{fit_more, reading-start, reading-more, EndsReading, reading-done, reading-long, IsCut, fits_cut, reading-cut}
 
 -- ---- the store
@@ -134,21 +138,32 @@ few_read start before mid count lines next old acks journal g c = let a = c.numb
 longer : (count : ℕ) (script : List (List ℕ)) (line : List ℕ) → count ≡ length script → count + 1 ≡ length (script ++ line ∷ [])
 longer count script line is = omega (arith, is, length-append script (line ∷ []))
 
+parsed_count : (script : List (List ℕ)) → length (parsed_lines script) ≡ length script
+parsed_count [] = refl
+parsed_count (l ∷ ls) = ap suc (parsed_count ls)
+
+-- what the reader asks comes in time
+asked : (start : Start) (before mid : World) (count : ℕ) (lines : Reading) (store : Logged) (acks : List Ack) (journal : ℕ) (now : Option (List Ask)) → (g : Going start before mid count lines store acks journal) → AsksFew lines mid.source mid.sink mid.asks now
+    → AsksInTime before.source before.sink before.asks (replies_of (parsed_lines g.script) g.progress.answers) now
+asked start before mid count lines store acks journal now g few =
+    let p = g.progress in
+    in_time_read (opened_store [] p.first rows_limit) before.source before.sink before.asks g.script (parsed_lines g.script) p.answers (lengths_of acks) p.plain lines mid.source mid.sink mid.marks acks mid.asks now (parsed_count g.script) g.reading p.tells p.written p.in_time few
+
 -- a line more was answered
 pub going-more : (start : Start) (before mid now : World) (count : ℕ) (lines next : Reading) (old new : Logged) (acks acks_now : List Ack) (journal journal_now : ℕ) → Going start before mid count lines old acks journal
-    → NextLine lines mid.source (Ok true) next now.source → Counts lines (Ok true) next → mid.reads ≤ now.reads → now.disk.told ≡ mid.disk.told → mid.disk.faults ≤ now.disk.faults → mid.writes ≤ now.writes → OnlyNow now.disk → CountsNow now.disk
+    → NextLine lines mid.source (Ok true) next now.source → StepsLine lines mid.source next now.source → AsksFew lines mid.source mid.sink mid.asks now.asks → Counts lines (Ok true) next → mid.reads ≤ now.reads → now.disk.told ≡ mid.disk.told → mid.disk.faults ≤ now.disk.faults → mid.writes ≤ now.writes → OnlyNow now.disk → CountsNow now.disk
     → Turns old mid.disk (parsed false next.line) (record { acks = acks; journal = journal }) (record { held = mid.sink; marks = mid.marks }) (Ok tt) new now.disk (record { acks = acks_now; journal = journal_now }) (record { held = now.sink; marks = now.marks })
     → Going start before now (count + 1) next new acks_now journal_now
-going-more start before mid now count lines next old new acks acks_now journal journal_now g n c reads told faults writes only counts t = record {
+going-more start before mid now count lines next old new acks acks_now journal journal_now g n m few c reads told faults writes only counts t = record {
   script = g.script ++ next.line ∷ [];
   count_is = longer count g.script next.line g.count_is;
   few = few_read start before mid count lines next old acks journal g c;
   fit = fit_more g.script next.line g.fit c.short;
-  reading = reading-more before.source g.script lines next mid.source now.source g.reading n;
+  reading = reading-more before.source g.script lines next mid.source now.source g.reading n m;
   no_error = c.failed;
   number = c.number ∙ ap (λ (k : ℕ). k + 1) g.number;
   limit = c.limit ∙ g.limit;
-  progress = progress-more start before mid now g.script old new acks acks_now journal journal_now next.line told only counts g.progress (t.each g.progress.plain g.progress.runs);
+  progress = progress-more start before mid now g.script old new acks acks_now journal journal_now next.line told only counts g.progress (asked start before mid count lines old acks journal now.asks g few) (t.each g.progress.plain g.progress.runs);
   told = told ∙ g.told;
   reads = let a = g.reads in omega (arith, a, reads);
   writes = let a = g.writes in omega (arith, a, writes);
@@ -158,38 +173,38 @@ going-more start before mid now count lines next old new acks acks_now journal j
 -- ---- ends between two lines
 
 -- the source was asked, and nothing else
-between : (start : Start) (before mid : World) (source : Option (List ℕ)) (reads : ℕ) (status : Status) (count : ℕ) (lines : Reading) (store : Logged) (acks : List Ack) (journal : ℕ) → (g : Going start before mid count lines store acks journal) → IsLate status
-    → IsWritten status before g.progress.answers (record mid { source = source; reads = reads }) acks → EndsReading before.source source status g.script → HasRisen status before (record mid { source = source; reads = reads }) → Run start before (record mid { source = source; reads = reads }) status count acks journal
-between start before mid source reads status count lines store acks journal g l written input cause =
-    late start before (record mid { source = source; reads = reads }) status g.script count acks journal l g.count_is g.few g.fit input (progress-end start before mid source reads g.script store acks journal status g.progress written) cause
+between : (start : Start) (before mid : World) (source : Option (List ℕ)) (asks : Option (List Ask)) (reads : ℕ) (status : Status) (count : ℕ) (lines : Reading) (store : Logged) (acks : List Ack) (journal : ℕ) → (g : Going start before mid count lines store acks journal) → IsLate status
+    → AsksFew lines mid.source mid.sink mid.asks asks → IsWritten status before g.progress.answers (record mid { source = source; asks = asks; reads = reads }) acks → EndsReading before.source source status g.script → HasRisen status before (record mid { source = source; asks = asks; reads = reads }) → Run start before (record mid { source = source; asks = asks; reads = reads }) status count acks journal
+between start before mid source asks reads status count lines store acks journal g l few written input cause =
+    late start before (record mid { source = source; asks = asks; reads = reads }) status g.script count acks journal l g.count_is g.few g.fit input (progress-end start before mid source asks reads g.script store acks journal status g.progress (asked start before mid count lines store acks journal asks g few) written) cause
 
 -- there is no further line
-pub no_line : (start : Start) (before mid : World) (source : Option (List ℕ)) (reads : ℕ) (status : Status) (count : ℕ) (lines next : Reading) (store : Logged) (acks : List Ack) (journal : ℕ) → Going start before mid count lines store acks journal
-    → NoLine status lines mid.source mid.reads next source reads → Run start before (record mid { source = source; reads = reads }) status count acks journal
-no_line start before mid source reads Done count lines next store acks journal g n =
-    between start before mid source reads Done count lines store acks journal g tt g.progress.written (reading-done before.source g.script lines next mid.source source (subst (λ (k : ℕ). k ≤ lines_limit) g.count_is g.few) g.fit g.reading n) tt
-no_line start before mid source reads ReadFault count lines next store acks journal g n =
-    between start before mid source reads ReadFault count lines store acks journal g tt g.progress.written (reading-cut before.source g.script lines.held mid.source source ReadFault g.reading tt) (let a = g.reads in omega (arith, a, n))
-no_line start before mid source reads TooLong count lines next store acks journal g n =
-    between start before mid source reads TooLong count lines store acks journal g tt g.progress.written
+pub no_line : (start : Start) (before mid : World) (source : Option (List ℕ)) (asks : Option (List Ask)) (reads : ℕ) (status : Status) (count : ℕ) (lines next : Reading) (store : Logged) (acks : List Ack) (journal : ℕ) → Going start before mid count lines store acks journal
+    → AsksFew lines mid.source mid.sink mid.asks asks → NoLine status lines mid.source mid.reads next source reads → Run start before (record mid { source = source; asks = asks; reads = reads }) status count acks journal
+no_line start before mid source asks reads Done count lines next store acks journal g few n =
+    between start before mid source asks reads Done count lines store acks journal g tt few g.progress.written (reading-done before.source g.script lines next mid.source source (subst (λ (k : ℕ). k ≤ lines_limit) g.count_is g.few) g.fit g.reading n) tt
+no_line start before mid source asks reads ReadFault count lines next store acks journal g few n =
+    between start before mid source asks reads ReadFault count lines store acks journal g tt few g.progress.written (reading-cut before.source g.script lines.held mid.source source ReadFault g.reading tt) (let a = g.reads in omega (arith, a, n))
+no_line start before mid source asks reads TooLong count lines next store acks journal g few n =
+    between start before mid source asks reads TooLong count lines store acks journal g tt few g.progress.written
     (reading-long before.source g.script lines next mid.source source g.limit (g.number ∙ g.count_is) (subst (λ (k : ℕ). k ≤ lines_limit) g.count_is g.few) g.reading n) tt
-no_line start before mid source reads Memory count lines next store acks journal g n =
-    between start before mid source reads Memory count lines store acks journal g tt g.progress.written (reading-cut before.source g.script lines.held mid.source source Memory g.reading tt) tt
-no_line start before mid source reads Usage count lines next store acks journal g n = absurd n
-no_line start before mid source reads NoStore count lines next store acks journal g n = absurd n
-no_line start before mid source reads Exists count lines next store acks journal g n = absurd n
-no_line start before mid source reads WriteFault count lines next store acks journal g n = absurd n
-no_line start before mid source reads DiskFault count lines next store acks journal g n = absurd n
-no_line start before mid source reads Damaged count lines next store acks journal g n = absurd n
+no_line start before mid source asks reads Memory count lines next store acks journal g few n =
+    between start before mid source asks reads Memory count lines store acks journal g tt few g.progress.written (reading-cut before.source g.script lines.held mid.source source Memory g.reading tt) tt
+no_line start before mid source asks reads Usage count lines next store acks journal g few n = absurd n
+no_line start before mid source asks reads NoStore count lines next store acks journal g few n = absurd n
+no_line start before mid source asks reads Exists count lines next store acks journal g few n = absurd n
+no_line start before mid source asks reads WriteFault count lines next store acks journal g few n = absurd n
+no_line start before mid source asks reads DiskFault count lines next store acks journal g few n = absurd n
+no_line start before mid source asks reads Damaged count lines next store acks journal g few n = absurd n
 
 -- ---- ends at a line
 
 module _ (start : Start) (before mid after : World) (count : ℕ) (lines next : Reading) (old new : Logged) (acks acks_now : List Ack) (journal journal_now : ℕ) (g : Going start before mid count lines old acks journal)
-    (n : NextLine lines mid.source (Ok true) next after.source) (c : Counts lines (Ok true) next) (only : OnlyNow after.disk) (counts : CountsNow after.disk) where
+    (n : NextLine lines mid.source (Ok true) next after.source) (m : StepsLine lines mid.source next after.source) (few : AsksFew lines mid.source mid.sink mid.asks after.asks) (c : Counts lines (Ok true) next) (only : OnlyNow after.disk) (counts : CountsNow after.disk) where
   at_line : (status : Status) → IsLate status → IsCut status → Answered start before after status (g.script ++ next.line ∷ []) acks_now journal_now → HasRisen status before after → Run start before after status (count + 1) acks_now journal_now
   at_line status l cut answered cause =
       late start before after status (g.script ++ next.line ∷ []) (count + 1) acks_now journal_now l (longer count g.script next.line g.count_is) (few_read start before mid count lines next old acks journal g c) (fit_more g.script next.line g.fit c.short)
-      (reading-cut before.source (g.script ++ next.line ∷ []) next.held after.source after.source status (reading-more before.source g.script lines next mid.source after.source g.reading n) cut) answered cause
+      (reading-cut before.source (g.script ++ next.line ∷ []) next.held after.source after.source status (reading-more before.source g.script lines next mid.source after.source g.reading n m) cut) answered cause
 
   -- the run ends at a line
   pub at_end : (end : TurnEnd) (status : Status) → EndStatus end status → TurnCauses mid.disk after.disk mid.writes after.writes (Err end)
@@ -199,12 +214,12 @@ module _ (start : Start) (before mid after : World) (count : ℕ) (lines next : 
       let rose = causes.disk refl in
       let p = g.progress in
       subst (λ (s : Status). Run start before after s (count + 1) acks_now journal_now) (sym is)
-      (at_line DiskFault tt tt (disk_end start before mid after g.script old new acks acks_now journal journal_now next.line causes.told only counts p rose g.faults (t.each p.plain p.runs)) (let a = g.faults in omega (arith, a, rose)))
+      (at_line DiskFault tt tt (disk_end start before mid after g.script old new acks acks_now journal journal_now next.line causes.told only counts p (asked start before mid count lines old acks journal after.asks g few) rose g.faults (t.each p.plain p.runs)) (let a = g.faults in omega (arith, a, rose)))
   at_end ends.Write status is causes t =
       let rose = causes.write refl in
       let p = g.progress in
       subst (λ (s : Status). Run start before after s (count + 1) acks_now journal_now) (sym is)
-      (at_line WriteFault tt tt (write_end start before mid after g.script old new acks acks_now journal journal_now next.line causes.told only counts p g.faults (t.each p.plain p.runs)) (let a = g.writes in omega (arith, a, rose)))
+      (at_line WriteFault tt tt (write_end start before mid after g.script old new acks acks_now journal journal_now next.line causes.told only counts p (asked start before mid count lines old acks journal after.asks g few) g.faults (t.each p.plain p.runs)) (let a = g.writes in omega (arith, a, rose)))
 
 -- room was made for an acknowledgement
 pub roomy : (start : Start) (before mid : World) (count : ℕ) (lines : Reading) (store : Logged) (acks acks_now : List Ack) (journal journal_now : ℕ) → Going start before mid count lines store acks journal → acks_now ≡ acks → journal_now ≡ journal → Going start before mid count lines store acks_now journal_now

@@ -3,6 +3,7 @@ use Rattle.std.proofs.Common.{inl, inr, ℕ, ◌+◌, ◌≡◌, ◌≤◌, ◌�
 use Rattle.ut_outside.specs.Disk.{View, Image, IsTold}
 use Rattle.ut_outside.specs.Faults.{Rose}
 use Rattle.ut_outside.specs.declared.ack.Ack.{Ack}
+use Rattle.ut_outside.specs.declared.ask.Ask.{Ask}
 use Rattle.ut_outside.specs.declared.faults.Failed as fails
 use Rattle.ut_plain.specs.declared.statement.Parsed.{Parsed}
 use Rattle.ut_plain.specs.Journal.{journal_len}
@@ -19,6 +20,7 @@ use Rattle.ut_app.specs.declared.turn.TurnEnd.TheVariants as ends
 use Rattle.ut_app.specs.World.{World}
 use Rattle.ut_app.specs.Writing.{answer_text, Writes, HasWritten}
 use Rattle.ut_app.specs.Telling.{Tells, AnswersAll, AnswersToFault}
+use Rattle.ut_app.specs.Asking.{replies_of, AsksInTime}
 use Rattle.ut_app.specs.Saying.{Keeps}
 use Rattle.ut_app.specs.Turning.{Sunk, Noted, Turn, Quiet, Told, Unwritten, Lost, LostUnwritten}
 use Rattle.ut_app.specs.Keeping.{Kept}
@@ -27,6 +29,7 @@ use Rattle.ut_app.specs.Serving.{rows_limit, parsed_lines, lengths_of, Progress,
 use Rattle.ut_app.proofs.SayLemmas.{OnlyNow, runs_whole}
 use Rattle.ut_app.proofs.KeepLemmas.{GoesOn, no_shorter, kept_on, kept_ack}
 use Rattle.ut_app.proofs.TellLemmas.{tells_more, whole_transcript, cut_transcript, line_on, fault_on}
+use Rattle.ut_app.proofs.AskLemmas.{in_time_start, in_time_more, replies_more}
 use Rattle.ut_app.proofs.MarkLemmas.{written-more, written-some, nothing_written}
 
 -- each crash now is one since any moment before
@@ -53,6 +56,7 @@ progress-start start before now store acks journal begun none is each =
       tells = (refl, refl, refl);
       runs = begun.runs;
       written = nothing_written before.sink before.marks each;
+      in_time = in_time_start before.source before.sink before.asks [];
       kept = begun.kept;
       length_is = is ∙ begun.runs.stands.counts.entries;
     })
@@ -98,7 +102,8 @@ ok_turn p line was acks journal held marks result new now acks_now journal_now h
 ok_turn p line was acks journal held marks result new now acks_now journal_now held_now marks_now ok (LostUnwritten a q x r faults keeps rose n w) = absurd (not_err result ends.Write ok r)
 
 module _ (start : Start) (before was now : World) (script : List (List ℕ)) (old new : Logged) (acks acks_now : List Ack) (journal journal_now : ℕ) (line : List ℕ)
-    (told : now.disk.told ≡ was.disk.told) (only : OnlyNow now.disk) (counts : CountsNow now.disk) (p : Progress start before was script old acks journal) where
+    (told : now.disk.told ≡ was.disk.told) (only : OnlyNow now.disk) (counts : CountsNow now.disk) (p : Progress start before was script old acks journal)
+    (asked : AsksInTime before.source before.sink before.asks (replies_of (parsed_lines script) p.answers) now.asks) where
   first : Plain
   first = opened_store [] p.first rows_limit
 
@@ -108,6 +113,13 @@ module _ (start : Start) (before was now : World) (script : List (List ℕ)) (ol
 
   more : List (List ℕ)
   more = script ++ line ∷ []
+
+  -- what was asked stays in time
+  asked_more : (here : List Answer) → AsksInTime before.source before.sink before.asks (replies_of (parsed_lines more) (p.answers ++ here)) now.asks
+  asked_more here =
+      subst (λ (texts : List (List ℕ)). AsksInTime before.source before.sink before.asks texts now.asks)
+      (sym (ap (λ (ls : List Parsed). replies_of ls (p.answers ++ here)) (lines-one script line) ∙ replies_more first (parsed_lines script) p.answers (lengths_of acks) p.plain (parsed false line) here p.tells))
+      (in_time_more before.source before.sink before.asks (replies_of (parsed_lines script) p.answers) (replies_of (parsed false line ∷ []) here) now.asks asked)
 
   goes : (q : Plain) → GoesOn p.plain.journal q.journal → Keeps was.disk now.disk q.journal (journal_len p.plain.journal) → IsTold before.disk → Kept start before.disk now.disk p.first q.journal acks
   goes q on keeps e = let kept = p.kept e in kept_on start before.disk was.disk now.disk p.first p.plain.journal q.journal acks on (told ∙ kept.told) (keeps kept.told) kept
@@ -147,6 +159,7 @@ module _ (start : Start) (before was now : World) (script : List (List ℕ)) (ol
     runs = runs;
     written = subst (λ (ks : List Ack). HasWritten before.sink p.answers now.sink now.marks ks) (sym e)
         (subst (λ (o : Option (List ℕ)). HasWritten before.sink p.answers o now.marks acks) (sym h) (subst (λ (ms : List ℕ). HasWritten before.sink p.answers was.sink ms acks) (sym m) p.written));
+    in_time = subst (λ (xs : List Answer). AsksInTime before.source before.sink before.asks (replies_of (parsed_lines more) xs) now.asks) (append-nil p.answers) (asked_more []);
     kept = λ t. subst (λ (ks : List Ack). Kept start before.disk now.disk p.first q.journal ks) (sym e) (goes q (line_on p.plain (parsed false line) [] q answers) keeps t);
     length_is = f;
   }
@@ -162,6 +175,7 @@ module _ (start : Start) (before was now : World) (script : List (List ℕ)) (ol
         tells = tells_one a q answers;
         runs = runs;
         written = written-more before.sink p.answers a was.sink was.marks acks (journal_len q.journal) now.disk.moment now.sink now.marks p.written w;
+        in_time = asked_more (a ∷ []);
         kept = goes_acked q (line_on p.plain (parsed false line) (a ∷ []) q answers) keeps runs;
         length_is = f;
       })
@@ -190,6 +204,7 @@ module _ (start : Start) (before was now : World) (script : List (List ℕ)) (ol
         transcript = whole_transcript _ _ _ _ _ _ all;
         ended = inl (record { all = all; stays = runs_whole new now.disk q runs });
         written = written-some before.sink p.answers a was.sink was.marks acks (journal_len q.journal) now.disk.moment now.sink now.marks x p.written w;
+        in_time = asked_more (a ∷ []);
         kept = goes_acked q (line_on p.plain (parsed false line) (a ∷ []) q answers) keeps runs;
       })
 
@@ -222,6 +237,7 @@ module _ (start : Start) (before was now : World) (script : List (List ℕ)) (ol
         transcript = cut_transcript _ _ _ _ _ _ cut;
         ended = inr (record { cut = cut; says = fault; rose = rose });
         written = written;
+        in_time = asked_more (a ∷ []);
         kept = loses_acked q (fault_on p.plain (parsed false line) (a ∷ []) q faults) keeps;
       })
 
@@ -250,9 +266,9 @@ module _ (start : Start) (before was now : World) (script : List (List ℕ)) (ol
   disk_end rose le (LostUnwritten a q x r faults keeps more n w) = cc
 
 -- the run ends between two lines, where the source was asked
-pub progress-end : (start : Start) (before now : World) (source : Option (List ℕ)) (reads : ℕ) (script : List (List ℕ)) (store : Logged) (acks : List Ack) (journal : ℕ) (status : Status) → (p : Progress start before now script store acks journal)
-    → IsWritten status before p.answers (record now { source = source; reads = reads }) acks → Answered start before (record now { source = source; reads = reads }) status script acks journal
-progress-end start before now source reads script store acks journal status p written =
+pub progress-end : (start : Start) (before now : World) (source : Option (List ℕ)) (asks : Option (List Ask)) (reads : ℕ) (script : List (List ℕ)) (store : Logged) (acks : List Ack) (journal : ℕ) (status : Status) → (p : Progress start before now script store acks journal)
+    → AsksInTime before.source before.sink before.asks (replies_of (parsed_lines script) p.answers) asks → IsWritten status before p.answers (record now { source = source; asks = asks; reads = reads }) acks → Answered start before (record now { source = source; asks = asks; reads = reads }) status script acks journal
+progress-end start before now source asks reads script store acks journal status p asked written =
     let all : AnswersAll (opened_store [] p.first rows_limit) (parsed_lines script) p.answers (lengths_of acks) journal p.plain = record { tells = p.tells; length_is = p.length_is } in
     record {
       first = p.first;
@@ -262,5 +278,6 @@ progress-end start before now source reads script store acks journal status p wr
       transcript = whole_transcript _ _ _ _ _ _ all;
       ended = inl (record { all = all; stays = runs_whole store now.disk p.plain p.runs });
       written = written;
+      in_time = asked;
       kept = p.kept;
     }

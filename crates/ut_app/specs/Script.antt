@@ -1,6 +1,6 @@
 -- The lines of an input: those that were answered, and those behind them.
-use Rattle.std.specs.Prelude.{ℕ, ◌≡◌, ◌⊎◌, Bool, true, false, ◌&&◌, ◌||◌, not, nat_le, nat_lt, List, [], ◌∷◌, ◌++◌, length, Option, None, Some}
-use Rattle.ut_script.specs.Lines.{lines_of, is_long, has_line}
+use Rattle.std.specs.Prelude.{ℕ, ◌≡◌, ◌≤◌, ◌⊎◌, Bool, true, false, ◌&&◌, ◌||◌, not, nat_le, nat_lt, List, [], ◌∷◌, ◌++◌, length, Option, None, Some}
+use Rattle.ut_script.specs.Lines.{lines_of, ended_lines, is_long, has_line}
 use Rattle.ut_app.specs.declared.report.Status.{Status}
 use Rattle.ut_app.specs.declared.report.Status.TheVariants.{Done, TooLong}
 
@@ -44,11 +44,14 @@ abbrev pub ReadsInput : Option (List ℕ) → Option (List ℕ) → Status → L
 ReadsInput None left status script = Unit {0}
 ReadsInput (Some input) left status script = IsFront input left status script
 
--- how far the reading is: these lines were read, and the others are held or left
+-- how far the reading is: these lines were read, whose bytes stand in front, and the others are held or left
 pub record ReadSoFar (input : List ℕ) (script : List (List ℕ)) (held : List ℕ) (left : Option (List ℕ)) : Type 0 where
   pub after : List ℕ
   pub is_left : left ≡ Some after
   pub parts : lines_of input ≡ script ++ lines_of (held ++ after)
+  pub front : List ℕ
+  pub input_is : input ≡ front ++ (held ++ after)
+  pub ended : ended_lines front ≤ length script
 
 abbrev pub IsReading : Option (List ℕ) → List (List ℕ) → List ℕ → Option (List ℕ) → Type 0
 IsReading None script held left = Unit {0}

@@ -20,6 +20,7 @@ use Rattle.ut_app.specs.World.{World}
 use Rattle.ut_app.specs.Script.{lines_limit, all_fit, ReadsInput}
 use Rattle.ut_app.specs.Telling.{Tells, AnswersAll, AnswersToFault}
 use Rattle.ut_app.specs.Writing.{HasWritten, HasFront}
+use Rattle.ut_app.specs.Asking.{replies_of, AsksInTime}
 use Rattle.ut_app.specs.Keeping.{Begins, Kept, HoldsRun, HoldsWhole, NothingPending}
 
 -- the greatest id that a run gives
@@ -43,6 +44,7 @@ pub record Progress (start : Start) (before now : World) (script : List (List �
   pub tells : Tells (opened_store [] first rows_limit) (parsed_lines script) answers (lengths_of acks) plain
   pub runs : Runs store now.disk plain
   pub written : HasWritten before.sink answers now.sink now.marks acks
+  pub in_time : AsksInTime before.source before.sink before.asks (replies_of (parsed_lines script) answers) now.asks
   pub kept : IsTold before.disk → Kept start before.disk now.disk first plain.journal acks
   pub length_is : journal ≡ journal_len plain.journal
 
@@ -80,6 +82,8 @@ pub record Answered (start : Start) (before after : World) (status : Status) (sc
   pub ended : AllAnswered (opened_store [] first rows_limit) script answers acks journal plain after.disk
       ⊎ LastFaulted (opened_store [] first rows_limit) script answers acks journal plain before.disk after.disk status
   pub written : IsWritten status before answers after acks
+  -- each reply stands in the sink before the source is asked for more than its line needs
+  pub in_time : AsksInTime before.source before.sink before.asks (replies_of (parsed_lines script) answers) after.asks
   pub kept : IsTold before.disk → Kept start before.disk after.disk first plain.journal acks
 
 -- The first lines of the input were answered, each within the limits. Where the source doesn't tell its bytes, some lines were.

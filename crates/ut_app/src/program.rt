@@ -34,8 +34,8 @@ pub fn top<S: Source, K: Sink<D>, D: Disk + Send, H: Hook + Sync>(
     ensures input { FitsInput result.status (S.left source.old) }
     // What was answered, written and acknowledged, and what a crash leaves of it.
     ensures ran { RunsWords (start_of (map (λ w. w.now) words.now))
-        (record { source = S.left source.old; reads = S.faults source.old; sink = K.held sink.old; marks = K.moments sink.old; writes = K.faults sink.old; disk = D.view disk.old })
-        (record { source = S.left source.new; reads = S.faults source.new; sink = K.held sink.new; marks = K.moments sink.new; writes = K.faults sink.new; disk = D.view disk.new })
+        (record { source = S.left source.old; asks = S.asks source.old; reads = S.faults source.old; sink = K.held sink.old; marks = K.moments sink.old; writes = K.faults sink.old; disk = D.view disk.old })
+        (record { source = S.left source.new; asks = S.asks source.new; reads = S.faults source.new; sink = K.held sink.new; marks = K.moments sink.new; writes = K.faults sink.new; disk = D.view disk.new })
         result.status result.lines result.acks.items result.journal }
     // A fault is answered only where its count rose.
     ensures read { result.status ≡ Status.ReadFault → Rose (S.faults source.old) (S.faults source.new) }
@@ -43,8 +43,8 @@ pub fn top<S: Source, K: Sink<D>, D: Disk + Send, H: Hook + Sync>(
     ensures disk { result.status ≡ Status.DiskFault → Rose (D.view disk.old).faults (D.view disk.new).faults }
     // Where nothing is in the way, all is done, but for want of memory.
     ensures complete { IsComplete (start_of (map (λ w. w.now) words.now))
-        (record { source = S.left source.old; reads = S.faults source.old; sink = K.held sink.old; marks = K.moments sink.old; writes = K.faults sink.old; disk = D.view disk.old })
-        (record { source = S.left source.new; reads = S.faults source.new; sink = K.held sink.new; marks = K.moments sink.new; writes = K.faults sink.new; disk = D.view disk.new })
+        (record { source = S.left source.old; asks = S.asks source.old; reads = S.faults source.old; sink = K.held sink.old; marks = K.moments sink.old; writes = K.faults sink.old; disk = D.view disk.old })
+        (record { source = S.left source.new; asks = S.asks source.new; reads = S.faults source.new; sink = K.held sink.new; marks = K.moments sink.new; writes = K.faults sink.new; disk = D.view disk.new })
         result.status }
 {
     match start_of(words) {
