@@ -82,7 +82,7 @@ fn bytes_off_the_grammar_are_no_entry(rt: HostRuntime) -> Result<(), AllocError>
         b"\0",
         b"\x05\x07\0\0\0",
         b"\x04\x07\0\0",
-        b"\x03\x01\0\0\0\0\0\x03",
+        b"\x03\x01\0\0\0\0\0\x04",
         b"\x02\0\0\0\0",
         b"\x02\xff\xff\xff\xff",
         b"\x02\x01\0\0\0\x03\x03\0\x0a\0\0\0",

@@ -2,7 +2,9 @@
 #![tactic(auto)]
 
 mod fates;
+mod keeping;
 mod visibility;
 
 pub use fates::{Fate, Fates};
+pub use keeping::keeps;
 pub use visibility::{Stamp, is_taken, sees};

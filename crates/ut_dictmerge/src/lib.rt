@@ -1,0 +1,13 @@
+//! Merges two ascending key lists into one of the used keys of both, in pieces on threads.
+#![tactic(auto)]
+
+mod cut;
+mod merging;
+mod parallel;
+mod piece;
+#[cfg(test)]
+mod tests;
+
+pub use cut::{Cut, cuts};
+pub use merging::merge;
+pub use piece::{Merged, count_piece};

@@ -1,0 +1,134 @@
+//! Each code by its map: one share at a time, or all shares on threads.
+ghost use Rattle.std.specs.Prelude.{◌≡◌, ◌+◌, ◌*◌, ◌/◌, ◌^◌, ◌<◌, ◌≤◌, ℕ, length, IfOk, slice_index_or};
+ghost use Rattle.ut_bits.specs.Bits.{AllBelow};
+ghost use Rattle.ut_own.specs.Own.{recoded};
+ghost use Rattle.ut_recode.specs.Recode.{HaveEntries};
+ghost use Rattle.ut_recode.specs.Spans.{span, share_at};
+
+use crate::parts::share;
+use std::alloc::{AllocError, Global};
+use std::thread;
+use std::thread::Threads;
+
+/// With fewer codes than this a thread costs more than it saves.
+const FEW_CODES: usize = 100_000;
+
+/// Each code by its map, in so many shares. The answer is the same for every number of them.
+pub fn recode<R: Threads + Sync>(
+    rt: &R,
+    alloc: Global,
+    codes: &[u32],
+    map: &[Option<u32>],
+    reach: u32,
+    pieces: u32,
+) -> Result<Vec<u32>, AllocError>
+    requires count { length codes.now ≤ 2 ^ 31 }
+    requires entries { HaveEntries map.now reach codes.now }
+    requires pieces { (1 ≤ pieces) × (pieces ≤ 64) }
+    ensures codes { IfOk result (λ v. v.items ≡ recoded map.now codes.now) }
+    ensures below { IfOk result (λ v. AllBelow reach v.items) }
+{
+    if pieces == 1 || codes.len() < FEW_CODES {
+        return recode_all(alloc, codes, map, reach);
+    }
+    recode_shares(rt, alloc, codes, map, reach, pieces)
+}
+
+/// All codes, on this thread.
+fn recode_all(
+    alloc: Global,
+    codes: &[u32],
+    map: &[Option<u32>],
+    reach: u32,
+) -> Result<Vec<u32>, AllocError>
+    requires entries { HaveEntries map.now reach codes.now }
+    ensures { IfOk result (λ v. v.items ≡ recoded map.now codes.now) }
+{
+    recode_span(alloc, codes, map, reach, 0, codes.len())
+}
+
+/// All codes, each share on a thread of its own.
+pub fn recode_shares<R: Threads + Sync>(
+    rt: &R,
+    alloc: Global,
+    codes: &[u32],
+    map: &[Option<u32>],
+    reach: u32,
+    pieces: u32,
+) -> Result<Vec<u32>, AllocError>
+    requires count { length codes.now ≤ 2 ^ 31 }
+    requires entries { HaveEntries map.now reach codes.now }
+    requires pieces { (1 ≤ pieces) × (pieces ≤ 64) }
+    ensures { IfOk result (λ v. v.items ≡ recoded map.now codes.now) }
+{
+    let shares = thread::map_indices(
+        rt,
+        alloc,
+        pieces as usize,
+        &|k: usize| { recode_share(alloc, codes, map, reach, pieces, k) },
+    )?;
+    join_shares(alloc, codes, map, shares.as_slice())
+}
+
+/// Share `k` of the codes.
+fn recode_share(
+    alloc: Global,
+    codes: &[u32],
+    map: &[Option<u32>],
+    reach: u32,
+    pieces: u32,
+    k: usize,
+) -> Result<Vec<u32>, AllocError>
+    requires count { length codes.now ≤ 2 ^ 31 }
+    requires entries { HaveEntries map.now reach codes.now }
+    requires pieces { (1 ≤ pieces) × (pieces ≤ 64) }
+    requires within { k < pieces }
+    ensures { IfOk result (λ v. v.items ≡ recoded map.now (share_at k pieces codes.now)) }
+{
+    let rows = codes.len() as u32;
+    let from = share(rows, pieces, k as u32);
+    let to = share(rows, pieces, k as u32 + 1);
+    recode_span(alloc, codes, map, reach, from as usize, to as usize)
+}
+
+/// The codes from one place to another.
+fn recode_span(
+    alloc: Global,
+    codes: &[u32],
+    map: &[Option<u32>],
+    reach: u32,
+    from: usize,
+    to: usize,
+) -> Result<Vec<u32>, AllocError>
+    requires entries { HaveEntries map.now reach codes.now }
+    requires from { from ≤ to }
+    requires to { to ≤ length codes.now }
+    ensures { IfOk result (λ v. v.items ≡ recoded map.now (span from to codes.now)) }
+{
+    let mut out = Vec::with_capacity(alloc, to - from)?;
+    for i in from..to {
+        out.push(map[codes[i] as usize].unwrap_or(0))?;
+    }
+    Ok(out)
+}
+
+/// Lays the shares end to end.
+fn join_shares(
+    alloc: Global,
+    codes: &[u32],
+    map: &[Option<u32>],
+    shares: &[Result<Vec<u32>, AllocError>],
+) -> Result<Vec<u32>, AllocError>
+    requires some { 1 ≤ length shares.now }
+    requires shares { (k : ℕ) (d : _) → k < length shares.now → IfOk (slice_index_or shares.now k d) (λ v. v.items ≡ recoded map.now (share_at k (length shares.now) codes.now)) }
+    ensures { IfOk result (λ v. v.items ≡ recoded map.now codes.now) }
+{
+    let mut out = Vec::with_capacity(alloc, codes.len())?;
+    for share in shares {
+        match share {
+            Ok(part) => out.extend_from_slice(part.as_slice())?,
+            Err(failed) => return Err(*failed),
+        }
+    }
+    Ok(out)
+}
