@@ -6,7 +6,7 @@ use Rattle.ut_outside.specs.Faults.{Rose}
 use Rattle.ut_outside.specs.declared.ack.Ack.{Ack}
 use Rattle.ut_outside.specs.declared.ask.Ask.{Ask}
 use Rattle.ut_plain.specs.Journal.{Journal}
-use Rattle.ut_plain.specs.Plain.{opened_store}
+use Rattle.ut_plain.specs.Plain.{opened_store, no_savepoint}
 use Rattle.ut_script.specs.Lines.{Reading, NextLine, StepsLine, AsksFew, Counts}
 use Rattle.ut_script.specs.Grammar.{parsed}
 use Rattle.ut_logged.specs.Logged.{Logged}
@@ -147,7 +147,7 @@ asked : (start : Start) (before mid : World) (count : ℕ) (lines : Reading) (st
     → AsksInTime before.source before.sink before.asks (replies_of (parsed_lines g.script) g.progress.answers) now
 asked start before mid count lines store acks journal now g few =
     let p = g.progress in
-    in_time_read (opened_store [] p.first rows_limit) before.source before.sink before.asks g.script (parsed_lines g.script) p.answers (lengths_of acks) p.plain lines mid.source mid.sink mid.marks acks mid.asks now (parsed_count g.script) g.reading p.tells p.written p.in_time few
+    in_time_read (opened_store no_savepoint p.first rows_limit) before.source before.sink before.asks g.script (parsed_lines g.script) p.answers (lengths_of acks) p.plain lines mid.source mid.sink mid.marks acks mid.asks now (parsed_count g.script) g.reading p.tells p.written p.in_time few
 
 -- a line more was answered
 pub going-more : (start : Start) (before mid now : World) (count : ℕ) (lines next : Reading) (old new : Logged) (acks acks_now : List Ack) (journal journal_now : ℕ) → Going start before mid count lines old acks journal

@@ -7,7 +7,7 @@ use Rattle.ut_outside.specs.declared.ask.Ask.{Ask}
 use Rattle.ut_outside.specs.declared.faults.Failed as fails
 use Rattle.ut_plain.specs.declared.statement.Parsed.{Parsed}
 use Rattle.ut_plain.specs.Journal.{journal_len}
-use Rattle.ut_plain.specs.Plain.{Plain, opened_store}
+use Rattle.ut_plain.specs.Plain.{Plain, opened_store, no_savepoint}
 use Rattle.ut_plain.specs.Transcript.{Answer, AnswersLine, Faults}
 use Rattle.ut_script.specs.Grammar.{parsed}
 use Rattle.ut_logged.specs.Logged.{Logged}
@@ -51,7 +51,7 @@ progress-start start before now store acks journal begun none is each =
     subst (λ (ks : List Ack). Progress start before (record before { disk = now }) [] store ks journal) (sym none) (record {
       first = begun.first;
       answers = [];
-      plain = opened_store [] begun.first rows_limit;
+      plain = opened_store no_savepoint begun.first rows_limit;
       begins = begun.begins;
       tells = (refl, refl, refl);
       runs = begun.runs;
@@ -105,7 +105,7 @@ module _ (start : Start) (before was now : World) (script : List (List ℕ)) (ol
     (told : now.disk.told ≡ was.disk.told) (only : OnlyNow now.disk) (counts : CountsNow now.disk) (p : Progress start before was script old acks journal)
     (asked : AsksInTime before.source before.sink before.asks (replies_of (parsed_lines script) p.answers) now.asks) where
   first : Plain
-  first = opened_store [] p.first rows_limit
+  first = opened_store no_savepoint p.first rows_limit
 
   -- an acknowledgement now
   ack_of : ℕ → Ack
@@ -269,7 +269,7 @@ module _ (start : Start) (before was now : World) (script : List (List ℕ)) (ol
 pub progress-end : (start : Start) (before now : World) (source : Option (List ℕ)) (asks : Option (List Ask)) (reads : ℕ) (script : List (List ℕ)) (store : Logged) (acks : List Ack) (journal : ℕ) (status : Status) → (p : Progress start before now script store acks journal)
     → AsksInTime before.source before.sink before.asks (replies_of (parsed_lines script) p.answers) asks → IsWritten status before p.answers (record now { source = source; asks = asks; reads = reads }) acks → Answered start before (record now { source = source; asks = asks; reads = reads }) status script acks journal
 progress-end start before now source asks reads script store acks journal status p asked written =
-    let all : AnswersAll (opened_store [] p.first rows_limit) (parsed_lines script) p.answers (lengths_of acks) journal p.plain = record { tells = p.tells; length_is = p.length_is } in
+    let all : AnswersAll (opened_store no_savepoint p.first rows_limit) (parsed_lines script) p.answers (lengths_of acks) journal p.plain = record { tells = p.tells; length_is = p.length_is } in
     record {
       first = p.first;
       answers = p.answers;

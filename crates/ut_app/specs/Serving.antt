@@ -7,7 +7,7 @@ use Rattle.ut_outside.specs.declared.ack.Ack.{Ack}
 use Rattle.ut_pages.specs.Layout.{IsMade}
 use Rattle.ut_plain.specs.declared.statement.Parsed.{Parsed}
 use Rattle.ut_plain.specs.Journal.{Journal, journal_len}
-use Rattle.ut_plain.specs.Plain.{Plain, opened_store}
+use Rattle.ut_plain.specs.Plain.{Plain, opened_store, no_savepoint}
 use Rattle.ut_plain.specs.Transcript.{Answer, Transcript}
 use Rattle.ut_script.specs.Grammar.{parsed}
 use Rattle.ut_logged.specs.Logged.{Logged}
@@ -41,7 +41,7 @@ pub record Progress (start : Start) (before now : World) (script : List (List �
   pub answers : List Answer
   pub plain : Plain
   pub begins : IsTold before.disk → Begins start first before.disk.seen
-  pub tells : Tells (opened_store [] first rows_limit) (parsed_lines script) answers (lengths_of acks) plain
+  pub tells : Tells (opened_store no_savepoint first rows_limit) (parsed_lines script) answers (lengths_of acks) plain
   pub runs : Runs store now.disk plain
   pub written : HasWritten before.sink answers now.sink now.marks acks
   pub in_time : AsksInTime before.source before.sink before.asks (replies_of (parsed_lines script) answers) now.asks
@@ -77,10 +77,10 @@ pub record Answered (start : Start) (before after : World) (status : Status) (sc
   pub answers : List Answer
   pub plain : Plain
   pub begins : IsTold before.disk → Begins start first before.disk.seen
-  pub transcript : Transcript (opened_store [] first rows_limit) (parsed_lines script) answers plain
+  pub transcript : Transcript (opened_store no_savepoint first rows_limit) (parsed_lines script) answers plain
   -- one acknowledgement for each answer, with the length of the journal after its line, or before it where the disk failed
-  pub ended : AllAnswered (opened_store [] first rows_limit) script answers acks journal plain after.disk
-      ⊎ LastFaulted (opened_store [] first rows_limit) script answers acks journal plain before.disk after.disk status
+  pub ended : AllAnswered (opened_store no_savepoint first rows_limit) script answers acks journal plain after.disk
+      ⊎ LastFaulted (opened_store no_savepoint first rows_limit) script answers acks journal plain before.disk after.disk status
   pub written : IsWritten status before answers after acks
   -- each reply stands in the sink before the source is asked for more than its line needs
   pub in_time : AsksInTime before.source before.sink before.asks (replies_of (parsed_lines script) answers) after.asks

@@ -19,7 +19,7 @@ use Rattle.ut_restart.specs.declared.error.RestartError.{RestartError}
 use Rattle.ut_restart.specs.declared.error.RestartError.TheVariants as restart_errors
 use Rattle.ut_value.specs.declared.entry.Entry.{Entry}
 use Rattle.ut_plain.specs.State.{State}
-use Rattle.ut_plain.specs.Plain.{new_store}
+use Rattle.ut_plain.specs.Plain.{new_store, no_savepoint}
 use Rattle.ut_plain.specs.Reached.{MayOpen}
 use Rattle.ut_store.specs.Stands.{StandsFor}
 use Rattle.ut_store.specs.Standing.{journal_of, Reopened}
@@ -80,8 +80,8 @@ unmade_by true v e asked told made = cc
 unmade_by false v e asked told made = let t : IsTrue false = (asked told).1 made in cc
 
 -- a store that was made runs
-pub new_runs : (v1 v2 v3 : View) (e : Logged) (rows : ℕ) → e.down ≡ false → StandsFor e.store (new_store rows) → e.log ≡ log_start → v2.told ≡ v1.told → v3.told ≡ v2.told → (IsTold v1 → EmptyLog v1 v2) → (IsTold v2 → Always v3 (ComesFrom v2 Pages (λ _ c. c ≡ made_pages)))
-    → Runs e v3 (new_store rows)
+pub new_runs : (v1 v2 v3 : View) (e : Logged) (rows : ℕ) → e.down ≡ false → StandsFor e.store (new_store no_savepoint rows) → e.log ≡ log_start → v2.told ≡ v1.told → v3.told ≡ v2.told → (IsTold v1 → EmptyLog v1 v2) → (IsTold v2 → Always v3 (ComesFrom v2 Pages (λ _ c. c ≡ made_pages)))
+    → Runs e v3 (new_store no_savepoint rows)
 new_runs v1 v2 v3 e rows up stands is told12 told23 empty pages =
     record {
       up = up;
@@ -100,7 +100,7 @@ new_runs v1 v2 v3 e rows up stands is told12 told23 empty pages =
         let from = pages told2 c left in
         empty_reading from.0 c (empty told1 from.0 from.1).3 from.2 from.3
 
-pub is_new : (v0 v1 v2 v3 : View) (e : Logged) (rows : ℕ) → ReadsOnly v0 v1 → (IsTold v0 → IsMade v0.seen.pages → ⊥) → e.down ≡ false → StandsFor e.store (new_store rows) → e.log ≡ log_start → v2.told ≡ v1.told → v3.told ≡ v2.told → (IsTold v1 → EmptyLog v1 v2)
+pub is_new : (v0 v1 v2 v3 : View) (e : Logged) (rows : ℕ) → ReadsOnly v0 v1 → (IsTold v0 → IsMade v0.seen.pages → ⊥) → e.down ≡ false → StandsFor e.store (new_store no_savepoint rows) → e.log ≡ log_start → v2.told ≡ v1.told → v3.told ≡ v2.told → (IsTold v1 → EmptyLog v1 v2)
     → (IsTold v2 → Always v3 (ComesFrom v2 Pages (λ _ c. c ≡ made_pages))) → IsNew e rows v0 v3
 is_new v0 v1 v2 v3 e rows read unmade up stands is told12 told23 empty pages = record {
   runs = new_runs v1 v2 v3 e rows up stands is told12 told23 empty pages;
@@ -135,7 +135,7 @@ opened v0 v1 v2 v3 e entries rows r up reopened file short made holds = record {
   journal = journal_of entries;
   runs = record {
     up = up;
-    stands = reopened.stands;
+    stands = reopened.stands no_savepoint.image_pages;
     base = refl;
     held = reads;
     file = file;
