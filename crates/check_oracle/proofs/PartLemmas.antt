@@ -16,7 +16,7 @@ use Rattle.ut_plain.specs.Stages.{Stages, no_stages, stages_at, with_stages, wit
 use Rattle.ut_value.specs.declared.entry.Entry.{Entry}
 use Rattle.ut_value.specs.declared.entry.Entry.TheVariants as entries
 use Rattle.ut_plain.specs.Restart.{buried, with_dead, replayed_ops, replayed}
-use Rattle.ut_plain.specs.Plain.{Plain, open_at, opened_store}
+use Rattle.ut_plain.specs.Plain.{Plain, no_savepoint, open_at, opened_store}
 use Rattle.ut_plain.specs.View.{view}
 use Rattle.ut_plain.specs.Made.{made}
 use Rattle.ut_plain.specs.Refusals.{is_supported, refusal}
@@ -68,11 +68,11 @@ parts-effect p session Abort k h = h
 parts-effect p session (MergeL1 name n) k h = let table = place_in (current p.journal).tables name in list_all_set has_no_part p.stages table (moved n (stages_at p.stages table)) h (parts_at p.stages table h)
 parts-effect p session (statements.MergeBegin name kind) k h = cc
 parts-effect p session statements.MergeEnd k h = cc
-parts-effect p session statements.SaveBegin k h = h
-parts-effect p session (statements.SaveStep n) k h = h
-parts-effect p session statements.SaveSeal k h = h
-parts-effect p session statements.SaveFlip k h = h
-parts-effect p session statements.SaveDrop k h = h
+parts-effect p session statements.SaveBegin k h = cc
+parts-effect p session (statements.SaveStep n) k h = cc
+parts-effect p session statements.SaveSeal k h = cc
+parts-effect p session statements.SaveFlip k h = cc
+parts-effect p session statements.SaveDrop k h = cc
 parts-effect p session (statements.Shape name) k h = h
 
 parts-step_by : (o : Option Refusal) (p : Plain) (session : ℕ) (st : Statement) → refusal (view p session) st ≡ o → IsTrue (have_no_part p.stages) → IsTrue (have_no_part (step_by o p session st).plain.stages)
@@ -108,8 +108,8 @@ parts-replayed stages (entries.Txn os ∷ es) h = parts-replayed (replayed_ops s
 parts-replayed stages (entries.Begun n table kind ∷ es) h = parts-replayed stages es h
 parts-replayed stages (entries.Ended n ∷ es) h = parts-replayed stages es h
 
-pub held_opened : (old new : Held) (limit : ℕ) → OpenedStoreIsPlain → IsHeld old → limit ≤ 2147483648 → plain_of new ≡ opened_store [] (plain_of old).journal limit → IsHeld new
+pub held_opened : (old new : Held) (limit : ℕ) → OpenedStoreIsPlain → IsHeld old → limit ≤ 2147483648 → plain_of new ≡ opened_store no_savepoint (plain_of old).journal limit → IsHeld new
 held_opened old new limit law h few e = record {
-  plain = subst IsPlain (sym e) (law [] (plain_of old).journal limit (record { base = h.plain.base; journal = h.plain.journal; short = h.plain.short; load = load_few (plain_of old) h.plain; staged = refl; places = omega arith; mains = λ n. record { parts = omega arith; few = omega arith }; rest = λ n. record { closed = refl; keep = refl } }) few);
+  plain = subst IsPlain (sym e) (law no_savepoint (plain_of old).journal limit (record { base = h.plain.base; journal = h.plain.journal; short = h.plain.short; load = load_few (plain_of old) h.plain; staged = refl; places = omega arith; mains = λ n. record { parts = omega arith; few = omega arith }; rest = λ n. record { closed = refl; keep = refl } }) few);
   parts = subst (λ (p : Plain). IsTrue (have_no_part p.stages)) (sym e) (parts-replayed [] old.entries.items refl);
 }

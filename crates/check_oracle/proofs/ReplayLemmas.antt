@@ -13,7 +13,7 @@ use Rattle.ut_plain.specs.State.{State, empty_state, after, entry_inserts}
 use Rattle.ut_plain.specs.Journal.{Journal, after_all, current, load_of}
 use Rattle.ut_plain.specs.Stages.{Stages, with_stages, entered, placed}
 use Rattle.ut_plain.specs.Restart.{with_dead, replayed_ops, replayed_entry, replayed}
-use Rattle.ut_plain.specs.Plain.{Plain, Sessions, Idle, no_sessions, opened_store}
+use Rattle.ut_plain.specs.Plain.{no_savepoint, Plain, Sessions, Idle, no_sessions, opened_store}
 use Rattle.ut_plain.specs.Reached.{IsPlain}
 use Rattle.check_oracle.specs.Known.{entry_next}
 
@@ -42,14 +42,14 @@ next-after_all s [] e = next-after s e
 next-after_all s (x ∷ es) e = next-after_all (after s x) es e
 
 pub opened_is : (copy es : List Entry) (opening next load limit : ℕ) (sessions : Sessions) (stages : Stages) → copy ≡ es → opening ≡ length es → sessions ≡ no_sessions → next ≡ max (after_all empty_state es).next (load + 1) → load ≡ sum_by entry_inserts es → stages ≡ replayed [] es
-    → record { journal = record { base = empty_state; entries = copy }; opening = opening; sessions = sessions; next_id = next; rows_limit = limit; pending = None; phase = Idle; root_pages = 0; stages = stages } ≡ opened_store [] (record { base = empty_state; entries = es }) limit
+    → record { journal = record { base = empty_state; entries = copy }; opening = opening; sessions = sessions; next_id = next; rows_limit = limit; pending = None; phase = Idle; image_pages = no_savepoint.image_pages; root_pages = 0; stages = stages } ≡ opened_store no_savepoint (record { base = empty_state; entries = es }) limit
 opened_is copy es opening next load limit sessions stages c o s n l t =
     let j : Journal = record { base = empty_state; entries = es } in
     let none = finmap.len-empty nat_cmp Stored in
     let first : opening ≡ 0 + length es = omega (arith, o) in
     let whole : load ≡ finmap.len empty_state.rows + sum_by entry_inserts es = omega (arith, l, none) in
     let given : next ≡ max (current j).next (load_of j + 1) = n ∙ ap (λ x. max (after_all empty_state es).next (x + 1)) whole in
-    λ i. record (opened_store [] j limit) { journal = record { base = empty_state; entries = c i }; opening = first i; sessions = s i; next_id = given i; stages = t i }
+    λ i. record (opened_store no_savepoint j limit) { journal = record { base = empty_state; entries = c i }; opening = first i; sessions = s i; next_id = given i; stages = t i }
 
 pub load_few : (p : Plain) → IsPlain p → load_of p.journal ≤ 2147483648
 load_few p h = let load = h.load in let last = h.last in omega (arith, load, last)

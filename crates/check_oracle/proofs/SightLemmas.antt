@@ -16,7 +16,7 @@ use Rattle.ut_plain.specs.Rows.{Rows, with_ops, op_inserts, inserts_of}
 use Rattle.ut_plain.specs.State.{State, empty_state, after, entry_inserts}
 use Rattle.ut_plain.specs.Journal.{Journal, after_all, load_of, empty_journal}
 use Rattle.ut_plain.specs.Stages.{Stages}
-use Rattle.ut_plain.specs.Plain.{Plain, Sessions, Idle, new_store, no_sessions, open_at, open_inserts, inserts_open, seen_by, seen}
+use Rattle.ut_plain.specs.Plain.{no_savepoint, Plain, Sessions, Idle, new_store, no_sessions, open_at, open_inserts, inserts_open, seen_by, seen}
 use Rattle.ut_plain.specs.Reached.{IsPlain}
 use Rattle.check_oracle.specs.declared.known.Known.{Known}
 use Rattle.check_oracle.specs.declared.held.Held.{Held}
@@ -32,8 +32,8 @@ first_id : 1 ≡ max 1 (load_of empty_journal + 1)
 first_id = omega (arith, finmap.len-empty nat_cmp Stored)
 
 pub plain_new : (es : List Entry) (sessions : Sessions) (limit : ℕ) (stages : Stages) → es ≡ [] → sessions ≡ no_sessions → stages ≡ []
-    → record { journal = record { base = empty_state; entries = es }; opening = 0; sessions = sessions; next_id = 1; rows_limit = limit; pending = None; phase = Idle; root_pages = 0; stages = stages } ≡ new_store limit
-plain_new es sessions limit stages e s t = λ i. record (new_store limit) { journal = record { base = empty_state; entries = e i }; sessions = s i; next_id = first_id i; stages = t i }
+    → record { journal = record { base = empty_state; entries = es }; opening = 0; sessions = sessions; next_id = 1; rows_limit = limit; pending = None; phase = Idle; image_pages = no_savepoint.image_pages; root_pages = 0; stages = stages } ≡ new_store no_savepoint limit
+plain_new es sessions limit stages e s t = λ i. record (new_store no_savepoint limit) { journal = record { base = empty_state; entries = e i }; sessions = s i; next_id = first_id i; stages = t i }
 
 -- ---- how many rows there are
 

@@ -1,24 +1,26 @@
 -- What a step is, by the refusals that come early and those that come late.
-use Rattle.std.proofs.Common.{◌≡◌, ℕ, Bool, true, false, List, Option, None, Some, refl, sym, ap, ◌∙◌}
+use Rattle.std.proofs.Common.{◌≡◌, ℕ, Bool, true, false, List, [], ◌∷◌, length, Option, None, Some, refl, sym, ap, ◌∙◌, subst, arith, nat_lt}
 use Rattle.std.specs.Option.{option_map, is_some}
 use Rattle.ut_value.specs.declared.value.Value.{Value}
 use Rattle.ut_value.specs.declared.entry.Op.{Op}
 use Rattle.ut_plain.specs.declared.statement.Pred.{Pred}
 use Rattle.ut_plain.specs.declared.statement.Statement.{Statement}
 use Rattle.ut_plain.specs.declared.statement.Statement.TheVariants as statements
-use Rattle.ut_plain.specs.declared.statement.Statement.TheVariants.{Insert, Bulk, Update, Delete}
+use Rattle.ut_plain.specs.declared.statement.Statement.TheVariants.{Insert, Bulk, Update, Delete, Commit}
 use Rattle.ut_plain.specs.declared.stage.PendingMerge.{PendingMerge}
 use Rattle.ut_plain.specs.declared.reply.Reply.{Reply}
 use Rattle.ut_plain.specs.declared.reply.Refusal.{Refusal}
 use Rattle.ut_plain.specs.declared.reply.Refusal.TheVariants as refusals
 use Rattle.ut_plain.specs.Journal.{current}
-use Rattle.ut_plain.specs.Plain.{Plain, open_at}
-use Rattle.ut_plain.specs.View.{View, view}
+use Rattle.ut_plain.specs.Plain.{Plain, Phase, Idle, Writing, Sealed, open_at}
+use Rattle.ut_plain.specs.View.{View, view, own_ops}
+use Rattle.ut_plain.specs.Limits.{has_commit_room}
+use Rattle.ut_plain.specs.declared.transaction.OpenTransaction.{OpenTransaction}
 use Rattle.ut_plain.specs.Made.{made, changes}
 use Rattle.ut_plain.specs.Names.{names_known}
 use Rattle.ut_plain.specs.Kinds.{kinds_fit}
-use Rattle.ut_plain.specs.Refusals.{is_supported, state_why, merge_why, unless, or_else, conflict, refusal}
-use Rattle.ut_plain.specs.Step.{Stepped, step, step_by, effect_of}
+use Rattle.ut_plain.specs.Refusals.{is_supported, state_why, merge_why, save_why, unless, or_else, conflict, refusal}
+use Rattle.ut_plain.specs.Step.{Stepped, step, step_by, effect_of, committed, committed_by}
 use Rattle.check_oracle.specs.declared.known.Known.{Known}
 use Rattle.check_oracle.specs.Store.{Gives, Allowed, early, late, refuses, change_by, change_step}
 
@@ -28,18 +30,39 @@ or_else_else : (a b c : Option Refusal) → or_else a (or_else b c) ≡ or_else 
 or_else_else None b c = refl
 or_else_else (Some why) b c = refl
 
+-- a statement that is there asks neither whether a merge is pending
 no_merge : (pending : Option PendingMerge) (st : Statement) → is_supported st ≡ true → merge_why pending st ≡ None
 no_merge None statements.MergeEnd h = cc
 no_merge None _ h = refl
 no_merge (Some m) (statements.MergeBegin name kind) h = cc
 no_merge (Some m) _ h = refl
 
-without_merge : (pending : Option PendingMerge) (st : Statement) (a b c late : Option Refusal) → or_else (unless (is_supported st) refusals.Syntax) (or_else a (or_else b (or_else c (or_else (option_map refusals.State (merge_why pending st)) late))))
+-- nor how far a savepoint is
+no_save : (phase : Phase) (st : Statement) → is_supported st ≡ true → save_why phase st ≡ None
+no_save Idle (statements.SaveStep n) h = cc
+no_save Idle statements.SaveSeal h = cc
+no_save Idle statements.SaveFlip h = cc
+no_save Idle statements.SaveDrop h = cc
+no_save Idle _ h = refl
+no_save (Writing captured done pages image) statements.SaveBegin h = cc
+no_save (Writing captured done pages image) (statements.SaveStep n) h = cc
+no_save (Writing captured done pages image) statements.SaveSeal h = cc
+no_save (Writing captured done pages image) statements.SaveFlip h = cc
+no_save (Writing captured done pages image) _ h = refl
+no_save (Sealed captured pages image) statements.SaveBegin h = cc
+no_save (Sealed captured pages image) (statements.SaveStep n) h = cc
+no_save (Sealed captured pages image) statements.SaveSeal h = cc
+no_save (Sealed captured pages image) _ h = refl
+
+without_jobs : (pending : Option PendingMerge) (phase : Phase) (st : Statement) (a b c late : Option Refusal)
+    → or_else (unless (is_supported st) refusals.Syntax) (or_else a (or_else b (or_else c (or_else (option_map refusals.State (merge_why pending st)) (or_else (option_map refusals.State (save_why phase st)) late)))))
     ≡ or_else (unless (is_supported st) refusals.Syntax) (or_else a (or_else b (or_else c late)))
-without_merge pending st a b c late = by (is_supported st) refl
+without_jobs pending phase st a b c late = by (is_supported st) refl
   where
-    by : (t : Bool) → is_supported st ≡ t → or_else (unless t refusals.Syntax) (or_else a (or_else b (or_else c (or_else (option_map refusals.State (merge_why pending st)) late)))) ≡ or_else (unless t refusals.Syntax) (or_else a (or_else b (or_else c late)))
-    by true is = ap (λ w. or_else a (or_else b (or_else c (or_else (option_map refusals.State w) late)))) (no_merge pending st is)
+    by : (t : Bool) → is_supported st ≡ t
+        → or_else (unless t refusals.Syntax) (or_else a (or_else b (or_else c (or_else (option_map refusals.State (merge_why pending st)) (or_else (option_map refusals.State (save_why phase st)) late)))))
+        ≡ or_else (unless t refusals.Syntax) (or_else a (or_else b (or_else c late)))
+    by true is = λ i. or_else a (or_else b (or_else c (or_else (option_map refusals.State (no_merge pending st is i)) (or_else (option_map refusals.State (no_save phase st is i)) late))))
     by false is = refl
 
 refusal_parts : (v : View) (st : Statement) → refusal v st ≡ or_else (early v.tables (is_some v.own) st) (late v st)
@@ -48,7 +71,7 @@ refusal_parts v st =
     let b = unless (names_known v.tables st) refusals.Name in
     let c = unless (kinds_fit v.tables st) refusals.Kind in
     let d = option_map refusals.State (state_why (is_some v.own) st) in
-    without_merge v.pending st b c d (late v st)
+    without_jobs v.pending v.phase st b c d (late v st)
     ∙ ap (λ x. or_else a (or_else b x)) (or_else_else c d (late v st)) ∙ ap (or_else a) (or_else_else b (or_else c d) (late v st)) ∙ or_else_else a (or_else b (or_else c d)) (late v st)
 
 -- a statement that an early refusal meets
@@ -106,3 +129,20 @@ delete_makes p session name preds = record { does = deleted_by (late (view p ses
 
 pub gives_change : (p : Plain) (sight : Known) (session : ℕ) (st : Statement) (bulk : Bool) (os : List Op) (rows : ℕ) (taken : Option ℕ) (reply : Reply) (q : Plain) → Allowed p sight session st → Makes p session st bulk os rows taken → Gives (change_step p session bulk os rows taken) reply q → Gives (step p session st) reply q
 gives_change p sight session st bulk os rows taken reply q h m g = gives_by p session st (change_step p session bulk os rows taken) reply q (late_step p sight session st h ∙ m.does) g
+
+-- ---- a transaction is committed
+
+-- there is room for an entry, or nothing to commit
+pub commit_room : (v : View) (os : List Op) (entries : ℕ) → v.entries ≡ entries → nat_lt entries 1073741823 ≡ true → has_commit_room v os ≡ true
+commit_room v [] entries is room = refl
+commit_room v (op ∷ os) entries is room = ap (λ n. nat_lt n 1073741823) is ∙ room
+
+pub commit_nothing : (v : View) (os : List Op) → length os ≡ 0 → has_commit_room v os ≡ true
+commit_nothing v [] none = refl
+commit_nothing v (op ∷ os) none = absurd (omega (arith, none))
+
+pub gives_commit : (p : Plain) (sight : Known) (session : ℕ) (own : OpenTransaction) (reply : Reply) (q : Plain) → Allowed p sight session Commit → open_at p.sessions session ≡ Some own → has_commit_room (view p session) own.ops ≡ true
+    → Gives (committed_by p session own.ops) reply q → Gives (step p session Commit) reply q
+gives_commit p sight session own reply q h is room g =
+    gives_effect p sight session Commit reply q h (ap (λ b. or_else (unless b refusals.Full) None) (ap (has_commit_room (view p session)) (ap own_ops is) ∙ room))
+    (subst (λ o. Gives (committed p session o) reply q) (sym is) g)

@@ -4,6 +4,7 @@ use Rattle.std.specs.Option.{option_map}
 use Rattle.std.specs.List.{list_all}
 use Rattle.std.specs.FinMap as finmap
 use Rattle.ut_value.specs.declared.entry.Op.{Op}
+use Rattle.ut_value.specs.declared.entry.Entry.{Entry}
 use Rattle.ut_plain.specs.declared.table.Table.{Table}
 use Rattle.ut_plain.specs.declared.stage.TableStages.{TableStages}
 use Rattle.ut_plain.specs.declared.statement.Statement.{Statement}
@@ -15,7 +16,7 @@ use Rattle.ut_plain.specs.Rows.{inserts_of}
 use Rattle.ut_plain.specs.State.{empty_state}
 use Rattle.ut_plain.specs.Journal.{current}
 use Rattle.ut_plain.specs.Stages.{Stages, with_inserts}
-use Rattle.ut_plain.specs.Plain.{Plain, Idle, open_at, seen}
+use Rattle.ut_plain.specs.Plain.{Plain, Sessions, Idle, no_savepoint, open_at, seen}
 use Rattle.ut_plain.specs.View.{View, view}
 use Rattle.ut_plain.specs.Names.{names_known}
 use Rattle.ut_plain.specs.Kinds.{kinds_fit}
@@ -26,19 +27,35 @@ use Rattle.ut_plain.specs.Step.{Stepped, with_made, said_changed}
 use Rattle.check_oracle.specs.declared.known.Known.{Known}
 use Rattle.check_oracle.specs.declared.held.Held.{Held}
 
--- the plain state of what is held: a journal that begins with nothing
-abbrev pub plain_of : Held → Plain
-plain_of h = record {
-  journal = record { base = empty_state; entries = h.entries.items };
-  opening = h.opening;
-  sessions = h.sessions.items;
-  next_id = h.next_id;
-  rows_limit = h.rows_limit;
+-- what the store keeps, as lists
+pub record Kept : Type 0 where
+  pub entries : List Entry
+  pub opening : ℕ
+  pub sessions : Sessions
+  pub next_id : ℕ
+  pub rows_limit : ℕ
+  pub stages : Stages
+
+abbrev pub kept_of : Held → Kept
+kept_of h = record { entries = h.entries.items; opening = h.opening; sessions = h.sessions.items; next_id = h.next_id; rows_limit = h.rows_limit; stages = h.stages.items }
+
+-- its plain state: a journal that begins with nothing, no merge, and no savepoints
+abbrev pub plain_with : Kept → Plain
+plain_with k = record {
+  journal = record { base = empty_state; entries = k.entries };
+  opening = k.opening;
+  sessions = k.sessions;
+  next_id = k.next_id;
+  rows_limit = k.rows_limit;
   pending = None;
   phase = Idle;
+  image_pages = no_savepoint.image_pages;
   root_pages = 0;
-  stages = h.stages.items;
+  stages = k.stages;
 }
+
+abbrev pub plain_of : Held → Plain
+plain_of h = plain_with (kept_of h)
 
 -- no table has a part of main
 abbrev pub has_no_part : TableStages → Bool

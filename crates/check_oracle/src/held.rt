@@ -1,6 +1,6 @@
 //! What the store holds: the entries of its journal, the open transactions, and where rows stand.
 ghost use Rattle.std.specs.Prelude.{◌≡◌, ◌<◌, length, slice_set, IfOk};
-ghost use Rattle.ut_plain.specs.Plain.{new_store, no_sessions, open_at, with_entry, with_session};
+ghost use Rattle.ut_plain.specs.Plain.{new_store, no_savepoint, no_sessions, open_at, with_entry, with_session};
 ghost use Rattle.check_oracle.specs.Store.{plain_of};
 
 use crate::stages::stages_copied;
@@ -25,7 +25,7 @@ pub struct Held {
 impl Held {
     /// What a store that was just made holds.
     pub fn new(alloc: Global, rows_limit: u32) -> Result<Held, AllocError>
-        ensures { IfOk result (λ held. plain_of held ≡ new_store rows_limit) }
+        ensures { IfOk result (λ held. plain_of held ≡ new_store no_savepoint rows_limit) }
     {
         let sessions = nobody(alloc)?;
         Ok(Held {

@@ -1,9 +1,9 @@
 //! The store as its sessions know it.
 ghost use Rattle.std.specs.Prelude.{◌≡◌, ◌≤◌, ◌<◌, [], IsTrue, IfOk, OnErr};
-ghost use Rattle.ut_plain.specs.Plain.{new_store, opened_store};
+ghost use Rattle.ut_plain.specs.Plain.{new_store, no_savepoint, opened_store};
 ghost use Rattle.ut_plain.specs.Spelled.{is_spelled};
 ghost use Rattle.ut_plain.specs.Step.{step};
-ghost use Rattle.check_oracle.specs.Store.{Gives};
+ghost use Rattle.check_oracle.specs.Store.{plain_with, Gives};
 
 use crate::held::Held;
 use crate::outcome::Outcome;
@@ -20,19 +20,13 @@ pub struct Oracle {
 }
 
 impl Model for Oracle {
-    ghost use Rattle.ut_plain.specs.Plain.{Plain};
+    ghost use Rattle.check_oracle.specs.Store.{Kept};
 
-    ghost Value = { Plain };
+    ghost Value = { Kept };
 
-    ghost use Rattle.std.specs.Coded.{codes};
-    ghost use Rattle.std.specs.FinMap as finmap;
-    ghost use Rattle.ut_plain.specs.contracts.table.Stored as stored;
+    ghost use Rattle.check_oracle.specs.Store.{kept_of, IsHeld};
 
-    ghost coded = { Prim.hlevel (codes, finmap.code, stored.the_row.coded) };
-
-    ghost use Rattle.check_oracle.specs.Store.{plain_of, IsHeld};
-
-    ghost view = { λ o. plain_of o.held };
+    ghost view = { λ o. kept_of o.held };
 
     ghost invariant = { λ o. IsHeld o.held };
 }
@@ -41,7 +35,7 @@ impl Oracle {
     /// A store that was just made, with the greatest id that a row may get.
     pub fn new(alloc: Global, rows_limit: u32) -> Result<Oracle, AllocError>
         requires { rows_limit ≤ 2147483648 }
-        ensures { IfOk result (λ oracle. oracle ≡ new_store rows_limit) }
+        ensures { IfOk result (λ oracle. plain_with oracle ≡ new_store no_savepoint rows_limit) }
     {
         plain_laws();
         let held = Held::new(alloc, rows_limit)?;
@@ -51,7 +45,7 @@ impl Oracle {
     /// The store that is opened with this one's journal, its open transactions forgotten.
     pub fn reopened(&self, alloc: Global, rows_limit: u32) -> Result<Oracle, AllocError>
         requires { rows_limit ≤ 2147483648 }
-        ensures { IfOk result (λ oracle. oracle ≡ opened_store [] self.now.journal rows_limit) }
+        ensures { IfOk result (λ oracle. plain_with oracle ≡ opened_store no_savepoint (plain_with self.now).journal rows_limit) }
     {
         plain_laws();
         let held = reopened(alloc, &self.held, rows_limit)?;
@@ -67,7 +61,7 @@ impl Oracle {
     ) -> Result<Reply, AllocError>
         requires seat { session < 17 }
         requires spelled { IsTrue (is_spelled st.now) }
-        ensures steps { IfOk result (λ reply. Gives (step self.old session st.now) reply self.new) }
+        ensures steps { IfOk result (λ reply. Gives (step (plain_with self.old) session st.now) reply (plain_with self.new)) }
         ensures stays { OnErr result (self.new ≡ self.old) }
     {
         plain_laws();

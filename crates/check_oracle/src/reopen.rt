@@ -4,7 +4,7 @@ ghost use Rattle.std.specs.List.{sum_by};
 ghost use Rattle.ut_plain.specs.Rows.{next_after};
 ghost use Rattle.ut_plain.specs.State.{empty_state, entry_inserts};
 ghost use Rattle.ut_plain.specs.Journal.{after_all};
-ghost use Rattle.ut_plain.specs.Plain.{opened_store};
+ghost use Rattle.ut_plain.specs.Plain.{no_savepoint, opened_store};
 ghost use Rattle.ut_plain.specs.Reached.{IsPlain};
 ghost use Rattle.check_oracle.specs.Known.{entry_next};
 ghost use Rattle.check_oracle.specs.Store.{plain_of};
@@ -18,7 +18,7 @@ use ut_value::{Entry, Op};
 /// What is held once these entries are opened again.
 pub fn reopened(alloc: Global, held: &Held, rows_limit: u32) -> Result<Held, AllocError>
     requires { IsPlain (plain_of held.now) }
-    ensures { IfOk result (λ next. plain_of next ≡ opened_store [] (plain_of held.now).journal rows_limit) }
+    ensures { IfOk result (λ next. plain_of next ≡ opened_store no_savepoint (plain_of held.now).journal rows_limit) }
 {
     let entries = entries_copied(alloc, held.entries.as_slice())?;
     let stages = replayed(alloc, held.entries.as_slice())?;

@@ -75,7 +75,12 @@ fn open_failing(
     made: &MemDisk,
     call: u64,
 ) -> Result<(Ran, MemDisk), AllocError> {
-    let mut disk = MemDisk::of(alloc, made.bytes(Which::Redo), &[], made.bytes(Which::Pages))?;
+    let mut disk = MemDisk::of(
+        alloc,
+        made.bytes(Which::Redo),
+        &[],
+        made.bytes(Which::Pages),
+    )?;
     disk.fail_at(call)?;
     let ran = run_on(rt, alloc, RUN, b"1 count T\n1 create Z k:int\n", &mut disk)?;
     Ok((ran, disk))

@@ -1,13 +1,13 @@
 //! The worked rows of `check_scripts`, and its scripts, answered by the program.
 use crate::run::{RUN, RUN_NEW, run_on};
+use check_oracle::Oracle;
+use check_scripts::rows::{self, Row};
+use check_scripts::{Answers, LINES, answer_rows, refusal_rows, script_line, stage_rows};
 use std::alloc::{AllocError, Global};
 use std::process::Abort;
 use std::test::Fail;
 use std::thread::Threads;
 use ut_app::Status;
-use check_scripts::rows::{self, Row};
-use check_scripts::{Answers, LINES, answer_rows, refusal_rows, script_line, stage_rows};
-use check_oracle::Oracle;
 use ut_outside::MemDisk;
 
 /// Ids enough for any script.

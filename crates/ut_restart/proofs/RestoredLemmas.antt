@@ -10,7 +10,8 @@ use Rattle.ut_plain.specs.declared.table.Stored.{Stored}
 use Rattle.ut_plain.specs.declared.transaction.OpenTransaction.{OpenTransaction}
 use Rattle.ut_plain.specs.State.{State}
 use Rattle.ut_plain.specs.Journal.{Journal, journal_len, current, load_of}
-use Rattle.ut_plain.specs.Plain.{opened_store, no_sessions, open_at}
+use Rattle.ut_plain.specs.Capture.{Directory}
+use Rattle.ut_plain.specs.Plain.{no_image, opened_store, no_sessions, open_at}
 use Rattle.ut_plain.specs.Reached.{MayOpen, IsPlain}
 use Rattle.ut_plain.proofs.JournalLaws.{state_at-last, deleted_after-last}
 use Rattle.ut_plain.proofs.StateLaws.{IsState-empty, IsState-current}
@@ -137,8 +138,8 @@ module _ (es : List Entry) (limit : ℕ) (r : Replay) (e : Held) (few : length e
     rest = λ n. record { closed = refl; keep = refl };
   }
 
-  plain : IsPlain (opened_store [] (journal_of es) limit)
-  plain = IsPlain-opened [] (journal_of es) limit may small
+  plain : (image_pages : Directory → ℕ) → IsPlain (opened_store (no_image image_pages) (journal_of es) limit)
+  plain image_pages = IsPlain-opened (no_image image_pages) (journal_of es) limit may small
 
   next_is : max r.slots.next (length r.slots.list.items + 1) ≡ max (current (journal_of es)).next (load_of (journal_of es) + 1)
   next_is = omega (arith, read.agrees.next, read.load, finmap.len-empty nat_cmp Stored)
@@ -160,12 +161,12 @@ module _ (es : List Entry) (limit : ℕ) (r : Replay) (e : Held) (few : length e
   abbrev held : ℕ → Option Stamped
   held id = option_map before_all (finmap.get (current (journal_of es)).rows id)
 
-  rows : AreRows e (opened_store [] (journal_of es) limit)
-  rows = record {
+  rows : (image_pages : Directory → ℕ) → AreRows e (opened_store (no_image image_pages) (journal_of es) limit)
+  rows image_pages = record {
     held = λ id. option_map before_all (finmap.get (current (journal_of es)).rows id);
     places = subst (λ staged. AreHeld (place_at staged) (IsGone e.fates no_sessions) (λ id. option_map before_all (finmap.get (current (journal_of es)).rows id))) (sym built.is.has_rows)
         (AreHeld-sound r.tables.items r.slots.list.items (place_in r.slots.places) read.sound.slots (IsGone e.fates no_sessions) below (finmap.get (current (journal_of es)).rows) read.agrees.rows.row);
-    dropped = record { each = λ n g i place at flag. nothing_kept (stages_at (opened_store [] (journal_of es) limit).stages n) g i (plain.merges n).keep flag };
+    dropped = record { each = λ n g i place at flag. nothing_kept (stages_at (opened_store (no_image image_pages) (journal_of es) limit).stages n) g i ((plain image_pages).merges n).keep flag };
     free = subst (AreFree (λ id. option_map before_all (finmap.get (current (journal_of es)).rows id))) (sym (built.is.has_next ∙ next_is)) free;
     exact = subst (λ fs. IsExact fs (λ id. option_map before_all (finmap.get (current (journal_of es)).rows id)) (journal_of es) (journal_len (journal_of es))) (sym fates_are) (exact (journal_of es));
     transactions = subst (λ fs. AreOpen fs (λ id. option_map before_all (finmap.get (current (journal_of es)).rows id)) no_sessions (number_at e.seats) (journal_of es) (journal_len (journal_of es))) (sym fates_are)
@@ -179,8 +180,8 @@ module _ (es : List Entry) (limit : ℕ) (r : Replay) (e : Held) (few : length e
   pub reopened : Reopened es limit e
   reopened = record {
     may = may;
-    stands = record {
-      plain = plain;
+    stands = λ image_pages. record {
+      plain = plain image_pages;
       counts = record {
         tables = built.is.has_tables ∙ read.agrees.tables;
         commits = built.is.has_commits ∙ read.agrees.commits;
@@ -189,6 +190,6 @@ module _ (es : List Entry) (limit : ℕ) (r : Replay) (e : Held) (few : length e
         rows_limit = built.is.has_limit;
       };
       seats = seats-empty e.seats built.is.seats;
-      rows = rows;
+      rows = rows image_pages;
     };
   }

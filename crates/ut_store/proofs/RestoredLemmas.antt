@@ -7,7 +7,8 @@ use Rattle.ut_value.specs.Spelling.{spelling}
 use Rattle.ut_plain.specs.declared.table.Table.{Table}
 use Rattle.ut_plain.specs.declared.table.Stored.{Stored}
 use Rattle.ut_plain.specs.Journal.{empty_journal, load_of}
-use Rattle.ut_plain.specs.Plain.{no_sessions, open_at, new_store}
+use Rattle.ut_plain.specs.Capture.{Directory}
+use Rattle.ut_plain.specs.Plain.{no_image, no_sessions, open_at, new_store}
 use Rattle.ut_plain.specs.View.{own_ops}
 use Rattle.ut_plain.proofs.OpenedLaws.{IsPlain-new}
 use Rattle.ut_scan.specs.declared.place.Place.{Place}
@@ -58,9 +59,9 @@ nothing_kept h = cc
 first_id : max 1 (load_of empty_journal + 1) ≡ 1
 first_id = ap (λ n. max 1 (n + 0 + 1)) (finmap.len-empty nat_cmp Stored)
 
-pub restored_new : (e : Held) (limit : ℕ) → limit ≤ 2147483648 → Restored [] [] 1 limit 0 0 e → StandsFor e (new_store limit)
-restored_new e limit small r = record {
-  plain = IsPlain-new limit small;
+pub restored_new : (e : Held) (image_pages : Directory → ℕ) (limit : ℕ) → limit ≤ 2147483648 → Restored [] [] 1 limit 0 0 e → StandsFor e (new_store (no_image image_pages) limit)
+restored_new e image_pages limit small r = record {
+  plain = IsPlain-new image_pages limit small;
   counts = record { tables = r.has_tables; commits = r.has_commits; entries = r.has_entries; next_id = r.has_next ∙ sym first_id; rows_limit = r.has_limit };
   seats = seats_of_nobody e r.seats;
   rows = record {

@@ -6,7 +6,8 @@ use Rattle.ut_plain.specs.declared.statement.Statement.{Statement}
 use Rattle.ut_plain.specs.declared.statement.Statement.TheVariants as statements
 use Rattle.ut_plain.specs.State.{empty_state}
 use Rattle.ut_plain.specs.Journal.{Journal}
-use Rattle.ut_plain.specs.Plain.{Plain, opened_store}
+use Rattle.ut_plain.specs.Capture.{Directory}
+use Rattle.ut_plain.specs.Plain.{Plain, no_image, opened_store}
 use Rattle.ut_plain.specs.Reached.{MayOpen}
 use Rattle.ut_stamps.specs.declared.fates.Fate.TheVariants.{Committed, Aborted}
 use Rattle.ut_table.specs.Staged.{Staged}
@@ -60,7 +61,8 @@ pub record Restored (tables : List Table) (staged : List Staged) (next_id rows_l
 abbrev pub journal_of : List Entry → Journal
 journal_of entries = record { base = empty_state; entries = entries }
 
--- The entries are a journal of a store, which was opened with it.
+-- The entries are a journal of a store, which was opened with it and no image.
 pub record Reopened (entries : List Entry) (rows_limit : ℕ) (e : Held) : Type 0 where
   pub may : MayOpen [] (journal_of entries)
-  pub stands : StandsFor e (opened_store [] (journal_of entries) rows_limit)
+  -- however many pages an image takes
+  pub stands : (image_pages : Directory → ℕ) → StandsFor e (opened_store (no_image image_pages) (journal_of entries) rows_limit)

@@ -1,6 +1,7 @@
 //! The store: its tables, their rows in stages, the transactions and what became of each.
 ghost use Rattle.std.specs.Prelude.{◌≡◌, ◌<◌, ◌≤◌, ◌^◌, ℕ, List, length, map, IsTrue, IfOk, OnOk};
-ghost use Rattle.ut_plain.specs.Plain.{new_store};
+ghost use Rattle.ut_plain.specs.Capture.{Directory};
+ghost use Rattle.ut_plain.specs.Plain.{new_store, no_image};
 ghost use Rattle.ut_store.specs.Stands.{StandsFor};
 ghost use Rattle.ut_store.specs.Standing.{Restored};
 
@@ -54,7 +55,7 @@ impl Store {
     /// A store without tables, which gives at most so many ids.
     pub fn new(alloc: Global, rows_limit: u32) -> Result<Store, AllocError>
         requires { rows_limit ≤ 2 ^ 31 }
-        ensures { IfOk result (λ s. StandsFor s (new_store rows_limit)) }
+        ensures { IfOk result (λ s. (image_pages : Directory → ℕ) → StandsFor s (new_store (no_image image_pages) rows_limit)) }
     {
         Store::restored(
             alloc,
