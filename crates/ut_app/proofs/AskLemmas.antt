@@ -17,16 +17,16 @@ use Rattle.ut_app.specs.Asking.{replies_of, joined, IsInTime, AskedInTime, AsksI
 
 -- ---- the replies to lines
 
+one_reply : (line : Parsed) (here : List Answer) (a : Answer) (lines : List Parsed) (rest : List Answer) → here ≡ a ∷ [] → ((x : Answer) → replies_of (line ∷ lines) (x ∷ rest) ≡ answer_text x ∷ replies_of lines rest) → replies_of (line ∷ lines) (here ++ rest) ≡ texts_of here ∷ replies_of lines rest
+one_reply line here a lines rest is each =
+    subst (λ (xs : List Answer). replies_of (line ∷ lines) (xs ++ rest) ≡ texts_of xs ∷ replies_of lines rest) (sym is) (each a ∙ ap (λ (t : List ℕ). t ∷ replies_of lines rest) (sym (append-nil (answer_text a))))
+
 -- the reply to the first line is the text of its answer
 first_reply : (p : Plain) (line : Parsed) (here : List Answer) (q : Plain) (lines : List Parsed) (rest : List Answer) → AnswersLine p line here q → replies_of (line ∷ lines) (here ++ rest) ≡ texts_of here ∷ replies_of lines rest
 first_reply p Comment here q lines rest a = subst (λ (xs : List Answer). replies_of (Comment ∷ lines) (xs ++ rest) ≡ texts_of xs ∷ replies_of lines rest) (sym a.0) refl
 first_reply p Stranger here q lines rest a = one_reply Stranger here _ lines rest a.0 (λ x. refl)
 first_reply p (Bad session) here q lines rest a = one_reply (Bad session) here _ lines rest a.0 (λ x. refl)
 first_reply p (Good session st) here q lines rest a = one_reply (Good session st) here _ lines rest a.is (λ x. refl)
-  where
-    one_reply : (line : Parsed) (here : List Answer) (a : Answer) (lines : List Parsed) (rest : List Answer) → here ≡ a ∷ [] → ((x : Answer) → replies_of (line ∷ lines) (x ∷ rest) ≡ answer_text x ∷ replies_of lines rest) → replies_of (line ∷ lines) (here ++ rest) ≡ texts_of here ∷ replies_of lines rest
-    one_reply line here a lines rest is each =
-        subst (λ (xs : List Answer). replies_of (line ∷ lines) (xs ++ rest) ≡ texts_of xs ∷ replies_of lines rest) (sym is) (each a ∙ ap (λ (t : List ℕ). t ∷ replies_of lines rest) (sym (append-nil (answer_text a))))
 
 -- one line more
 pub replies_more : (p : Plain) (lines : List Parsed) (answers : List Answer) (lengths : List ℕ) (q : Plain) (line : Parsed) (here : List Answer) → Tells p lines answers lengths q → replies_of (lines ++ line ∷ []) (answers ++ here) ≡ replies_of lines answers ++ replies_of (line ∷ []) here

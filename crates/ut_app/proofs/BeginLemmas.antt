@@ -1,5 +1,5 @@
 -- How a run begins.
-use Rattle.std.proofs.Common.{inl, inr, ◌≡◌, refl, sym, ◌∙◌, subst, arith, IsTrue, Err}
+use Rattle.std.proofs.Common.{inl, inr, ◌≡◌, refl, sym, ◌∙◌, subst, arith, IsTrue, Result, Err}
 use Rattle.std.specs.Prelude.{IsErrOf}
 use Rattle.ut_outside.specs.Faults.{Rose}
 use Rattle.ut_outside.specs.Disk.{View, Image, IsTold}
@@ -97,9 +97,13 @@ loses_untouched New v status only = record {
   since_entry = λ told first begins nothing c h. inr (λ made. begins.1 (subst (λ (i : Image). IsMade i.pages) (nothing c (only c h)) made));
 }
 
+-- an answer that is this error
+abbrev failed : OpenError → Result Logged OpenError
+failed error = Err error
+
 -- why no store was made
-pub not_made : (entry now : View) (error : OpenError) (status : Status) → OpenStatus error status → (IsErrOf (Err {A = Logged} error) errors.Made → IsTold entry → IsMade entry.seen.pages) → (IsErrOf (Err {A = Logged} error) errors.Disk → Rose entry.faults now.faults)
-    → (IsErrOf (Err {A = Logged} error) errors.NotMade → ⊥) × (IsErrOf (Err {A = Logged} error) errors.Damaged → ⊥) → (MayOnlyRead (Err {A = Logged} error) entry → ReadsOnly entry now) → (IsTold entry → Always entry (λ c. IsMade c.pages → ⊥) → LeavesOnly entry now NotMadeOrEmpty)
+pub not_made : (entry now : View) (error : OpenError) (status : Status) → OpenStatus error status → (IsErrOf (failed error) errors.Made → IsTold entry → IsMade entry.seen.pages) → (IsErrOf (failed error) errors.Disk → Rose entry.faults now.faults)
+    → (IsErrOf (failed error) errors.NotMade → ⊥) × (IsErrOf (failed error) errors.Damaged → ⊥) → (MayOnlyRead (failed error) entry → ReadsOnly entry now) → (IsTold entry → Always entry (λ c. IsMade c.pages → ⊥) → LeavesOnly entry now NotMadeOrEmpty)
     → NotBegun New entry now status
 not_made entry now errors.Made status is made disk others reads leaves =
     subst (λ (s : Status). NotBegun New entry now s) (sym is) (record { early = tt; fits = λ told. (refl, made refl told); cause = λ e. cc; disk = loses_made entry now Exists (λ told is. reads (inr (told, is))) (λ e. cc) leaves })
@@ -111,8 +115,8 @@ not_made entry now errors.Memory status is made disk others reads leaves =
     subst (λ (s : Status). NotBegun New entry now s) (sym is) (record { early = tt; fits = λ told. tt; cause = λ e. cc; disk = loses_made entry now Memory (λ told is. reads (inr (told, is))) (λ e. reads (inl refl)) leaves })
 
 -- why none was opened
-pub not_opened : (entry now : View) (error : OpenError) (status : Status) → OpenStatus error status → (IsErrOf (Err {A = Logged} error) errors.NotMade → IsTold entry → IsMade entry.seen.pages → ⊥) → (IsErrOf (Err {A = Logged} error) errors.Damaged → IsTold entry → IsMade entry.seen.pages × ((j : Journal) → HoldsJournal j entry.seen → ⊥))
-    → (IsErrOf (Err {A = Logged} error) errors.Disk → Rose entry.faults now.faults) → (IsErrOf (Err {A = Logged} error) errors.Made → ⊥) → ReadsOnly entry now → NotBegun Open entry now status
+pub not_opened : (entry now : View) (error : OpenError) (status : Status) → OpenStatus error status → (IsErrOf (failed error) errors.NotMade → IsTold entry → IsMade entry.seen.pages → ⊥) → (IsErrOf (failed error) errors.Damaged → IsTold entry → IsMade entry.seen.pages × ((j : Journal) → HoldsJournal j entry.seen → ⊥))
+    → (IsErrOf (failed error) errors.Disk → Rose entry.faults now.faults) → (IsErrOf (failed error) errors.Made → ⊥) → ReadsOnly entry now → NotBegun Open entry now status
 not_opened entry now errors.Made status is none damaged disk others reads = absurd (others refl)
 not_opened entry now errors.NotMade status is none damaged disk others reads =
     subst (λ (s : Status). NotBegun Open entry now s) (sym is) (record { early = tt; fits = λ told. (refl, none refl told); cause = λ e. cc; disk = loses_opened entry now NoStore reads })

@@ -3,6 +3,7 @@ use Rattle.std.proofs.Common.{inl, inr, ℕ, suc, ◌+◌, ◌≡◌, ◌≤◌,
 use Rattle.std.proofs.lemmas.List.{length-append}
 use Rattle.ut_outside.specs.Disk.{View, Image, IsTold}
 use Rattle.ut_outside.specs.Faults.{Rose}
+use Rattle.ut_outside.proofs.RunLemmas.{reads_start}
 use Rattle.ut_outside.specs.declared.ack.Ack.{Ack}
 use Rattle.ut_outside.specs.declared.ask.Ask.{Ask}
 use Rattle.ut_plain.specs.Journal.{Journal}
@@ -17,7 +18,7 @@ use Rattle.ut_app.specs.declared.report.Status.{Status}
 use Rattle.ut_app.specs.declared.report.Status.TheVariants.{Done, Usage, NoStore, Exists, ReadFault, WriteFault, DiskFault, Damaged, Memory, TooLong}
 use Rattle.ut_app.specs.declared.turn.TurnEnd.{TurnEnd}
 use Rattle.ut_app.specs.declared.turn.TurnEnd.TheVariants as ends
-use Rattle.ut_app.specs.World.{World}
+use Rattle.ut_app.specs.World.{World, StreamsStay}
 use Rattle.ut_app.specs.Script.{lines_limit, all_fit}
 use Rattle.ut_app.specs.Turning.{Turns, TurnCauses, EndStatus}
 use Rattle.ut_app.specs.Keeping.{Begins}
@@ -93,11 +94,14 @@ early_cause Damaged before after e h = tt
 early_cause Memory before after e h = tt
 early_cause TooLong before after e h = absurd e
 
+streams_stay : (before : World) (disk : View) → StreamsStay before (record before { disk = disk })
+streams_stay before disk = record { source = refl; asks = refl; reads = refl; sink = refl; marks = refl; writes = refl }
+
 pub early : (start : Start) (before : World) (disk : View) (status said : Status) (lines : ℕ) (acks : List Ack) (journal : ℕ) → said ≡ status → lines ≡ 0 → acks ≡ [] → journal ≡ 0 → NotBegun start before.disk disk status
     → Run start before (record before { disk = disk }) said lines acks journal
 early start before disk status said lines acks journal is none no_acks no_journal n =
     subst (λ (s : Status). Run start before (record before { disk = disk }) s lines acks journal) (sym is) (record {
-      ended = Early n.early (record { none = none; no_acks = no_acks; no_journal = no_journal; same = refl; disk = n.disk });
+      ended = Early n.early (record { none = none; no_acks = no_acks; no_journal = no_journal; streams = streams_stay before disk; disk = n.disk });
       store = n.fits;
       input = fits_cut status before.source (early_cut status n.early);
       cause = early_cause status before (record before { disk = disk }) n.early n.cause;
@@ -232,6 +236,12 @@ pub reported : (start : Start) (before after : World) (status : Status) (lines j
 reported start before after status lines journal acks r is run = subst (λ (x : Report). Run start before after x.status x.lines x.acks.items x.journal) (sym is) run
 
 -- the words aren't taken
-pub no_words : (words : Option Start) (before : World) (status : Status) (lines : ℕ) (acks : List Ack) (journal : ℕ) → words ≡ None → lines ≡ 0 → acks ≡ [] → journal ≡ 0 → RunsWords words before before status lines acks journal
-no_words words before status lines acks journal is none no_acks no_journal =
-    subst (λ (w : Option Start). RunsWords w before before status lines acks journal) (sym is) (record { none = none; no_acks = no_acks; no_journal = no_journal; same = refl })
+pub no_words : (words : Option Start) (before : World) (status : Status) (lines : ℕ) (acks : List Ack) (journal : ℕ) → words ≡ None → OnlyNow before.disk → lines ≡ 0 → acks ≡ [] → journal ≡ 0 → RunsWords words before before status lines acks journal
+no_words words before status lines acks journal is only none no_acks no_journal =
+    subst (λ (w : Option Start). RunsWords w before before status lines acks journal) (sym is) (record {
+      none = none;
+      no_acks = no_acks;
+      no_journal = no_journal;
+      streams = streams_stay before before.disk;
+      disk = record { moment = refl; faults = refl; same = reads_start before.disk only };
+    })

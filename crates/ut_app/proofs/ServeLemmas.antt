@@ -104,14 +104,14 @@ ok_turn p line was acks journal held marks result new now acks_now journal_now h
 module _ (start : Start) (before was now : World) (script : List (List ℕ)) (old new : Logged) (acks acks_now : List Ack) (journal journal_now : ℕ) (line : List ℕ)
     (told : now.disk.told ≡ was.disk.told) (only : OnlyNow now.disk) (counts : CountsNow now.disk) (p : Progress start before was script old acks journal)
     (asked : AsksInTime before.source before.sink before.asks (replies_of (parsed_lines script) p.answers) now.asks) where
-  first : Plain
+  abbrev pub first : Plain
   first = opened_store no_savepoint p.first rows_limit
 
   -- an acknowledgement now
-  ack_of : ℕ → Ack
+  abbrev pub ack_of : ℕ → Ack
   ack_of n = record { journal = n; moment = now.disk.moment }
 
-  more : List (List ℕ)
+  abbrev pub more : List (List ℕ)
   more = script ++ line ∷ []
 
   -- what was asked stays in time

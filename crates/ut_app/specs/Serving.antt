@@ -16,7 +16,7 @@ use Rattle.ut_app.specs.declared.words.Start.{Start}
 use Rattle.ut_app.specs.declared.words.Start.TheVariants.{New, Open}
 use Rattle.ut_app.specs.declared.report.Status.{Status}
 use Rattle.ut_app.specs.declared.report.Status.TheVariants as statuses
-use Rattle.ut_app.specs.World.{World}
+use Rattle.ut_app.specs.World.{World, StreamsStay, DiskStays}
 use Rattle.ut_app.specs.Script.{lines_limit, all_fit, ReadsInput}
 use Rattle.ut_app.specs.Telling.{Tells, AnswersAll, AnswersToFault}
 use Rattle.ut_app.specs.Writing.{HasWritten, HasFront}
@@ -111,7 +111,7 @@ pub record EndedEarly (start : Start) (before after : World) (status : Status) (
   pub none : lines ≡ 0
   pub no_acks : acks ≡ []
   pub no_journal : journal ≡ 0
-  pub same : after ≡ record before { disk = after.disk }
+  pub streams : StreamsStay before after
   pub disk : LosesNothing start before.disk after.disk status
 
 -- Nothing was read, written or asked.
@@ -119,4 +119,5 @@ pub record DidNothing (before after : World) (lines : ℕ) (acks : List Ack) (jo
   pub none : lines ≡ 0
   pub no_acks : acks ≡ []
   pub no_journal : journal ≡ 0
-  pub same : after ≡ before
+  pub streams : StreamsStay before after
+  pub disk : DiskStays before.disk after.disk

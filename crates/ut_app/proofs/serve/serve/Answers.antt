@@ -7,24 +7,24 @@ use Rattle.ut_app.proofs.serve.serve.Goals as goal
 
 pub returns-in-Err : goal.returns-in-Err
 returns-in-Err g c =
-    let before : World = record { source = g.S.Source.left c.args.source.now; asks = g.S.Source.asks c.args.source.now; reads = g.S.Source.faults c.args.source.now; sink = g.K.Sink.held c.args.sink.now; marks = g.K.Sink.moments c.args.sink.now; writes = g.K.Sink.faults c.args.sink.now; disk = g.D.Disk.view c.args.disk.now } in
+    let before : World = record { source = g.S.Source.left c.args.source.now; asks = g.S.Source.asks c.args.source.now; reads = g.S.Source.faults c.args.source.now; sink = g.K.Taken.held c.args.sink.now; marks = g.K.Sink.moments c.args.sink.now; writes = g.K.Sink.faults c.args.sink.now; disk = g.D.Disk.view c.args.disk.now } in
     no_memory c.args.start before _ _ _ _ (g.met.D.Disk.only_now c.args.disk.now) c.ended.ensures.status c.ended.ensures.lines c.ended.ensures.acks c.ended.ensures.journal
 
 pub returns-in-Err-new : goal.returns-in-Err-new
 returns-in-Err-new g c =
-    let before : World = record { source = g.S.Source.left c.args.source.now; asks = g.S.Source.asks c.args.source.now; reads = g.S.Source.faults c.args.source.now; sink = g.K.Sink.held c.args.sink.now; marks = g.K.Sink.moments c.args.sink.now; writes = g.K.Sink.faults c.args.sink.now; disk = g.D.Disk.view c.args.disk.now } in
+    let before : World = record { source = g.S.Source.left c.args.source.now; asks = g.S.Source.asks c.args.source.now; reads = g.S.Source.faults c.args.source.now; sink = g.K.Taken.held c.args.sink.now; marks = g.K.Sink.moments c.args.sink.now; writes = g.K.Sink.faults c.args.sink.now; disk = g.D.Disk.view c.args.disk.now } in
     let ended = c.ended-in-Err-new.ensures in
     no_memory c.args.start before _ _ _ _ (g.met.D.Disk.only_now c.args.disk.now) ended.status ended.lines ended.acks ended.journal
 
 pub returns-in-Err-begin : goal.returns-in-Err-begin
 returns-in-Err-begin g c =
-    let before : World = record { source = g.S.Source.left c.args.source.now; asks = g.S.Source.asks c.args.source.now; reads = g.S.Source.faults c.args.source.now; sink = g.K.Sink.held c.args.sink.now; marks = g.K.Sink.moments c.args.sink.now; writes = g.K.Sink.faults c.args.sink.now; disk = g.D.Disk.view c.args.disk.now } in
+    let before : World = record { source = g.S.Source.left c.args.source.now; asks = g.S.Source.asks c.args.source.now; reads = g.S.Source.faults c.args.source.now; sink = g.K.Taken.held c.args.sink.now; marks = g.K.Sink.moments c.args.sink.now; writes = g.K.Sink.faults c.args.sink.now; disk = g.D.Disk.view c.args.disk.now } in
     let ended = c.ended-in-Err-begin.ensures in
     early c.args.start before (g.D.Disk.view c.begin.new.disk) c.in-Err-begin.status _ _ _ _ ended.status ended.lines ended.acks ended.journal c.in-Err-begin.ensures.not_begun
 
 pub loop-status-init : goal.loop-status-init
 loop-status-init g c =
-    let before : World = record { source = g.S.Source.left c.args.source.now; asks = g.S.Source.asks c.args.source.now; reads = g.S.Source.faults c.args.source.now; sink = g.K.Sink.held c.args.sink.now; marks = g.K.Sink.moments c.args.sink.now; writes = g.K.Sink.faults c.args.sink.now; disk = g.D.Disk.view c.args.disk.now } in
+    let before : World = record { source = g.S.Source.left c.args.source.now; asks = g.S.Source.asks c.args.source.now; reads = g.S.Source.faults c.args.source.now; sink = g.K.Taken.held c.args.sink.now; marks = g.K.Sink.moments c.args.sink.now; writes = g.K.Sink.faults c.args.sink.now; disk = g.D.Disk.view c.args.disk.now } in
     record {
       going = going-start c.args.start before (g.D.Disk.view c.begin.new.disk) c.in-Ok.lines c.in-Ok-begin.store _ _ c.in-Ok.ensures c.in-Ok-begin.ensures.begun (c.opened.ensures.acks ∙ c.in-Ok-new.ensures) (c.opened.ensures.journal ∙ c.journal_len.ensures)
           (λ bytes is. g.met.K.Sink.one_each c.args.sink.now bytes is) c.begin.ensures.told c.begin.ensures.later;
@@ -43,9 +43,9 @@ turn-requires-clause-runs g c = let progress = c.loop-status.invariant.going.pro
 
 pub returns-in-Err-turn : goal.returns-in-Err-turn
 returns-in-Err-turn g c =
-    let before : World = record { source = g.S.Source.left c.args.source.now; asks = g.S.Source.asks c.args.source.now; reads = g.S.Source.faults c.args.source.now; sink = g.K.Sink.held c.args.sink.now; marks = g.K.Sink.moments c.args.sink.now; writes = g.K.Sink.faults c.args.sink.now; disk = g.D.Disk.view c.args.disk.now } in
-    let mid : World = record { source = g.S.Source.left c.loop-status.source; asks = g.S.Source.asks c.loop-status.source; reads = g.S.Source.faults c.loop-status.source; sink = g.K.Sink.held c.loop-status.sink; marks = g.K.Sink.moments c.loop-status.sink; writes = g.K.Sink.faults c.loop-status.sink; disk = g.D.Disk.view c.loop-status.disk } in
-    let after : World = record { source = g.S.Source.left c.next_line.new.source; asks = g.S.Source.asks c.next_line.new.source; reads = g.S.Source.faults c.next_line.new.source; sink = g.K.Sink.held c.turn.new.sink; marks = g.K.Sink.moments c.turn.new.sink; writes = g.K.Sink.faults c.turn.new.sink; disk = g.D.Disk.view c.turn.new.disk } in
+    let before : World = record { source = g.S.Source.left c.args.source.now; asks = g.S.Source.asks c.args.source.now; reads = g.S.Source.faults c.args.source.now; sink = g.K.Taken.held c.args.sink.now; marks = g.K.Sink.moments c.args.sink.now; writes = g.K.Sink.faults c.args.sink.now; disk = g.D.Disk.view c.args.disk.now } in
+    let mid : World = record { source = g.S.Source.left c.loop-status.source; asks = g.S.Source.asks c.loop-status.source; reads = g.S.Source.faults c.loop-status.source; sink = g.K.Taken.held c.loop-status.sink; marks = g.K.Sink.moments c.loop-status.sink; writes = g.K.Sink.faults c.loop-status.sink; disk = g.D.Disk.view c.loop-status.disk } in
+    let after : World = record { source = g.S.Source.left c.next_line.new.source; asks = g.S.Source.asks c.next_line.new.source; reads = g.S.Source.faults c.next_line.new.source; sink = g.K.Taken.held c.turn.new.sink; marks = g.K.Sink.moments c.turn.new.sink; writes = g.K.Sink.faults c.turn.new.sink; disk = g.D.Disk.view c.turn.new.disk } in
     let going = roomy c.args.start before mid _ _ _ _ _ _ _ c.loop-status.invariant.going c.next_line.ensures.acks c.next_line.ensures.journal in
     let turned = subst (λ (l : List ℕ). Turns c.loop-status.store mid.disk (parsed false l) (record { acks = c.next_line.new.replies.acks.items; journal = c.next_line.new.replies.journal }) (record { held = mid.sink; marks = mid.marks }) (Err c.in-Err-turn.end) c.turn.new.store after.disk (record { acks = c.turn.new.replies.acks.items; journal = c.turn.new.replies.journal }) (record { held = after.sink; marks = after.marks })) c.line-line.ensures c.in-Err-turn.ensures.turns in
     reported c.args.start before after _ _ _ _ c.report-in-Err-turn.result c.report-in-Err-turn.ensures
@@ -53,9 +53,9 @@ returns-in-Err-turn g c =
 
 pub loop-status-preserved : goal.loop-status-preserved
 loop-status-preserved g c =
-    let before : World = record { source = g.S.Source.left c.args.source.now; asks = g.S.Source.asks c.args.source.now; reads = g.S.Source.faults c.args.source.now; sink = g.K.Sink.held c.args.sink.now; marks = g.K.Sink.moments c.args.sink.now; writes = g.K.Sink.faults c.args.sink.now; disk = g.D.Disk.view c.args.disk.now } in
-    let mid : World = record { source = g.S.Source.left c.loop-status.source; asks = g.S.Source.asks c.loop-status.source; reads = g.S.Source.faults c.loop-status.source; sink = g.K.Sink.held c.loop-status.sink; marks = g.K.Sink.moments c.loop-status.sink; writes = g.K.Sink.faults c.loop-status.sink; disk = g.D.Disk.view c.loop-status.disk } in
-    let after : World = record { source = g.S.Source.left c.next_line.new.source; asks = g.S.Source.asks c.next_line.new.source; reads = g.S.Source.faults c.next_line.new.source; sink = g.K.Sink.held c.turn.new.sink; marks = g.K.Sink.moments c.turn.new.sink; writes = g.K.Sink.faults c.turn.new.sink; disk = g.D.Disk.view c.turn.new.disk } in
+    let before : World = record { source = g.S.Source.left c.args.source.now; asks = g.S.Source.asks c.args.source.now; reads = g.S.Source.faults c.args.source.now; sink = g.K.Taken.held c.args.sink.now; marks = g.K.Sink.moments c.args.sink.now; writes = g.K.Sink.faults c.args.sink.now; disk = g.D.Disk.view c.args.disk.now } in
+    let mid : World = record { source = g.S.Source.left c.loop-status.source; asks = g.S.Source.asks c.loop-status.source; reads = g.S.Source.faults c.loop-status.source; sink = g.K.Taken.held c.loop-status.sink; marks = g.K.Sink.moments c.loop-status.sink; writes = g.K.Sink.faults c.loop-status.sink; disk = g.D.Disk.view c.loop-status.disk } in
+    let after : World = record { source = g.S.Source.left c.next_line.new.source; asks = g.S.Source.asks c.next_line.new.source; reads = g.S.Source.faults c.next_line.new.source; sink = g.K.Taken.held c.turn.new.sink; marks = g.K.Sink.moments c.turn.new.sink; writes = g.K.Sink.faults c.turn.new.sink; disk = g.D.Disk.view c.turn.new.disk } in
     let going = roomy c.args.start before mid _ _ _ _ _ _ _ c.loop-status.invariant.going c.next_line.ensures.acks c.next_line.ensures.journal in
     let turned = subst (λ (l : List ℕ). Turns c.loop-status.store mid.disk (parsed false l) (record { acks = c.next_line.new.replies.acks.items; journal = c.next_line.new.replies.journal }) (record { held = mid.sink; marks = mid.marks }) (Ok tt) c.turn.new.store after.disk (record { acks = c.turn.new.replies.acks.items; journal = c.turn.new.replies.journal }) (record { held = after.sink; marks = after.marks })) c.line-line.ensures c.in-Ok-turn.ensures.turns in
     let causes = c.turn.ensures.causes in
