@@ -19,7 +19,7 @@ use Rattle.ut_restart.specs.declared.error.RestartError.{RestartError}
 use Rattle.ut_restart.specs.declared.error.RestartError.TheVariants as restart_errors
 use Rattle.ut_value.specs.declared.entry.Entry.{Entry}
 use Rattle.ut_plain.specs.State.{State}
-use Rattle.ut_plain.specs.Plain.{new_store}
+use Rattle.ut_plain.specs.Plain.{new_store, no_savepoint}
 use Rattle.ut_plain.specs.Reached.{MayOpen}
 use Rattle.ut_store.specs.Stands.{StandsFor}
 use Rattle.ut_store.specs.Standing.{journal_of, Reopened}
@@ -75,8 +75,8 @@ unmade_pages v0 v1 v2 v3 none reads log empty pages =
     each c from = ⊎_elim (λ not. inl not) (λ is. inr (record { end = log_start; reading = empty_reading from.0 c (empty from.0 from.1).3 from.2 is })) from.3
 
 -- a store that was made runs
-pub new_runs : (v1 v2 v3 : View) (e : Logged) (rows : ℕ) → e.down ≡ false → StandsFor e.store (new_store rows) → e.log ≡ log_start → v2.told ≡ v1.told → v3.told ≡ v2.told → (IsTold v1 → EmptyLog v1 v2) → (IsTold v2 → Always v3 (ComesFrom v2 Pages (λ _ c. c ≡ made_pages)))
-    → Runs e v3 (new_store rows)
+pub new_runs : (v1 v2 v3 : View) (e : Logged) (rows : ℕ) → e.down ≡ false → StandsFor e.store (new_store no_savepoint rows) → e.log ≡ log_start → v2.told ≡ v1.told → v3.told ≡ v2.told → (IsTold v1 → EmptyLog v1 v2) → (IsTold v2 → Always v3 (ComesFrom v2 Pages (λ _ c. c ≡ made_pages)))
+    → Runs e v3 (new_store no_savepoint rows)
 new_runs v1 v2 v3 e rows up stands is told12 told23 empty pages =
     record {
       up = up;
@@ -122,7 +122,7 @@ opened v0 v1 v2 v3 e entries rows r up reopened file short made holds = record {
   journal = journal_of entries;
   runs = record {
     up = up;
-    stands = reopened.stands;
+    stands = reopened.stands no_savepoint.image_pages;
     base = refl;
     held = reads;
     file = file;

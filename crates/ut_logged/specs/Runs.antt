@@ -1,5 +1,5 @@
 -- When a store runs, and what its files hold then.
-use Rattle.std.specs.Prelude.{ℕ, ◌*◌, ◌≡◌, ◌≤◌, ◌⊎◌, false, []}
+use Rattle.std.specs.Prelude.{ℕ, ◌*◌, ◌≡◌, ◌≤◌, ◌⊎◌, false}
 use Rattle.ut_outside.specs.Disk.{View, Image, IsTold}
 use Rattle.ut_outside.specs.Run.{Always}
 use Rattle.ut_pages.specs.Layout.{IsMade}
@@ -7,7 +7,7 @@ use Rattle.ut_redo.specs.Appends.{HasClosedGate}
 use Rattle.ut_redo.specs.Logs.{IsLogFile}
 use Rattle.ut_plain.specs.State.{empty_state}
 use Rattle.ut_plain.specs.Journal.{Journal, empty_journal, journal_len}
-use Rattle.ut_plain.specs.Plain.{Plain, opened_store}
+use Rattle.ut_plain.specs.Plain.{Plain, no_savepoint, opened_store}
 use Rattle.ut_store.specs.Stands.{StandsFor}
 use Rattle.ut_logged.specs.Logged.{Logged}
 use Rattle.ut_logged.specs.Readings.{IsReading, HoldsJournal}
@@ -25,7 +25,7 @@ pub record Runs (e : Logged) (disk : View) (p : Plain) : Type 0 where
 -- a store that was opened with what its files said
 pub record Opens (e : Logged) (rows_limit : ℕ) (before after : View) : Type 0 where
   pub journal : Journal
-  pub runs : Runs e after (opened_store [] journal rows_limit)
+  pub runs : Runs e after (opened_store no_savepoint journal rows_limit)
   pub said : IsTold before → HoldsJournal journal before.seen
 
 -- while a store is made: the files aren't one yet, or hold the empty journal

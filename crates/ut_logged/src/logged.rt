@@ -7,7 +7,7 @@ ghost use Rattle.ut_outside.specs.Run.{Always, LeavesOnly, ReadsOnly};
 ghost use Rattle.ut_pages.specs.Layout.{IsMade};
 ghost use Rattle.ut_plain.specs.Journal.{Journal};
 ghost use Rattle.ut_plain.specs.Names.{has_table};
-ghost use Rattle.ut_plain.specs.Plain.{Plain, new_store};
+ghost use Rattle.ut_plain.specs.Plain.{Plain, new_store, no_savepoint};
 ghost use Rattle.ut_plain.specs.Spelled.{is_spelled};
 ghost use Rattle.ut_store.specs.Listed.{Lists};
 ghost use Rattle.ut_store.specs.Standing.{Stands, suits_session};
@@ -46,7 +46,7 @@ impl LoggedStore {
     /// Makes the files of a store without tables, which gives at most so many ids.
     pub fn make<D: Disk>(alloc: Global, disk: &mut D, rows: u32) -> Result<LoggedStore, OpenError>
         requires { rows ≤ 2 ^ 31 }
-        ensures runs { IfOk result (λ e. Runs e (D.view disk.new) (new_store rows)) }
+        ensures runs { IfOk result (λ e. Runs e (D.view disk.new) (new_store no_savepoint rows)) }
         // `Made` exactly where the store is made.
         ensures unmade { IfOk result (λ _. IsTold (D.view disk.old) → IsMade (D.view disk.old).seen.pages → ⊥) }
         ensures made { IsErrOf result OpenError.Made → IsTold (D.view disk.old) → IsMade (D.view disk.old).seen.pages }

@@ -2,6 +2,7 @@ use Rattle.std.proofs.Common.{false, refl, sym, subst}
 use Rattle.std.specs.Prelude.{IsTrue}
 use Rattle.ut_outside.specs.Disk.{View, IsTold}
 use Rattle.ut_logged.specs.Logged.{Logged}
+use Rattle.ut_plain.specs.Plain.{no_savepoint}
 use Rattle.ut_logged.proofs.FileLemmas.{unmade_redo, unmade_pages, new_runs}
 use Rattle.ut_logged.proofs.logged.LoggedStore.make.Goals as goal
 
@@ -33,4 +34,4 @@ returns-clause-runs g c =
     let v2 : View = g.D.Disk.view c.make.new.disk in
     let v3 : View = g.D.Disk.view c.make-2.new.disk in
     let e : Logged = record { store = c.in_ok-store.store; log = c.in_ok-redo.redo; down = false } in
-    new_runs v1 v2 v3 e c.args.rows refl c.in_ok-store.ensures c.in_ok-redo.ensures.place c.make.ensures.told c.make-2.ensures.told c.in_ok-redo.ensures.empty c.in_ok-make.ensures.made
+    new_runs v1 v2 v3 e c.args.rows refl (c.in_ok-store.ensures no_savepoint.image_pages) c.in_ok-redo.ensures.place c.make.ensures.told c.make-2.ensures.told c.in_ok-redo.ensures.empty c.in_ok-make.ensures.made
