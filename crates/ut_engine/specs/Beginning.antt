@@ -6,7 +6,7 @@ use Rattle.ut_outside.specs.Faults.{Rose}
 use Rattle.ut_outside.specs.Run.{Always, LeavesOnly}
 use Rattle.ut_pages.specs.Layout.{IsMade}
 use Rattle.ut_plain.specs.Journal.{Journal}
-use Rattle.ut_plain.specs.Plain.{new_store}
+use Rattle.ut_plain.specs.Plain.{new_store, no_savepoint}
 use Rattle.ut_logged.specs.declared.error.OpenError.{OpenError}
 use Rattle.ut_logged.specs.declared.error.OpenError.TheVariants as errors
 use Rattle.ut_logged.specs.Logged.{Logged}
@@ -32,7 +32,7 @@ store_or_cause (Err u) = Err u.cause
 
 -- a store that gives at most so many ids was to be made
 pub record Makes (rows : ℕ) (before after : View) (answer : Result Logged OpenError) : Type 0 where
-  pub runs : IfOk answer (λ e. Runs e after (new_store rows))
+  pub runs : IfOk answer (λ e. Runs e after (new_store no_savepoint rows))
   -- `Made` exactly where the store is made
   pub unmade : IfOk answer (λ _. IsTold before → IsMade before.seen.pages → ⊥)
   pub made : IsErrOf answer errors.Made → IsTold before → IsMade before.seen.pages
