@@ -4,7 +4,7 @@ use Rattle.ut_outside.specs.Disk.{View, Image, IsTold}
 use Rattle.ut_outside.specs.Run.{Always, LeavesOnly}
 use Rattle.ut_pages.specs.Layout.{IsMade}
 use Rattle.ut_plain.specs.Journal.{Journal, empty_journal, journal_len}
-use Rattle.ut_plain.specs.Plain.{new_store}
+use Rattle.ut_plain.specs.Plain.{new_store, no_savepoint}
 use Rattle.ut_logged.specs.Logged.{Logged}
 use Rattle.ut_logged.specs.Readings.{HoldsJournal, HoldsPrefix}
 use Rattle.ut_logged.specs.Runs.{Runs, Opens, NotMadeOrEmpty}
@@ -36,7 +36,7 @@ pub since_opened : (entry now : View) → LeavesOnly entry now entry.crash_state
 since_opened entry now l first holds nothing =
     record { past = l.later; holds = λ c h. subst (λ (i : Image). HoldsPrefix first (journal_len first) i) (sym (nothing c (l.each c h))) (whole_of first entry.seen holds) }
 
-pub begun_new : (entry now : View) (e : Logged) → now.told ≡ entry.told → Runs e now (new_store rows_limit) → (IsTold entry → IsMade entry.seen.pages → ⊥)
+pub begun_new : (entry now : View) (e : Logged) → now.told ≡ entry.told → Runs e now (new_store no_savepoint rows_limit) → (IsTold entry → IsMade entry.seen.pages → ⊥)
     → (IsTold entry → Always entry (λ c. IsMade c.pages → ⊥) → LeavesOnly entry now NotMadeOrEmpty) → Begun New entry now e
 begun_new entry now e same runs unmade leaves = record {
   first = empty_journal;

@@ -6,7 +6,7 @@ use Rattle.ut_outside.specs.declared.ack.Ack.{Ack}
 use Rattle.ut_outside.specs.declared.faults.Failed as fails
 use Rattle.ut_plain.specs.declared.statement.Parsed.{Parsed}
 use Rattle.ut_plain.specs.Journal.{journal_len}
-use Rattle.ut_plain.specs.Plain.{Plain, opened_store}
+use Rattle.ut_plain.specs.Plain.{Plain, no_savepoint, opened_store}
 use Rattle.ut_plain.specs.Transcript.{Answer, AnswersLine, Faults}
 use Rattle.ut_script.specs.Grammar.{parsed}
 use Rattle.ut_logged.specs.Logged.{Logged}
@@ -40,7 +40,7 @@ lengths-one (a ∷ acks) k = ap (λ xs. a.journal ∷ xs) (lengths-one acks k)
 pub progress-start : (start : Start) (input : List ℕ) (before : Option (List ℕ)) (entry now : View) (store : Logged) (marks : List ℕ) (acks : List Ack) (journal : ℕ) → Begun start entry now store → acks ≡ [] → journal ≡ store.store.entries
     → ((bytes : List ℕ) → before ≡ Some bytes → length marks ≡ length bytes) → Progress start input before entry 0 store now before marks acks journal
 progress-start start input before entry now store marks acks journal begun none is each =
-    let p = opened_store [] begun.first rows_limit in
+    let p = opened_store no_savepoint begun.first rows_limit in
     subst (λ (ks : List Ack). Progress start input before entry 0 store now before marks ks journal) (sym none) (record {
       first = begun.first;
       answers = [];
@@ -112,18 +112,18 @@ module _ (start : Start) (input : List ℕ) (before : Option (List ℕ)) (entry 
 
   -- the lines with one more, and its answer
   tells_one : (a : Answer) (q : Plain) → AnswersLine p.plain (parsed false line) (a ∷ []) q
-      → Tells (opened_store [] p.first rows_limit) (first_lines (count + 1) input) (p.answers ++ a ∷ []) (lengths_of (acks ++ record { journal = journal_len q.journal; moment = now.moment } ∷ [])) q
+      → Tells (opened_store no_savepoint p.first rows_limit) (first_lines (count + 1) input) (p.answers ++ a ∷ []) (lengths_of (acks ++ record { journal = journal_len q.journal; moment = now.moment } ∷ [])) q
   tells_one a q answers =
-      subst (λ (ls : List Parsed). Tells (opened_store [] p.first rows_limit) ls (p.answers ++ a ∷ []) (lengths_of (acks ++ record { journal = journal_len q.journal; moment = now.moment } ∷ [])) q) (sym one)
-      (subst (λ (ns : List ℕ). Tells (opened_store [] p.first rows_limit) (first_lines count input ++ parsed false line ∷ []) (p.answers ++ a ∷ []) ns q) (sym (lengths-one acks (record { journal = journal_len q.journal; moment = now.moment })))
-      (tells_more (opened_store [] p.first rows_limit) (first_lines count input) p.answers (lengths_of acks) p.plain (parsed false line) (a ∷ []) q p.tells answers))
+      subst (λ (ls : List Parsed). Tells (opened_store no_savepoint p.first rows_limit) ls (p.answers ++ a ∷ []) (lengths_of (acks ++ record { journal = journal_len q.journal; moment = now.moment } ∷ [])) q) (sym one)
+      (subst (λ (ns : List ℕ). Tells (opened_store no_savepoint p.first rows_limit) (first_lines count input ++ parsed false line ∷ []) (p.answers ++ a ∷ []) ns q) (sym (lengths-one acks (record { journal = journal_len q.journal; moment = now.moment })))
+      (tells_more (opened_store no_savepoint p.first rows_limit) (first_lines count input) p.answers (lengths_of acks) p.plain (parsed false line) (a ∷ []) q p.tells answers))
 
-  tells_none : (q : Plain) → AnswersLine p.plain (parsed false line) [] q → Tells (opened_store [] p.first rows_limit) (first_lines (count + 1) input) p.answers (lengths_of acks) q
+  tells_none : (q : Plain) → AnswersLine p.plain (parsed false line) [] q → Tells (opened_store no_savepoint p.first rows_limit) (first_lines (count + 1) input) p.answers (lengths_of acks) q
   tells_none q answers =
-      subst (λ (ls : List Parsed). Tells (opened_store [] p.first rows_limit) ls p.answers (lengths_of acks) q) (sym one)
-      (subst (λ (ns : List ℕ). Tells (opened_store [] p.first rows_limit) (first_lines count input ++ parsed false line ∷ []) p.answers ns q) (append-nil (lengths_of acks))
-      (subst (λ (xs : List Answer). Tells (opened_store [] p.first rows_limit) (first_lines count input ++ parsed false line ∷ []) xs (lengths_of acks ++ []) q) (append-nil p.answers)
-      (tells_more (opened_store [] p.first rows_limit) (first_lines count input) p.answers (lengths_of acks) p.plain (parsed false line) [] q p.tells answers)))
+      subst (λ (ls : List Parsed). Tells (opened_store no_savepoint p.first rows_limit) ls p.answers (lengths_of acks) q) (sym one)
+      (subst (λ (ns : List ℕ). Tells (opened_store no_savepoint p.first rows_limit) (first_lines count input ++ parsed false line ∷ []) p.answers ns q) (append-nil (lengths_of acks))
+      (subst (λ (xs : List Answer). Tells (opened_store no_savepoint p.first rows_limit) (first_lines count input ++ parsed false line ∷ []) xs (lengths_of acks ++ []) q) (append-nil p.answers)
+      (tells_more (opened_store no_savepoint p.first rows_limit) (first_lines count input) p.answers (lengths_of acks) p.plain (parsed false line) [] q p.tells answers)))
 
   quiet_on : (q : Plain) → AnswersLine p.plain (parsed false line) [] q → Runs new now q → Keeps was now q.journal (journal_len p.plain.journal) → acks_now ≡ acks → journal_now ≡ journal_len q.journal → held_now ≡ held → marks_now ≡ marks
       → Progress start input before entry (count + 1) new now held_now marks_now acks_now journal_now
@@ -172,7 +172,7 @@ module _ (start : Start) (input : List ℕ) (before : Option (List ℕ)) (entry 
       → Writes {T = Unit {0}} {E = fails.Failed} held marks (answer_text a) now.moment (Err x) held_now marks_now
       → Ran start input before entry statuses.WriteFault (count + 1) now held_now marks_now acks_now journal_now
   unwritten_end a q x answers runs keeps e f w =
-      let all : AnswersAll (opened_store [] p.first rows_limit) (first_lines (count + 1) input) (p.answers ++ a ∷ []) (lengths_of (acks ++ record { journal = journal_len q.journal; moment = now.moment } ∷ [])) journal_now q = record { tells = tells_one a q answers; length_is = f } in
+      let all : AnswersAll (opened_store no_savepoint p.first rows_limit) (first_lines (count + 1) input) (p.answers ++ a ∷ []) (lengths_of (acks ++ record { journal = journal_len q.journal; moment = now.moment } ∷ [])) journal_now q = record { tells = tells_one a q answers; length_is = f } in
       subst (λ (ks : List Ack). Ran start input before entry statuses.WriteFault (count + 1) now held_now marks_now ks journal_now) (sym e) (record {
         first = p.first;
         answers = p.answers ++ a ∷ [];
@@ -186,7 +186,7 @@ module _ (start : Start) (input : List ℕ) (before : Option (List ℕ)) (entry 
       })
 
   to_fault : (a : Answer) (q : Plain) → Faults p.plain (parsed false line) (a ∷ []) q → journal_now ≡ journal_len p.plain.journal
-      → AnswersToFault (opened_store [] p.first rows_limit) (first_lines (count + 1) input) (p.answers ++ a ∷ []) (lengths_of (acks ++ record { journal = journal_len p.plain.journal; moment = now.moment } ∷ [])) journal_now q
+      → AnswersToFault (opened_store no_savepoint p.first rows_limit) (first_lines (count + 1) input) (p.answers ++ a ∷ []) (lengths_of (acks ++ record { journal = journal_len p.plain.journal; moment = now.moment } ∷ [])) journal_now q
   to_fault a q faults f = record {
     before = first_lines count input;
     line = parsed false line;
@@ -248,7 +248,7 @@ module _ (start : Start) (input : List ℕ) (before : Option (List ℕ)) (entry 
 pub progress-end : (start : Start) (input : List ℕ) (before : Option (List ℕ)) (entry : View) (count : ℕ) (store : Logged) (now : View) (held : Option (List ℕ)) (marks : List ℕ) (acks : List Ack) (journal : ℕ) (status : Status) → Progress start input before entry count store now held marks acks journal
     → Ran start input before entry status count now held marks acks journal
 progress-end start input before entry count store now held marks acks journal status p =
-    let all : AnswersAll (opened_store [] p.first rows_limit) (first_lines count input) p.answers (lengths_of acks) journal p.plain = record { tells = p.tells; length_is = p.length_is } in
+    let all : AnswersAll (opened_store no_savepoint p.first rows_limit) (first_lines count input) p.answers (lengths_of acks) journal p.plain = record { tells = p.tells; length_is = p.length_is } in
     record {
       first = p.first;
       answers = p.answers;

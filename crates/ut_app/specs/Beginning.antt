@@ -3,7 +3,7 @@ use Rattle.std.specs.Prelude.{◌≡◌, []}
 use Rattle.ut_outside.specs.Disk.{View, Image, IsTold}
 use Rattle.ut_outside.specs.Faults.{Rose}
 use Rattle.ut_plain.specs.Journal.{Journal, journal_len}
-use Rattle.ut_plain.specs.Plain.{opened_store}
+use Rattle.ut_plain.specs.Plain.{no_savepoint, opened_store}
 use Rattle.ut_logged.specs.declared.error.OpenError.{OpenError}
 use Rattle.ut_logged.specs.declared.error.OpenError.TheVariants as errors
 use Rattle.ut_logged.specs.Logged.{Logged}
@@ -18,7 +18,7 @@ use Rattle.ut_app.specs.Ends.{FitsStore, IsEarly}
 -- the store runs from what it was opened with, and nothing was lost on the way
 pub record Begun (start : Start) (entry now : View) (store : Logged) : Type 0 where
   pub first : Journal
-  pub runs : Runs store now (opened_store [] first rows_limit)
+  pub runs : Runs store now (opened_store no_savepoint first rows_limit)
   pub begins : IsTold entry → Begins start first entry.seen
   pub kept : IsTold entry → Kept start entry now first first []
 

@@ -5,7 +5,7 @@ use Rattle.ut_outside.specs.Faults.{Rose}
 use Rattle.ut_outside.specs.declared.ack.Ack.{Ack}
 use Rattle.ut_plain.specs.declared.statement.Parsed.{Parsed}
 use Rattle.ut_plain.specs.Journal.{Journal, journal_len}
-use Rattle.ut_plain.specs.Plain.{Plain, opened_store}
+use Rattle.ut_plain.specs.Plain.{Plain, no_savepoint, opened_store}
 use Rattle.ut_plain.specs.Transcript.{Answer, Transcript}
 use Rattle.ut_script.specs.Lines.{lines_of}
 use Rattle.ut_script.specs.Grammar.{parsed}
@@ -36,7 +36,7 @@ pub record Progress (start : Start) (input : List ℕ) (before : Option (List �
   pub answers : List Answer
   pub plain : Plain
   pub begins : IsTold entry → Begins start first entry.seen
-  pub tells : Tells (opened_store [] first rows_limit) (first_lines count input) answers (lengths_of acks) plain
+  pub tells : Tells (opened_store no_savepoint first rows_limit) (first_lines count input) answers (lengths_of acks) plain
   pub runs : Runs store now plain
   pub written : HasWritten before answers held marks acks
   pub kept : IsTold entry → Kept start entry now first plain.journal acks
@@ -65,10 +65,10 @@ pub record Ran (start : Start) (input : List ℕ) (before : Option (List ℕ)) (
   pub answers : List Answer
   pub plain : Plain
   pub begins : IsTold entry → Begins start first entry.seen
-  pub transcript : Transcript (opened_store [] first rows_limit) (first_lines lines input) answers plain
+  pub transcript : Transcript (opened_store no_savepoint first rows_limit) (first_lines lines input) answers plain
   -- one acknowledgement for each answer, with the length of the journal after its line, or before it where the disk failed
-  pub answered : AnswersAll (opened_store [] first rows_limit) (first_lines lines input) answers (lengths_of acks) journal plain
-      ⊎ (AnswersToFault (opened_store [] first rows_limit) (first_lines lines input) answers (lengths_of acks) journal plain × IsFault status × Rose entry.faults now.faults)
+  pub answered : AnswersAll (opened_store no_savepoint first rows_limit) (first_lines lines input) answers (lengths_of acks) journal plain
+      ⊎ (AnswersToFault (opened_store no_savepoint first rows_limit) (first_lines lines input) answers (lengths_of acks) journal plain × IsFault status × Rose entry.faults now.faults)
   pub written : HasFront before answers now.moment held marks acks
   pub all_written : (status ≡ statuses.WriteFault → ⊥) → HasWritten before answers held marks acks
   pub kept : IsTold entry → Kept start entry now first plain.journal acks
