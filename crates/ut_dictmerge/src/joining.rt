@@ -1,5 +1,5 @@
 //! Pieces laid end to end: the keys on one thread, the maps on another.
-ghost use Rattle.std.specs.Prelude.{◌≡◌, ℕ, ◌+◌, ◌^◌, ◌<◌, ◌≤◌, length, IfOk, slice_index_or};
+ghost use Rattle.std.specs.Prelude.{◌≡◌, ℕ, ◌<◌, ◌≤◌, length, IfOk, slice_index_or};
 ghost use Rattle.ut_dictmerge.specs.Merge.{AreSources, IsMerge, merged};
 ghost use Rattle.ut_dictmerge.specs.Cuts.{AreCuts};
 ghost use Rattle.ut_dictmerge.specs.Pieces.{IsPart, AreMaps};
@@ -30,7 +30,6 @@ pub fn join_pieces<R: Threads + Sync>(
     parts: &[Result<Merged, AllocError>],
 ) -> Result<Merged, AllocError>
     requires lists { AreSources a.now used_a.now b.now used_b.now }
-    requires room { length a.now + length b.now < 2 ^ 31 }
     requires some { 1 ≤ length parts.now }
     requires cuts { AreCuts a.now b.now (length parts.now) cuts.now }
     requires parts { (k : ℕ) (d : _) → k < length parts.now → IfOk (slice_index_or parts.now k d) (λ m. IsPart a.now used_a.now b.now used_b.now cuts.now k m.keys m.from_a.items m.from_b.items) }
@@ -78,13 +77,13 @@ fn join_keys(
     parts: &[Result<Merged, AllocError>],
 ) -> Result<KeyList, AllocError>
     requires lists { AreSources a.now used_a.now b.now used_b.now }
-    requires room { length a.now + length b.now < 2 ^ 31 }
     requires some { 1 ≤ length parts.now }
     requires cuts { AreCuts a.now b.now (length parts.now) cuts.now }
     requires parts { (k : ℕ) (d : _) → k < length parts.now → IfOk (slice_index_or parts.now k d) (λ m. IsPart a.now used_a.now b.now used_b.now cuts.now k m.keys m.from_a.items m.from_b.items) }
     ensures { IfOk result (λ keys. keys ≡ merged a.now used_a.now b.now used_b.now) }
 {
-    let mut keys = KeyList::with_capacity(alloc, a.len() + b.len(), 0)?;
+    let (count, bytes) = sizes(parts);
+    let mut keys = KeyList::with_capacity(alloc, count, bytes)?;
     for part in parts {
         match part {
             Ok(part) => keys = keys.followed_by(&part.keys)?,
@@ -122,4 +121,17 @@ fn join_maps(
         }
     }
     Ok(Maps { from_a, from_b })
+}
+
+/// How many keys the pieces have together, and how many bytes these have.
+fn sizes(parts: &[Result<Merged, AllocError>]) -> (usize, usize) {
+    let mut count: usize = 0;
+    let mut bytes: usize = 0;
+    for part in parts {
+        if let Ok(part) = part {
+            count = count.saturating_add(part.keys.len());
+            bytes = bytes.saturating_add(part.keys.byte_len());
+        }
+    }
+    (count, bytes)
 }
