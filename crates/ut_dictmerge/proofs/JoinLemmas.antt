@@ -12,7 +12,7 @@ use Rattle.ut_dictmerge.specs.Cuts.{cut_at}
 use Rattle.ut_dictmerge.specs.Pieces.{IsPiece, IsPart, front, IsPlace, ArePlaces, AreMaps}
 use Rattle.ut_dictmerge.proofs.WriteLemmas.{ArePlaces-more}
 use Rattle.ut_dictmerge.proofs.PlaceLemmas.{places_are}
-use Rattle.ut_dictmerge.proofs.FrontLemmas.{front-none, front-all, AreReady, next_front}
+use Rattle.ut_dictmerge.proofs.FrontLemmas.{front-all, AreReady, next_front}
 
 -- the places of a piece, among all
 IsPlace-behind : (d keys : List (List ℕ)) (key : List ℕ) (f : Bool) (e : Option ℕ) → IsPlace (length d) keys key f e → IsPlace 0 (d ++ keys) key f e

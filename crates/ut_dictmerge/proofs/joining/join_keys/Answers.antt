@@ -1,4 +1,4 @@
-use Rattle.std.proofs.Common.{◌≡◌, arith, ap, sym, ◌∙◌, length, subst, IfOk}
+use Rattle.std.proofs.Common.{arith, sym, ◌∙◌, length, subst, IfOk}
 use Rattle.ut_dictmerge.specs.Cuts.{cut_at}
 use Rattle.ut_dictmerge.specs.Pieces.{IsPart}
 use Rattle.ut_dictmerge.proofs.FrontLemmas.{front-none}

@@ -1,5 +1,4 @@
-use Rattle.std.proofs.Common.{◌≡◌, ◌++◌, arith, ap, sym, ◌∙◌, length, subst, IfOk}
-use Rattle.ut_dictmerge.specs.Cuts.{cut_at}
+use Rattle.std.proofs.Common.{◌++◌, arith, ap, sym, ◌∙◌, length, subst, IfOk}
 use Rattle.ut_dictmerge.specs.Pieces.{IsPart}
 use Rattle.ut_dictmerge.proofs.JoinLemmas.{none_joined, one_joined, all_joined}
 use Rattle.ut_dictmerge.proofs.joining.join_maps.Goals as goal
