@@ -3,3 +3,7 @@ pub mod OwnLemmas
 pub mod ColumnLemmas
 pub mod PartLemmas
 pub mod MainLemmas
+pub mod UniqueLemmas
+pub mod ReadLemmas
+pub mod WritingLemmas
+pub mod IdLemmas

@@ -1,2 +1,4 @@
 pub mod Columns
 pub mod Parts
+pub mod Spelling
+pub mod Reading

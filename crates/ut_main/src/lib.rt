@@ -2,10 +2,18 @@
 //! and its own.
 #![tactic(auto)]
 
+mod bytes;
 mod column;
+mod ids;
+mod own;
 mod part;
 mod parts;
+mod used;
 
+pub use bytes::{part_bytes, part_from};
 pub use column::CodedColumn;
 pub use part::Part;
 pub use parts::Main;
+
+#[cfg(test)]
+mod tests;

@@ -1,10 +1,11 @@
 //! A part of main.
-ghost use Rattle.std.specs.Prelude.{◌≡◌, ◌+◌, ◌<◌, ◌≤◌, ℕ, [], length, get_or, slice_index_or};
+ghost use Rattle.std.specs.Prelude.{◌≡◌, ◌+◌, ◌<◌, ◌≤◌, [], length, map, get_or, slice_index_or};
 ghost use Rattle.std.specs.Arc.{arc_value};
 ghost use Rattle.ut_own.specs.Own.{own_dict};
 ghost use Rattle.ut_prefix.specs.Chain.{end_to_end};
 ghost use Rattle.ut_l2.specs.KeyRows.{cells_at, no_row};
 ghost use Rattle.ut_main.specs.Columns.{vector_of, AreDistinct};
+ghost use Rattle.ut_main.specs.Spelling.{columns_of};
 ghost use Rattle.ut_main.specs.Parts.{part_chain, part_value, AreWide, IsPart};
 
 use crate::column::CodedColumn;
@@ -39,6 +40,19 @@ impl Part {
         ensures { result ≡ part_value ids.items columns.items }
     {
         Part { ids, columns }
+    }
+
+    pub(crate) fn ids(&self) -> &[u32]
+        ensures ids { result.now ≡ map (λ r. r.id) self.now.rows }
+        ensures few { length result.now ≤ 2147483647 }
+    {
+        &self.ids
+    }
+
+    pub(crate) fn columns(&self) -> &[CodedColumn]
+        ensures { result.now ≡ columns_of self.now }
+    {
+        &self.columns
     }
 
     /// How many rows there are.

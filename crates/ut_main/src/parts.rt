@@ -87,6 +87,19 @@ impl Main {
         self.parts.as_slice().len() as u8
     }
 
+    /// How many rows the parts have.
+    pub fn rows(&self) -> u32
+        ensures rows { result ≡ rows_in self.now }
+        ensures few { result ≤ 2147483647 }
+    {
+        let mut rows = 0;
+        let parts = self.parts.as_slice();
+        for part in parts {
+            rows += part.len();
+        }
+        rows
+    }
+
     pub fn part(&self, p: u8) -> &Arc<Part>
         requires { p < length self.now.parts }
         ensures rows { (arc_value result.now).rows ≡ get_or self.now.parts p [] }
