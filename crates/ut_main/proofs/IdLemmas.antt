@@ -40,7 +40,7 @@ ids-spelled (x ∷ ids) bytes below le at =
     let le4 : 4 ≤ length bytes = omega (arith, le, fours (length ids)) in
     let first : word_bytes x ≡ take 4 bytes = ap word_bytes (at 0 (omega arith)) ∙ word_bytes-word_in bytes below le4 in
     let rest = ids-spelled ids (drop 4 bytes) (AllBelow-drop 256 4 bytes below) (omega (arith, le, fours (length ids), length-drop 4 bytes))
-        (λ k lt. at (suc k) (omega (arith, lt)) ∙ ap word_in (drop-fours k bytes)) in
+    (λ k lt. at (suc k) (omega (arith, lt)) ∙ ap word_in (drop-fours k bytes)) in
     sym (take-append-drop 4 bytes) ∙ ap (λ (l : List ℕ). l ++ drop 4 bytes) (sym first) ∙ ap (λ (l : List ℕ). word_bytes x ++ l) rest
     ∙ sym (append_assoc (word_bytes x) (flat_map word_bytes ids) (drop (length ids * 4) (drop 4 bytes)))
     ∙ ap (λ (l : List ℕ). (word_bytes x ++ flat_map word_bytes ids) ++ l) (sym (drop-fours (length ids) bytes))

@@ -7,3 +7,5 @@ pub mod UniqueLemmas
 pub mod ReadLemmas
 pub mod WritingLemmas
 pub mod IdLemmas
+pub mod StandLemmas
+pub mod KindLemmas

@@ -18,7 +18,7 @@ use Rattle.ut_main.proofs.OwnLemmas.{own-apart, own-ascending, own-length}
 
 -- ---- the dictionaries of all columns
 
-length-with_own : (j : ℕ) (dicts : List Chain) (rows : List KeyRow) → length (with_own j dicts rows) ≡ length dicts
+pub length-with_own : (j : ℕ) (dicts : List Chain) (rows : List KeyRow) → length (with_own j dicts rows) ≡ length dicts
 length-with_own j [] rows = refl
 length-with_own j (chain ∷ dicts) rows = ap suc (length-with_own (suc j) dicts rows)
 
@@ -29,7 +29,7 @@ length-dicts_of dicts (rows ∷ parts) = length-dicts_of (with_own 0 dicts rows)
 pub length-dicts_behind : (main : MainValue) → length (dicts_behind main) ≡ main.width
 length-dicts_behind main = length-dicts_of (replicate main.width []) main.parts ∙ length-replicate main.width []
 
-get-with_own : (k j : ℕ) (dicts : List Chain) (rows : List KeyRow) → j < length dicts → get_or (with_own k dicts rows) j [] ≡ chain_of (get_or dicts j []) (cells_at (j + k) rows)
+pub get-with_own : (k j : ℕ) (dicts : List Chain) (rows : List KeyRow) → j < length dicts → get_or (with_own k dicts rows) j [] ≡ chain_of (get_or dicts j []) (cells_at (j + k) rows)
 get-with_own k j [] rows lt = absurd (omega (arith, lt))
 get-with_own k zero (chain ∷ dicts) rows lt = let e : k ≡ 0 + k = omega arith in ap (λ n. chain_of chain (cells_at n rows)) e
 get-with_own k (suc j) (chain ∷ dicts) rows lt =
@@ -200,3 +200,18 @@ main-first width parts new n h le e = subst (IsMain width) (sym e) (record {
 pub main-first_value : (width : ℕ) (parts new : List PartValue) (main : MainValue) (n : ℕ) → main_value width parts ≡ main → new ≡ take n parts → main_value width new ≡ first_parts n main
 main-first_value width parts new main n view e =
     (λ i. main_value width (e i)) ∙ ap (λ (l : List (List KeyRow)). (let m : MainValue = record { width = width; parts = l } in m)) (sym (take-map (λ (x : PartValue). x.rows) n parts)) ∙ ap (λ (m : MainValue). first_parts n m) view
+
+-- ---- the dictionaries of any main
+
+all-dicts : (main : MainValue) (j n : ℕ) → j < main.width → n ≤ length main.parts → AreDicts main j n (get_or (dicts_behind (first_parts n main)) j [])
+all-dicts main j zero wide le = dicts-none main j (get_or (dicts_behind (first_parts 0 main)) j []) wide (get_or-replicate main.width j [] [] wide)
+all-dicts main j (suc n) wide le =
+    let one : n + 1 ≡ suc n = omega arith in
+    let before = all-dicts main j n wide (omega (arith, le)) in
+    subst (λ m. AreDicts main j m (get_or (dicts_behind (first_parts m main)) j [])) one
+    (dicts-more main j n (get_or (dicts_behind (first_parts n main)) j []) wide (omega (arith, le)) before (get_or (dicts_behind (first_parts (n + 1) main)) j []) (dicts-next main n j (omega (arith, le)) wide))
+
+-- a column's dictionaries have at most as many keys as there are rows
+pub dicts-low : (main : MainValue) (j : ℕ) → j < main.width → length (end_to_end (get_or (dicts_behind main) j [])) ≤ rows_in main
+dicts-low main j wide =
+    subst (λ m. length (end_to_end (get_or (dicts_behind m) j [])) ≤ rows_in m) (first-all main (length main.parts) (omega arith)) (all-dicts main j (length main.parts) wide (omega arith)).few

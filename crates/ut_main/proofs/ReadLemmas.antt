@@ -21,7 +21,7 @@ use Rattle.ut_main.specs.Spelling.{column_bytes, is_key, AreKeys}
 use Rattle.ut_main.specs.Reading.{MayBeOwn, MayBeCodes, MayBeColumn, AreUsed}
 use Rattle.ut_main.proofs.KeyLemmas.{holds-in, in-contains, contains-in, in-at, in-get, distinct-append, distinct-ascending, ascends-from, place-get, cells-places, places-below}
 use Rattle.ut_main.proofs.OwnLemmas.{own-held, own-lacks, own-length, own-ascending, cell-known}
-use Rattle.ut_main.proofs.MainLemmas.{distinct-own, column-made}
+use Rattle.ut_main.proofs.MainLemmas.{distinct-own, column-made, length-chain_of}
 use Rattle.ut_main.proofs.ColumnLemmas.{column-chain, column-vector}
 use Rattle.ut_main.proofs.UniqueLemmas.{dict-one, codes-one}
 
@@ -207,3 +207,27 @@ module _ (rows : ℕ) (kind : Kind) (chain new : Chain) (dict : List (List ℕ))
       ∙ sym (append_assoc (dict_bytes dict) (code_bytes v.codes v.reach) rest)
       ∙ ap (λ (l : List (List ℕ)). (dict_bytes l ++ code_bytes v.codes v.reach) ++ rest) keys
       ∙ ap (λ (w : Reached). (dict_bytes (own_dict (end_to_end c.before) c.cells) ++ code_bytes w.codes w.reach) ++ rest) vector
+
+-- a column that was written
+pub column-written : (c : ColumnValue) (dict : List (List ℕ)) (v : Reached) (old mid new : List ℕ) → dict ≡ own_dict (end_to_end c.before) c.cells → v ≡ vector_of c.before c.cells
+    → mid ≡ old ++ dict_bytes dict → new ≡ mid ++ code_bytes v.codes v.reach → new ≡ old ++ column_bytes c
+unfolding column_bytes
+column-written c dict v old mid new own vector first second =
+    second ∙ ap (λ (l : List ℕ). l ++ code_bytes v.codes v.reach) first ∙ append_assoc old (dict_bytes dict) (code_bytes v.codes v.reach)
+    ∙ ap (λ (l : List (List ℕ)). old ++ (dict_bytes l ++ code_bytes v.codes v.reach)) own
+    ∙ ap (λ (w : Reached). old ++ (dict_bytes (own_dict (end_to_end c.before) c.cells) ++ code_bytes w.codes w.reach)) vector
+
+-- ---- no other column
+
+pub column-one : (rows : ℕ) (kind : Kind) (chain : Chain) (a b : ColumnValue) (rest more : List ℕ) → rows < 2 ^ 31 → length (end_to_end chain) + rows ≤ 2147483647 → MayBeColumn rows kind chain a → MayBeColumn rows kind chain b
+    → column_bytes a ++ rest ≡ column_bytes b ++ more → (a ≡ b) × (rest ≡ more)
+column-one rows kind chain a b rest more few low h k e =
+    let one : (let c : ColumnValue = record { before = chain; cells = a.cells } in c) ≡ a = (let s = sym h.before in λ i. record { before = s i; cells = a.cells }) in
+    let two : (let c : ColumnValue = record { before = chain; cells = b.cells } in c) ≡ b = (let s = sym k.before in λ i. record { before = s i; cells = b.cells }) in
+    let ka = subst (λ (d : Chain). AreKeys kind (own_dict (end_to_end d) a.cells)) h.before h.kinds in
+    let kb = subst (λ (d : Chain). AreKeys kind (own_dict (end_to_end d) b.cells)) k.before k.kinds in
+    let sum = length-chain_of chain a.cells in
+    let same = cells-one chain a.cells b.cells rest more (h.count ∙ sym k.count) (omega (arith, few, h.count))
+    (own-dictionary chain a.cells kind ka (omega (arith, few, h.count))) (own-dictionary chain b.cells kind kb (omega (arith, few, k.count))) (omega (arith, sum, low, h.count))
+    (ap (λ (c : ColumnValue). column_bytes c ++ rest) one ∙ e ∙ ap (λ (c : ColumnValue). column_bytes c ++ more) (sym two)) in
+    (sym one ∙ (let s = same.0 in λ i. record { before = chain; cells = s i }) ∙ two, same.1)

@@ -32,14 +32,14 @@ blocks-one (suc m) xs ys rest more same size e =
     let bytes = sym a ∙ e ∙ b in
     let count : length (take 16 xs) ≡ length (take 16 ys) = omega (arith, same, length-take 16 xs, length-take 16 ys) in
     let first : take 16 xs ≡ take 16 ys =
-        sym (block_keys-block_bytes (take 16 xs) (blocks_bytes m (drop 16 xs) ++ rest))
-        ∙ (λ i. block_keys (count i) (bytes i))
-        ∙ block_keys-block_bytes (take 16 ys) (blocks_bytes m (drop 16 ys) ++ more) in
+    sym (block_keys-block_bytes (take 16 xs) (blocks_bytes m (drop 16 xs) ++ rest))
+    ∙ (λ i. block_keys (count i) (bytes i))
+    ∙ block_keys-block_bytes (take 16 ys) (blocks_bytes m (drop 16 ys) ++ more) in
     let tails : blocks_bytes m (drop 16 xs) ++ rest ≡ blocks_bytes m (drop 16 ys) ++ more =
-        append_cancel_left (block_bytes (take 16 xs)) (blocks_bytes m (drop 16 xs) ++ rest) (blocks_bytes m (drop 16 ys) ++ more)
-        (bytes ∙ ap (λ (l : List (List ℕ)). block_bytes l ++ (blocks_bytes m (drop 16 ys) ++ more)) (sym first)) in
+    append_cancel_left (block_bytes (take 16 xs)) (blocks_bytes m (drop 16 xs) ++ rest) (blocks_bytes m (drop 16 ys) ++ more)
+    (bytes ∙ ap (λ (l : List (List ℕ)). block_bytes l ++ (blocks_bytes m (drop 16 ys) ++ more)) (sym first)) in
     let later = blocks-one m (drop 16 xs) (drop 16 ys) rest more
-        (omega (arith, same, length-drop 16 xs, length-drop 16 ys)) (omega (arith, size, length-drop 16 xs)) tails in
+    (omega (arith, same, length-drop 16 xs, length-drop 16 ys)) (omega (arith, size, length-drop 16 xs)) tails in
     (sym (take-append-drop 16 xs) ∙ (λ i. first i ++ later.0 i) ∙ take-append-drop 16 ys, later.1)
 
 -- bytes begin with the bytes of but one dictionary
@@ -48,7 +48,7 @@ dict-one keys others rest more h k e =
     let front : take 4 (dict_bytes keys ++ rest) ≡ to_le_bytes w32 (length keys) = refl in
     let other = count_read (length others) (length keys) (dict_bytes keys ++ rest) (blocks_bytes ((length others + 15) / 16) others ++ more) k.few h.few front e in
     let tails : blocks_bytes ((length keys + 15) / 16) keys ++ rest ≡ blocks_bytes ((length keys + 15) / 16) others ++ more =
-        other.1 ∙ ap (λ n. blocks_bytes ((n + 15) / 16) others ++ more) other.0 in
+    other.1 ∙ ap (λ n. blocks_bytes ((n + 15) / 16) others ++ more) other.0 in
     blocks-one ((length keys + 15) / 16) keys others rest more (sym other.0) refl tails
 
 -- ---- widths
@@ -97,5 +97,5 @@ codes-one codes others rest more reach low h k same few e =
     let holds = code_width-holds reach in
     let other : drop 1 bytes ≡ bytes_in (form_of codes reach) width others ++ more = two.2 ∙ ap (λ (f : Form). bytes_in f width others ++ more) (sym form) in
     let equal : codes ≡ others =
-        bytes_in-one (form_of codes reach) width codes others more rest (drop 1 bytes) (code_width-narrow reach 32 low) (AllBelow-width reach width codes h holds) (AllBelow-width reach width others k holds) same few one.2 other in
+    bytes_in-one (form_of codes reach) width codes others more rest (drop 1 bytes) (code_width-narrow reach 32 low) (AllBelow-width reach width codes h holds) (AllBelow-width reach width others k holds) same few one.2 other in
     (equal, append_cancel_left (bytes_in (form_of codes reach) width codes) rest more (sym one.2 ∙ other ∙ ap (λ (l : List ℕ). bytes_in (form_of codes reach) width l ++ more) (sym equal)))

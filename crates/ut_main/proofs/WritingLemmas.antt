@@ -51,7 +51,7 @@ columns-made ids columns h =
     let before = part-before ids columns h j lt in
     let cells = part-cells ids columns h j lt in
     let made : (let c : ColumnValue = record { before = get_or (part_value ids columns).before j []; cells = cells_at j (part_value ids columns).rows } in c) ≡ get_or columns j no_column =
-        λ i. record { before = before i; cells = cells i } in
+    λ i. record { before = before i; cells = cells i } in
     sym (column-at (part_value ids columns) j within ∙ made))
 
 -- ---- ids

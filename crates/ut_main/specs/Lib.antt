@@ -2,3 +2,4 @@ pub mod Columns
 pub mod Parts
 pub mod Spelling
 pub mod Reading
+pub mod Laws

@@ -30,7 +30,8 @@ fn append_column(column: &CodedColumn, out: &mut Vec<u8>) -> Result<(), AllocErr
     ensures err { OnErr result (take (length out.old.items) out.new.items ≡ out.old.items) }
 {
     column.dict().bytes_of(out)?;
-    column.codes().bytes_of(out)
+    column.codes().bytes_of(out)?;
+    Ok(())
 }
 
 /// Appends the columns one after the other. At a refusal some bytes may have been added.
@@ -127,7 +128,11 @@ fn columns_from<L: Ledger>(
         read.push(column)?;
         rest = later;
     }
-    if rest.is_empty() { Ok(Some(read)) } else { Ok(None) }
+    if rest.is_empty() {
+        Ok(Some(read))
+    } else {
+        Ok(None)
+    }
 }
 
 /// The part behind main whose bytes these are, with a counter for reading keys over a new ledger.

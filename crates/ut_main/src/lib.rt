@@ -5,6 +5,7 @@
 mod bytes;
 mod column;
 mod ids;
+mod laws;
 mod own;
 mod part;
 mod parts;
@@ -12,6 +13,7 @@ mod used;
 
 pub use bytes::{part_bytes, part_from};
 pub use column::CodedColumn;
+pub use laws::part_laws;
 pub use part::Part;
 pub use parts::Main;
 

@@ -1,7 +1,7 @@
 //! The own dictionary of a column, from bytes.
 ghost use Rattle.std.specs.Prelude.{◌≡◌, ◌≢◌, ℕ, List, ◌≤◌, ◌++◌, ◌↔◌, length, IsTrue, IfOk, IfSome, IfNone};
 ghost use Rattle.ut_prefix.specs.Chain.{LacksAll};
-ghost use Rattle.ut_prefix.specs.Spelling.{dict_bytes};
+ghost use Rattle.ut_prefix.specs.Spelling.{dict_bytes, IsDictionary};
 ghost use Rattle.ut_main.specs.Spelling.{is_key, AreKeys};
 ghost use Rattle.ut_main.specs.Reading.{MayBeOwn};
 
@@ -44,9 +44,16 @@ fn may_be_own<L: Ledger>(
     dict: &PrefixDict,
     steps: &mut Steps<L>,
 ) -> bool
-    ensures { IsTrue result ↔ MayBeOwn rows kind chain.now dict.now }
+    ensures own { IsTrue result ↔ MayBeOwn rows kind chain.now dict.now }
+    ensures dictionary { IsDictionary dict.now }
 {
-    dict.len() <= rows && are_keys(kind, dict, steps) && chain.lacks_all(dict, steps)
+    if rows < dict.len() {
+        return false;
+    }
+    if !are_keys(kind, dict, steps) {
+        return false;
+    }
+    chain.lacks_all(dict, steps)
 }
 
 /// The own dictionary that begins the bytes, and what stands behind it.

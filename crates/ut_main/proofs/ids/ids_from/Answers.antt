@@ -34,8 +34,7 @@ returns-in-Some-clause-some c =
     let read = rw c.in-Some.is at c.in_ok-ids.ensures.some in
     let size : c.read_word-rows.result ≡ length c.in-Some.ids.items = sym read.1 in
     let tail : drop 4 c.args.bytes.now ≡ flat_map word_bytes c.in-Some.ids.items ++ take (length behind - n * 4) (drop (n * 4) behind) =
-        sym (take-rest 4 c.args.bytes.now) ∙ read.2 ∙ ap (λ (l : List ℕ). flat_map word_bytes c.in-Some.ids.items ++ l) (sym (take-rest (n * 4) behind)) in
-    (
+    sym (take-rest 4 c.args.bytes.now) ∙ read.2 ∙ ap (λ (l : List ℕ). flat_map word_bytes c.in-Some.ids.items ++ l) (sym (take-rest (n * 4) behind)) in (
       record { few = omega (arith, c.if-earlier-rows.false, size, c.requires); ids = read.0 },
       head-made c.in-Some.ids.items (take (length behind - n * 4) (drop (n * 4) behind)) c.args.bytes.now bytes (omega (arith, c.if-bytes-lt-WORD_LEN.false)) (sym c.read_word-rows.ensures ∙ size) tail,
     )

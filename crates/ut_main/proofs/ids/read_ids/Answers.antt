@@ -22,13 +22,12 @@ returns-clause-some c =
     let bytes : AllBelow 256 c.args.bytes.now = AllBelow-from_places 256 c.args.bytes.now (λ i. omega (arith, c.type_inv.bytes i)) in
     let all : c.loop-i.i ≡ c.args.rows = omega (arith, c.loop-i-test.false, c.loop-i.auto.i-end) in
     let size : length c.loop-i.ids.items ≡ c.args.rows = c.loop-i.invariant.0 ∙ all in
-    let at : (k : ℕ) → k < length c.loop-i.ids.items → k < c.loop-i.i = λ k lt. omega (arith, lt, size, all) in
-    (
+    let at : (k : ℕ) → k < length c.loop-i.ids.items → k < c.loop-i.i = λ k lt. omega (arith, lt, size, all) in (
       λ k d lt.
-      let h = c.loop-i.invariant.1 k (at k lt) in
-      let same = get_or_default c.loop-i.ids.items k d 0 lt in
-      (omega (arith, h.1, same), omega (arith, h.2, same)),
+          let h = c.loop-i.invariant.1 k (at k lt) in
+          let same = get_or_default c.loop-i.ids.items k d 0 lt in
+          (omega (arith, h.1, same), omega (arith, h.2, same)),
       size,
       ids-spelled c.loop-i.ids.items c.args.bytes.now bytes (omega (arith, size, c.requires)) (λ k lt. (c.loop-i.invariant.1 k (at k lt)).0)
-      ∙ ap (λ n. flat_map word_bytes c.loop-i.ids.items ++ drop (n * 4) c.args.bytes.now) size,
+          ∙ ap (λ n. flat_map word_bytes c.loop-i.ids.items ++ drop (n * 4) c.args.bytes.now) size,
     )

@@ -12,7 +12,7 @@ returns-in-Some-clause-none c = λ codes rest may is.
     let spelled = rw c.in-Some.is at c.in_ok-codes.ensures.spelled in
     let bytes = c.args.bytes.now in
     let read : code_bytes c.in-Some.codes.codes c.args.reach ++ drop c.in-Some.size bytes ≡ code_bytes codes c.args.reach ++ rest =
-        ap (λ (l : List ℕ). l ++ drop c.in-Some.size bytes) (sym spelled) ∙ take-append-drop c.in-Some.size bytes ∙ is in
+    ap (λ (l : List ℕ). l ++ drop c.in-Some.size bytes) (sym spelled) ∙ take-append-drop c.in-Some.size bytes ∙ is in
     let one = codes-one c.in-Some.codes.codes codes (drop c.in-Some.size bytes) rest c.args.reach (omega (arith, c.ranges.reach.fits)) below may.below (size ∙ sym may.count) (omega (arith, size, c.requires.rows)) read in
     let used = subst (λ (l : List ℕ). AreUsed c.args.start (c.args.reach - c.args.start) l) (sym one.0) may.used in
     let good = c.in_ok-are_used-in-Some.ensures.1 used in
