@@ -1,0 +1,11 @@
+pub mod KeyLemmas
+pub mod OwnLemmas
+pub mod ColumnLemmas
+pub mod PartLemmas
+pub mod MainLemmas
+pub mod UniqueLemmas
+pub mod ReadLemmas
+pub mod WritingLemmas
+pub mod IdLemmas
+pub mod StandLemmas
+pub mod KindLemmas

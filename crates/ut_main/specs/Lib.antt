@@ -1,0 +1,5 @@
+pub mod Columns
+pub mod Parts
+pub mod Spelling
+pub mod Reading
+pub mod Laws
