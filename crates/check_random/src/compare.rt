@@ -2,10 +2,10 @@
 use crate::apart::{Apart, apart_from};
 use crate::run::{RUN, RUN_NEW, run_on};
 use crate::told::Script;
+use check_oracle::Oracle;
+use check_scripts::{LINES, script_line};
 use std::alloc::{AllocError, Global};
 use std::thread::Threads;
-use check_scripts::{LINES, script_line};
-use check_oracle::Oracle;
 use ut_outside::MemDisk;
 
 /// Ids enough for any script.

@@ -4,12 +4,12 @@
 use crate::compare::{AMPLE, apart_in_questions};
 use crate::run::{RUN, RUN_NEW, run_on};
 use crate::worked::lines_of;
+use check_oracle::Oracle;
+use check_scripts::Answers;
 use std::alloc::{AllocError, Global};
 use std::fmt;
 use std::thread::Threads;
 use ut_app::Status;
-use check_scripts::Answers;
-use check_oracle::Oracle;
 use ut_outside::MemDisk;
 
 /// What may be wrong with a run.

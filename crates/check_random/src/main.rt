@@ -14,11 +14,11 @@ mod worked;
 
 use crate::apart::Apart;
 use anyhow::{Context, Result, ensure};
+use check_scripts::LINES;
 use std::alloc::Global;
 use std::env;
 use std::process::ExitCode;
 use std::thread::Threads;
-use check_scripts::LINES;
 
 /// What is asked for.
 enum Task {

@@ -1,7 +1,7 @@
 //! Scripts with what the slow store answers to them.
-use std::alloc::{AllocError, Global};
-use check_scripts::Answers;
 use check_oracle::Oracle;
+use check_scripts::Answers;
+use std::alloc::{AllocError, Global};
 
 /// A script, and the slow store's replies to it.
 #[derive(Drop)]

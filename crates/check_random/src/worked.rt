@@ -1,6 +1,6 @@
 //! Worked scripts for runs with a refused allocation.
-use std::alloc::{AllocError, Global};
 use check_scripts::rows::{self, Row};
+use std::alloc::{AllocError, Global};
 
 /// A script whose replies aren't worked out: the slow store says them.
 pub type Lines = &'static [&'static str];

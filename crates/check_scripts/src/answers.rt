@@ -1,8 +1,8 @@
 //! Stores that answer lines, and the first line that is answered otherwise than a table says.
 use crate::rows::Row;
 use crate::scripts::{LINES, script_line};
-use std::alloc::{AllocError, Global};
 use check_oracle::{Oracle, is_spelled};
+use std::alloc::{AllocError, Global};
 use ut_plain::{Parsed, Refusal, Reply, Statement};
 use ut_script::{parse_line, put_reply};
 

@@ -1,9 +1,9 @@
 //! What random scripts are made of, and what they meet on the slow store.
 use crate::answers::{Answers, first_apart};
 use crate::scripts::{LINES, script_line};
+use check_oracle::Oracle;
 use std::alloc::{AllocError, Global};
 use std::test::Fail;
-use check_oracle::Oracle;
 use ut_plain::Parsed;
 use ut_script::parse_line;
 

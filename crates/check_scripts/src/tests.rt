@@ -2,10 +2,10 @@
 use crate::answers::first_wrong;
 use crate::rows::{self, Row};
 use crate::{answer_rows, refusal_rows, stage_rows};
+use check_oracle::Oracle;
 use std::alloc::{AllocError, Global};
 use std::process::Abort;
 use std::test::Fail;
-use check_oracle::Oracle;
 
 /// Ids enough for any table.
 const AMPLE: u32 = 1000;

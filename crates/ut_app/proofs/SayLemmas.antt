@@ -1,7 +1,7 @@
 -- What a line comes to.
 use Rattle.std.proofs.Common.{inl, inr, ℕ, zero, suc, ◌≡◌, ◌<◌, ◌-◌, ◌⊎◌, Bool, true, false, List, [], ◌∷◌, Option, None, Some, refl, ap, ◌∙◌, sym, subst, arith}
 use Rattle.std.proofs.lemmas.List.{take_all}
-use Rattle.ut_outside.specs.Disk.{View, Image}
+use Rattle.ut_outside.specs.Disk.{View, Image, IsTold}
 use Rattle.ut_outside.proofs.RunLemmas.{started}
 use Rattle.ut_value.specs.declared.entry.Op.{Op}
 use Rattle.ut_plain.specs.declared.statement.Statement.{Statement}
@@ -14,11 +14,11 @@ use Rattle.ut_plain.specs.declared.reply.Refusal.{Refusal}
 use Rattle.ut_plain.specs.declared.reply.Refusal.TheVariants as refusals
 use Rattle.ut_plain.specs.declared.transaction.OpenTransaction.{OpenTransaction}
 use Rattle.ut_plain.specs.Journal.{Journal, journal_len, prefix}
-use Rattle.ut_plain.specs.Plain.{Plain, open_at}
+use Rattle.ut_plain.specs.Plain.{Plain, Phase, Idle, Writing, Sealed, open_at}
 use Rattle.ut_plain.specs.View.{view}
 use Rattle.ut_plain.specs.Refusals.{refusal}
 use Rattle.ut_plain.specs.declared.stage.PendingMerge.{PendingMerge}
-use Rattle.ut_plain.specs.Step.{merge_ended, step, step_by, effect_of, committed, committed_by, said_changed, said_alone, MayAnswer, Steps, LacksMemory, may_lack_memory}
+use Rattle.ut_plain.specs.Step.{merge_ended, step, step_by, effect_of, committed, committed_by, said_changed, said_alone, MayAnswer, Steps, LacksMemory, may_lack_memory, save_written, save_sealed, save_flipped, MayFault}
 use Rattle.ut_plain.specs.Transcript.{Answer, AnswersLine}
 use Rattle.ut_script.specs.Texts.{reply_text, is_small}
 use Rattle.ut_script.specs.Statements.{needs_memory}
@@ -30,6 +30,7 @@ use Rattle.ut_logged.specs.Runs.{Runs}
 use Rattle.ut_logged.specs.Serves.{Serves, IsAnswered, IsLost}
 use Rattle.ut_app.specs.declared.say.Said.{Said}
 use Rattle.ut_app.specs.declared.say.Said.TheVariants as saids
+use Rattle.ut_app.specs.Keeping.{HoldsWhole}
 use Rattle.ut_app.specs.Saying.{IsText, Whole, Lacking, Keeps, Outcome, Quiet, Replied, Failed, Says, said_of}
 
 -- a disk's own moment leaves what a crash leaves now
@@ -42,9 +43,13 @@ whole j end c r =
     let all : prefix j (journal_len j) ≡ j = ap (λ es. record j { entries = es }) (take_all (journal_len j - j.base.length) j.entries (omega arith)) in
     record { count = journal_len j; no_fewer = omega arith; no_more = omega arith; holds = record { end = end; reading = subst (λ k. IsReading k end c) (sym all) r } }
 
+-- what a running store holds of its files
+pub runs_whole : (e : Logged) (v : View) (p : Plain) → Runs e v p → IsTold v → HoldsWhole v p.journal
+runs_whole e v p runs told c h = whole p.journal e.log c (runs.held told c h)
+
 -- a store that does nothing keeps all
 pub still : (e : Logged) (v : View) (p : Plain) → OnlyNow v → Runs e v p → Keeps v v p.journal (journal_len p.journal)
-still e v p only runs told = started v (HoldsPrefix p.journal (journal_len p.journal)) (λ c h. whole p.journal e.log c (runs.held told c (only c h)))
+still e v p only runs told = started v (HoldsPrefix p.journal (journal_len p.journal)) (λ c h. runs_whole e v p runs told c (only c h))
 
 -- ---- long replies
 
@@ -77,6 +82,21 @@ merge_small : (p : Plain) (pending : Option PendingMerge) → is_small (merge_en
 merge_small p None = refl
 merge_small p (Some m) = refl
 
+written_small : (p : Plain) (n : ℕ) (phase : Phase) → is_small (save_written p n phase).reply ≡ true
+written_small p n Idle = refl
+written_small p n (Writing captured done pages image) = refl
+written_small p n (Sealed captured pages image) = refl
+
+sealed_small : (p : Plain) (phase : Phase) → is_small (save_sealed p phase).reply ≡ true
+sealed_small p Idle = refl
+sealed_small p (Writing captured done pages image) = refl
+sealed_small p (Sealed captured pages image) = refl
+
+flipped_small : (p : Plain) (phase : Phase) → is_small (save_flipped p phase).reply ≡ true
+flipped_small p Idle = refl
+flipped_small p (Writing captured done pages image) = refl
+flipped_small p (Sealed captured pages image) = refl
+
 long_effect : (p : Plain) (session : ℕ) (st : Statement) → is_small (effect_of p session st).reply ≡ false → IsLong p st (effect_of p session st).plain
 long_effect p session (statements.Create a b) h = cc
 long_effect p session (statements.Insert a b) h = never (is_small (effect_of p session (statements.Insert a b)).reply) (changed_small (view p session).own (view p session).commits 1) h
@@ -91,9 +111,9 @@ long_effect p session (statements.MergeL1 a b) h = cc
 long_effect p session (statements.MergeBegin a b) h = cc
 long_effect p session statements.MergeEnd h = never (is_small (merge_ended p p.pending).reply) (merge_small p p.pending) h
 long_effect p session statements.SaveBegin h = cc
-long_effect p session (statements.SaveStep n) h = cc
-long_effect p session statements.SaveSeal h = cc
-long_effect p session statements.SaveFlip h = cc
+long_effect p session (statements.SaveStep n) h = never (is_small (save_written p n p.phase).reply) (written_small p n p.phase) h
+long_effect p session statements.SaveSeal h = never (is_small (save_sealed p p.phase).reply) (sealed_small p p.phase) h
+long_effect p session statements.SaveFlip h = never (is_small (save_flipped p p.phase).reply) (flipped_small p p.phase) h
 long_effect p session statements.SaveDrop h = cc
 long_effect p session (statements.Shape a) h = record { same = refl; may = refl }
 
@@ -118,10 +138,10 @@ with_text p session st reply q before after new text (Lacking long t) said may r
     Replied (record { session = Some session; reply = replies.Refused refusals.Memory }) q refl (record { reply = replies.Refused refusals.Memory; is = refl; may = LacksMemory l.may refl l.same }) runs keeps t
 
 lost_text : (p : Plain) (session : ℕ) (st : Statement) (before after : View) (new : Logged) (text : List ℕ) → IsText session replies.DiskFault text
-    → journal_len p.journal < journal_len (step p session st).plain.journal → Keeps before after (step p session st).plain.journal (journal_len p.journal) → Outcome p (Good session st) before saids.Fault new after text
-lost_text p session st before after new text (Whole t) more keeps =
-    Failed (record { session = Some session; reply = replies.DiskFault }) (step p session st).plain refl (record { session = session; st = st; is_line = refl; answered = refl; steps = refl; appends = more }) keeps t
-lost_text p session st before after new text (Lacking long t) more keeps = cc
+    → MayFault p session st → Keeps before after (step p session st).plain.journal (journal_len p.journal) → Outcome p (Good session st) before saids.Fault new after text
+lost_text p session st before after new text (Whole t) may keeps =
+    Failed (record { session = Some session; reply = replies.DiskFault }) (step p session st).plain refl (record { session = session; st = st; is_line = refl; answered = refl; steps = refl; may = may }) keeps t
+lost_text p session st before after new text (Lacking long t) may keeps = cc
 
 is_reply : (reply : Reply) → (reply ≡ replies.DiskFault → ⊥) → said_of reply ≡ saids.Reply
 is_reply replies.Done h = refl
@@ -149,7 +169,7 @@ says_by p old before session st reply new after text is (inl a) =
     subst (λ s. Outcome p (Good session st) before s new after text) (sym said) (with_text p session st reply a.plain before after new text is said a.may a.runs a.any_moment)
 says_by p old before session st reply new after text is (inr l) =
     let fault : IsText session replies.DiskFault text = subst (λ (r : Reply). IsText session r text) l.fault is in
-    subst (λ (r : Reply). Outcome p (Good session st) before (said_of r) new after text) (sym l.fault) (lost_text p session st before after new text fault l.appends l.any_moment)
+    subst (λ (r : Reply). Outcome p (Good session st) before (said_of r) new after text) (sym l.fault) (lost_text p session st before after new text fault l.may l.any_moment)
 
 pub says_statement : (old : Logged) (before : View) (session : ℕ) (st : Statement) (reply : Reply) (new : Logged) (after : View) (text : List ℕ) (said : Said) → Serves old before session st reply new after → IsText session reply text → said ≡ said_of reply
     → Says old before (Good session st) said new after text

@@ -11,18 +11,15 @@ use Rattle.ut_plain.specs.declared.transaction.OpenTransaction.{OpenTransaction}
 use Rattle.ut_plain.specs.declared.reply.Reply.{Reply}
 use Rattle.ut_plain.specs.declared.reply.Refusal.{Refusal}
 use Rattle.ut_plain.specs.Journal.{Journal, journal_len, current}
-use Rattle.ut_plain.specs.Plain.{Plain, open_at}
+use Rattle.ut_plain.specs.Plain.{Plain, Phase, Idle, Writing, Sealed, open_at}
 use Rattle.ut_plain.specs.View.{view}
 use Rattle.ut_plain.specs.Refusals.{refusal}
 use Rattle.ut_plain.specs.Made.{made}
 use Rattle.ut_plain.specs.declared.stage.PendingMerge.{PendingMerge}
 use Rattle.ut_plain.specs.Tables.{place_in}
-use Rattle.ut_plain.specs.Step.{merge_ended, step, step_by, effect_of, with_txn, with_made, committed, committed_by, MayAnswer, Steps, LacksMemory}
+use Rattle.ut_plain.specs.Step.{merge_ended, step, step_by, effect_of, with_txn, with_made, committed, committed_by, MayAnswer, Steps, LacksMemory, save_written, save_sealed, save_flipped}
 use Rattle.ut_plain.specs.Transcript.{Answer, AnswersLine, Answers, Transcript, Whole, Cut, Faults}
-use Rattle.ut_script.specs.Lines.{lines_of}
-use Rattle.ut_script.specs.Grammar.{parsed}
 use Rattle.ut_app.specs.Telling.{Tells, AnswersAll, AnswersToFault}
-use Rattle.ut_app.specs.Serving.{first_lines}
 use Rattle.ut_app.proofs.KeepLemmas.{GoesOn}
 
 -- ---- transcripts
@@ -46,17 +43,6 @@ whole_transcript p lines answers lengths journal q a = Whole (tells_answers p li
 
 pub cut_transcript : (p : Plain) (lines : List Parsed) (answers : List Answer) (lengths : List ℕ) (journal : ℕ) (q : Plain) → AnswersToFault p lines answers lengths journal q → Transcript p lines answers q
 cut_transcript p lines answers lengths journal q a = Cut a.before a.line a.given a.last a.mid a.lines_are a.answers_are (tells_answers p a.before a.given a.told a.mid a.tells) a.faults
-
--- ---- lines of the input
-
-taken : {A B : Type 0} (f : A → B) (n : ℕ) (xs : List A) (x : A) (rest : List A) → drop n xs ≡ x ∷ rest → map f (take (suc n) xs) ≡ map f (take n xs) ++ f x ∷ []
-taken f zero [] x rest h = cc
-taken f zero (y ∷ ys) x rest h = cc
-taken f (suc n) [] x rest h = cc
-taken f (suc n) (y ∷ ys) x rest h = ap (λ l. f y ∷ l) (taken f n ys x rest h)
-
-pub one_line : (count : ℕ) (input line : List ℕ) (rest : List (List ℕ)) → drop count (lines_of input) ≡ line ∷ rest → first_lines (count + 1) input ≡ first_lines count input ++ parsed false line ∷ []
-one_line count input line rest h = rw (add-one count) (taken (parsed false) count (lines_of input) line rest h)
 
 -- ---- the journal only grows
 
@@ -83,6 +69,21 @@ merge_on : (p : Plain) (pending : Option PendingMerge) → GoesOn p.journal (mer
 merge_on p None = goes_nowhere p.journal
 merge_on p (Some m) = record { more = entries.Ended m.number ∷ []; is = refl }
 
+written_on : (p : Plain) (n : ℕ) (phase : Phase) → GoesOn p.journal (save_written p n phase).plain.journal
+written_on p n Idle = goes_nowhere p.journal
+written_on p n (Writing captured done pages image) = goes_nowhere p.journal
+written_on p n (Sealed captured pages image) = goes_nowhere p.journal
+
+sealed_on : (p : Plain) (phase : Phase) → GoesOn p.journal (save_sealed p phase).plain.journal
+sealed_on p Idle = goes_nowhere p.journal
+sealed_on p (Writing captured done pages image) = goes_nowhere p.journal
+sealed_on p (Sealed captured pages image) = goes_nowhere p.journal
+
+flipped_on : (p : Plain) (phase : Phase) → GoesOn p.journal (save_flipped p phase).plain.journal
+flipped_on p Idle = goes_nowhere p.journal
+flipped_on p (Writing captured done pages image) = goes_nowhere p.journal
+flipped_on p (Sealed captured pages image) = goes_nowhere p.journal
+
 effect_on : (p : Plain) (session : ℕ) (st : Statement) → GoesOn p.journal (effect_of p session st).plain.journal
 effect_on p session (statements.Create name columns) = record { more = entries.Create name columns ∷ []; is = refl }
 effect_on p session (statements.Insert a b) = made_on p session (view p session).own (made (view p session).tables (view p session).rows (view p session).next_id (statements.Insert a b))
@@ -97,9 +98,9 @@ effect_on p session (statements.MergeL1 a b) = goes_nowhere p.journal
 effect_on p session (statements.MergeBegin a b) = record { more = entries.Begun ((current p.journal).merges + 1) (place_in (current p.journal).tables a) b ∷ []; is = refl }
 effect_on p session statements.MergeEnd = merge_on p p.pending
 effect_on p session statements.SaveBegin = goes_nowhere p.journal
-effect_on p session (statements.SaveStep n) = goes_nowhere p.journal
-effect_on p session statements.SaveSeal = goes_nowhere p.journal
-effect_on p session statements.SaveFlip = goes_nowhere p.journal
+effect_on p session (statements.SaveStep n) = written_on p n p.phase
+effect_on p session statements.SaveSeal = sealed_on p p.phase
+effect_on p session statements.SaveFlip = flipped_on p p.phase
 effect_on p session statements.SaveDrop = goes_nowhere p.journal
 effect_on p session (statements.Shape a) = goes_nowhere p.journal
 

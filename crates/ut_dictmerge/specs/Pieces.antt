@@ -45,6 +45,13 @@ pub record IsPiece (a : List (List ℕ)) (used_a : List Bool) (b : List (List �
 abbrev pub IsPart : List (List ℕ) → List Bool → List (List ℕ) → List Bool → List Cut → ℕ → List (List ℕ) → List (Option ℕ) → List (Option ℕ) → Type 0
 IsPart a used_a b used_b cuts k = IsPiece a used_a b used_b (cut_at cuts k) (cut_at cuts (k + 1)) (length (front a used_a b used_b (cut_at cuts k)))
 
+-- the entries of all keys of both lists
+pub record AreMaps (a : List (List ℕ)) (used_a : List Bool) (b : List (List ℕ)) (used_b : List Bool) (keys : List (List ℕ)) (from_a from_b : List (Option ℕ)) : Type 0 where
+  pub size_a : length from_a ≡ length a
+  pub size_b : length from_b ≡ length b
+  pub places_a : ArePlaces 0 keys a used_a 0 from_a
+  pub places_b : ArePlaces 0 keys b used_b 0 from_b
+
 -- which list has the next key, by the places in both
 abbrev pub IsNext : Ordering → List (List ℕ) → ℕ → ℕ → List (List ℕ) → ℕ → ℕ → Type 0
 IsNext Less a i to_a b j to_b = (i < to_a) × (j < to_b → key_cmp (get_or a i []) (get_or b j []) ≡ Less)

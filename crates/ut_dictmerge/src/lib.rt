@@ -2,6 +2,7 @@
 #![tactic(auto)]
 
 mod cut;
+mod joining;
 mod merging;
 mod parallel;
 mod piece;

@@ -1,10 +1,11 @@
 //! A merge in pieces: count each piece, add the counts up, write each piece, lay them end to end.
-ghost use Rattle.std.specs.Prelude.{◌≡◌, ℕ, ◌+◌, ◌^◌, ◌<◌, ◌≤◌, length, IfOk, slice_index, slice_index_or, take};
+ghost use Rattle.std.specs.Prelude.{◌≡◌, ℕ, ◌+◌, ◌^◌, ◌<◌, ◌≤◌, length, IfOk, slice_index, take};
 ghost use Rattle.ut_dictmerge.specs.Merge.{AreSources, IsMerge};
 ghost use Rattle.ut_dictmerge.specs.Cuts.{AreCuts, cut_at};
 ghost use Rattle.ut_dictmerge.specs.Pieces.{IsPart, between, front, total};
 
 use crate::cut::{Cut, cuts};
+use crate::joining::join_pieces;
 use crate::piece::{Merged, count_piece, write_piece};
 use std::alloc::{AllocError, Global};
 use std::thread;
@@ -37,7 +38,7 @@ pub fn merge_pieces<R: Threads + Sync>(
         count,
         &|k: usize| { write_at(alloc, a, used_a, b, used_b, cuts, bases, count, k) },
     )?;
-    join_pieces(alloc, a, used_a, b, used_b, cuts, parts.as_slice())
+    join_pieces(rt, alloc, a, used_a, b, used_b, cuts, parts.as_slice())
 }
 
 /// The place of the first key of each piece.
@@ -145,40 +146,4 @@ fn write_at(
     ensures { IfOk result (λ m. IsPart a.now used_a.now b.now used_b.now cuts.now k m.keys m.from_a.items m.from_b.items) }
 {
     write_piece(alloc, a, used_a, b, used_b, cuts[k], cuts[k + 1], bases[k])
-}
-
-/// Lays the pieces end to end.
-fn join_pieces(
-    alloc: Global,
-    a: &KeyList,
-    used_a: &[bool],
-    b: &KeyList,
-    used_b: &[bool],
-    cuts: &[Cut],
-    parts: &[Result<Merged, AllocError>],
-) -> Result<Merged, AllocError>
-    requires lists { AreSources a.now used_a.now b.now used_b.now }
-    requires some { 1 ≤ length parts.now }
-    requires cuts { AreCuts a.now b.now (length parts.now) cuts.now }
-    requires parts { (k : ℕ) (d : _) → k < length parts.now → IfOk (slice_index_or parts.now k d) (λ m. IsPart a.now used_a.now b.now used_b.now cuts.now k m.keys m.from_a.items m.from_b.items) }
-    ensures { IfOk result (λ m. IsMerge a.now used_a.now b.now used_b.now m.keys m.from_a.items m.from_b.items) }
-{
-    let mut keys = KeyList::new(alloc);
-    let mut from_a = Vec::with_capacity(alloc, a.len())?;
-    let mut from_b = Vec::with_capacity(alloc, b.len())?;
-    for part in parts {
-        match part {
-            Ok(part) => {
-                keys = keys.followed_by(&part.keys)?;
-                from_a.extend_from_slice(part.from_a.as_slice())?;
-                from_b.extend_from_slice(part.from_b.as_slice())?;
-            }
-            Err(failed) => return Err(*failed),
-        }
-    }
-    Ok(Merged {
-        keys,
-        from_a,
-        from_b,
-    })
 }

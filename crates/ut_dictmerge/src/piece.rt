@@ -75,7 +75,7 @@ pub fn write_piece(
     let to_b = to.b as usize;
     let mut i = from.a as usize;
     let mut j = from.b as usize;
-    let mut keys = KeyList::new(alloc);
+    let mut keys = KeyList::with_capacity(alloc, to_a - i + (to_b - j), 0)?;
     let mut from_a = Vec::with_capacity(alloc, to_a - i)?;
     let mut from_b = Vec::with_capacity(alloc, to_b - j)?;
     while i < to_a || j < to_b {

@@ -13,10 +13,10 @@ use Rattle.ut_plain.specs.declared.reply.Refusal.{Refusal}
 use Rattle.ut_plain.specs.declared.reply.Refusal.TheVariants as refusals
 use Rattle.ut_plain.specs.Journal.{journal_len, current}
 use Rattle.ut_plain.specs.Names.{has_table}
-use Rattle.ut_plain.specs.Plain.{Plain}
+use Rattle.ut_plain.specs.Plain.{Plain, Phase, Idle, Writing, Sealed}
 use Rattle.ut_plain.specs.declared.stage.PendingMerge.{PendingMerge}
-use Rattle.ut_plain.specs.Refusals.{state_why, merge_why, unless, or_else, refusal}
-use Rattle.ut_plain.specs.Step.{step, step_by, may_lack_memory, MayAnswer, Steps, LacksMemory}
+use Rattle.ut_plain.specs.Refusals.{state_why, merge_why, save_why, unless, or_else, refusal}
+use Rattle.ut_plain.specs.Step.{step, step_by, may_lack_memory, writes_savepoint, MayFault, MayAnswer, Steps, LacksMemory}
 use Rattle.ut_plain.specs.View as views
 use Rattle.ut_logged.specs.Logged.{Logged}
 use Rattle.ut_logged.specs.Readings.{HoldsPrefix}
@@ -49,16 +49,28 @@ no_merge_why-shape : (pending : Option PendingMerge) (name : List ℕ) → merge
 no_merge_why-shape None name = refl
 no_merge_why-shape (Some m) name = refl
 
-unknown_or-none : (there : Bool) (why also : Option Refusal) → why ≡ None → also ≡ None → or_else (unless there refusals.Name) (or_else why (or_else also None)) ≡ unless there refusals.Name
-unknown_or-none there why also none empty = (λ i. or_else (unless there refusals.Name) (or_else (none i) (or_else (empty i) None))) ∙ or_none (unless there refusals.Name)
+no_save_why-merge : (phase : Phase) (name : List ℕ) (n : ℕ) → save_why phase (statements.MergeL1 name n) ≡ None
+no_save_why-merge Idle name n = refl
+no_save_why-merge (Writing captured done pages image) name n = refl
+no_save_why-merge (Sealed captured pages image) name n = refl
+
+no_save_why-shape : (phase : Phase) (name : List ℕ) → save_why phase (statements.Shape name) ≡ None
+no_save_why-shape Idle name = refl
+no_save_why-shape (Writing captured done pages image) name = refl
+no_save_why-shape (Sealed captured pages image) name = refl
+
+unknown_or-none : (there : Bool) (why also more : Option Refusal) → why ≡ None → also ≡ None → more ≡ None → or_else (unless there refusals.Name) (or_else why (or_else also (or_else more None))) ≡ unless there refusals.Name
+unknown_or-none there why also more none empty nothing = (λ i. or_else (unless there refusals.Name) (or_else (none i) (or_else (empty i) (or_else (nothing i) None)))) ∙ or_none (unless there refusals.Name)
 
 -- the one refusal, memory left aside, is that of a table that isn't there
 refusal-stages : (v : views.View) (st : Statement) (name : List ℕ) → table_meant st ≡ Some name → refusal v st ≡ unless (has_table v.tables name) refusals.Name
 refusal-stages v (statements.MergeL1 table n) name is =
-    unknown_or-none (has_table v.tables table) (option_map refusals.State (state_why (is_some v.own) (statements.MergeL1 table n))) (option_map refusals.State (merge_why v.pending (statements.MergeL1 table n))) (ap (option_map refusals.State) (no_why-merge (is_some v.own) table n)) (ap (option_map refusals.State) (no_merge_why-merge v.pending table n))
+    unknown_or-none (has_table v.tables table) (option_map refusals.State (state_why (is_some v.own) (statements.MergeL1 table n))) (option_map refusals.State (merge_why v.pending (statements.MergeL1 table n))) (option_map refusals.State (save_why v.phase (statements.MergeL1 table n)))
+    (ap (option_map refusals.State) (no_why-merge (is_some v.own) table n)) (ap (option_map refusals.State) (no_merge_why-merge v.pending table n)) (ap (option_map refusals.State) (no_save_why-merge v.phase table n))
     ∙ ap (λ (o : Option (List ℕ)). unless (has_table v.tables (unwrap_or o table)) refusals.Name) is
 refusal-stages v (statements.Shape table) name is =
-    unknown_or-none (has_table v.tables table) (option_map refusals.State (state_why (is_some v.own) (statements.Shape table))) (option_map refusals.State (merge_why v.pending (statements.Shape table))) (ap (option_map refusals.State) (no_why-shape (is_some v.own) table)) (ap (option_map refusals.State) (no_merge_why-shape v.pending table))
+    unknown_or-none (has_table v.tables table) (option_map refusals.State (state_why (is_some v.own) (statements.Shape table))) (option_map refusals.State (merge_why v.pending (statements.Shape table))) (option_map refusals.State (save_why v.phase (statements.Shape table)))
+    (ap (option_map refusals.State) (no_why-shape (is_some v.own) table)) (ap (option_map refusals.State) (no_merge_why-shape v.pending table)) (ap (option_map refusals.State) (no_save_why-shape v.phase table))
     ∙ ap (λ (o : Option (List ℕ)). unless (has_table v.tables (unwrap_or o table)) refusals.Name) is
 refusal-stages v (statements.Create other columns) name is = cc
 refusal-stages v (statements.Insert other values) name is = cc
@@ -198,6 +210,17 @@ shape_there (Err e) reply table there is tells = tt
 
 -- ---- what a running store answers
 
+-- the disk is not called
+no-fault : (p : Plain) (st : Statement) (name : List ℕ) → table_meant st ≡ Some name → MayFault p 0 st → ⊥
+no-fault p st name is may = ⊎_elim (λ more. omega (arith, more, ap journal_len (step-keeps (refusal (views.view p 0) st) p st name is))) (λ writes. quiet st is writes) may.writes
+  where
+    quiet : (st : Statement) → table_meant st ≡ Some name → IsTrue (writes_savepoint st) → ⊥
+    quiet statements.SaveBegin is w = cc
+    quiet (statements.SaveStep n) is w = cc
+    quiet statements.SaveSeal is w = cc
+    quiet statements.SaveFlip is w = cc
+    quiet _ is w = cc
+
 -- A statement about the stages of a table is answered, whatever the disk does.
 pub stages_answered : (old new : Logged) (before after : View) (st : Statement) (reply : Reply) (name : List ℕ) (p : Plain) → Runs old before p → table_meant st ≡ Some name → Serves old before 0 st reply new after
     → (new.down ≡ false) × IsTrue (may_tell reply st (has_table old.store.tables name))
@@ -206,7 +229,7 @@ stages_answered old new before after st reply name p runs is serves = by_case (s
     by_case : IsAnswered p before 0 st reply new after ⊎ IsLost p before 0 st reply new after → (new.down ≡ false) × IsTrue (may_tell reply st (has_table old.store.tables name))
     by_case case = ⊎_elim
         (λ answered. (answered.runs.up, subst (λ (ts : List Table). IsTrue (may_tell reply st (has_table ts name))) (sym runs.stands.counts.tables) (may-tells p st reply answered.plain name is answered.may)))
-        (λ lost. absurd (omega (arith, lost.appends, ap journal_len (step-keeps (refusal (views.view p 0) st) p st name is))))
+        (λ lost. absurd (no-fault p st name is lost.may))
         case
 
 -- where memory was wanting before anything was done

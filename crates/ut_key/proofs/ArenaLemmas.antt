@@ -1,6 +1,7 @@
 -- What keys read from their bytes are.
-use Rattle.std.proofs.Common.{◌≡◌, ℕ, zero, suc, ◌+◌, ◌-◌, ◌<◌, ◌≤◌, List, [], ◌∷◌, ◌++◌, map, length, take, drop, get_or, refl, sym, ◌∙◌, ap, subst, arith}
+use Rattle.std.proofs.Common.{◌≡◌, ℕ, zero, suc, ◌+◌, ◌-◌, ◌<◌, ◌≤◌, List, [], ◌∷◌, ◌++◌, map, length, take, drop, get_or, refl, sym, ◌∙◌, ap, subst, arith, sum_by}
 use Rattle.std.proofs.lemmas.List.{length-take, length-drop, length-append, take_all, take-append-le, drop-append-le, drop-drop, drop_at, append_assoc, map-append, take_more}
+use Rattle.std.proofs.lemmas.List.Sums.{sum_by-cons}
 use Rattle.std.proofs.lemmas.List.Elements.{All-nil, All-cons}
 use Rattle.ut_key.specs.Arena.{keys_from, start_at, AreEnds}
 use Rattle.ut_key.specs.Keys.{AreShort}
@@ -33,6 +34,17 @@ AreShort-keys_from start [] bytes h = All-nil (λ (key : List ℕ). length key �
 AreShort-keys_from start (e ∷ es) bytes h =
     All-cons (λ (key : List ℕ). length key ≤ 255) (take (e - start) (drop start bytes)) (keys_from e es bytes)
     (omega (arith, h.1, length-take (e - start) (drop start bytes))) (AreShort-keys_from e es bytes h.2)
+
+-- the bytes of all keys, end to end
+pub bytes-keys_from : (start : ℕ) (ends bytes : List ℕ) → AreEnds start ends (length bytes) → sum_by (λ key. length key) (keys_from start ends bytes) ≡ length bytes - start
+bytes-keys_from start [] bytes h = omega (arith, h)
+bytes-keys_from start (e ∷ es) bytes h =
+    let rest = bytes-keys_from e es bytes h.2 in
+    let first = length-take (e - start) (drop start bytes) in
+    let size = length-drop start bytes in
+    let within = start_within e es (length bytes) h.2 in
+    let both = sum_by-cons (λ (key : List ℕ). length key) (take (e - start) (drop start bytes)) (keys_from e es bytes) in
+    omega (arith, rest, first, size, within, both, h.0)
 
 -- the place behind each key, where the keys begin at by
 abbrev pub shifted : ℕ → List ℕ → List ℕ

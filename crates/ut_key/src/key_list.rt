@@ -1,5 +1,5 @@
 //! A list of keys as an arena: all their bytes behind one another, and the place behind each key.
-ghost use Rattle.std.specs.Prelude.{◌≡◌, ◌+◌, ◌<◌, ◌≤◌, ◌++◌, ◌∷◌, [], length, slice_index_or, IfOk, IsTrue, OnOk, OnErr, ◌↔◌};
+ghost use Rattle.std.specs.Prelude.{◌≡◌, ◌+◌, ◌<◌, ◌≤◌, ◌++◌, ◌∷◌, [], length, slice_index_or, IfOk, IsTrue, OnOk, OnErr, ◌↔◌, sum_by};
 ghost use Rattle.ut_key.specs.Arena.{AreEnds, keys_from, start_at};
 ghost use Rattle.ut_key.specs.Keys.{AreShort, IsAscending, key_cmp};
 
@@ -72,6 +72,13 @@ impl KeyList {
         ensures short { AreShort self.now }
     {
         self.ends.as_slice().len()
+    }
+
+    /// How many bytes the keys have together.
+    pub fn byte_len(&self) -> usize
+        ensures { result ≡ sum_by (λ key. length key) self.now }
+    {
+        self.bytes.as_slice().len()
     }
 
     /// The bytes of key `i`.

@@ -1,6 +1,6 @@
 -- What the files of a store hold while it is made, and when it is opened.
 use Rattle.std.proofs.Common.{◌≡◌, ◌≢◌, ◌⊎◌, inl, inr, ⊎_elim, ℕ, ◌+◌, ◌*◌, ◌≤◌, false, List, [], length, refl, sym, ◌∙◌, ap, subst, arith, IsTrue}
-use Rattle.std.specs.Prelude.{⊤}
+use Rattle.std.specs.Prelude.{⊤, ◌↔◌, Bool, true}
 use Rattle.ut_outside.specs.declared.disk.Which.{Which}
 use Rattle.ut_outside.specs.declared.disk.Which.TheVariants.{Redo, Pages}
 use Rattle.ut_outside.specs.Disk.{Image, View, IsTold, Others, content}
@@ -19,13 +19,13 @@ use Rattle.ut_restart.specs.declared.error.RestartError.{RestartError}
 use Rattle.ut_restart.specs.declared.error.RestartError.TheVariants as restart_errors
 use Rattle.ut_value.specs.declared.entry.Entry.{Entry}
 use Rattle.ut_plain.specs.State.{State}
-use Rattle.ut_plain.specs.Plain.{new_store}
+use Rattle.ut_plain.specs.Plain.{new_store, no_savepoint}
 use Rattle.ut_plain.specs.Reached.{MayOpen}
 use Rattle.ut_store.specs.Stands.{StandsFor}
 use Rattle.ut_store.specs.Standing.{journal_of, Reopened}
 use Rattle.ut_plain.specs.Journal.{Journal, empty_journal}
 use Rattle.ut_logged.specs.Readings.{log_start, IsReading, HoldsJournal}
-use Rattle.ut_logged.specs.Runs.{Runs, Opens, NotMadeOrEmpty}
+use Rattle.ut_logged.specs.Runs.{Runs, IsNew, Opens, NotMadeOrEmpty}
 use Rattle.ut_logged.specs.Logged.{Logged}
 use Rattle.ut_logged.specs.Opening.{of_redo, of_restart}
 use Rattle.ut_logged.specs.declared.error.OpenError.TheVariants as opening
@@ -74,9 +74,14 @@ unmade_pages v0 v1 v2 v3 none reads log empty pages =
     each : (c : Image) → ComesFrom v2 Pages (λ _ c. (IsMade c → ⊥) ⊎ (c ≡ made_pages)) c → NotMadeOrEmpty c
     each c from = ⊎_elim (λ not. inl not) (λ is. inr (record { end = log_start; reading = empty_reading from.0 c (empty from.0 from.1).3 from.2 is })) from.3
 
+-- files that aren't made, as was asked
+pub unmade_by : (b : Bool) (v : View) → b ≡ false → (IsTold v → (IsTrue b ↔ IsMade v.seen.pages)) → IsTold v → IsMade v.seen.pages → ⊥
+unmade_by true v e asked told made = cc
+unmade_by false v e asked told made = let t : IsTrue false = (asked told).1 made in cc
+
 -- a store that was made runs
-pub new_runs : (v1 v2 v3 : View) (e : Logged) (rows : ℕ) → e.down ≡ false → StandsFor e.store (new_store rows) → e.log ≡ log_start → v2.told ≡ v1.told → v3.told ≡ v2.told → (IsTold v1 → EmptyLog v1 v2) → (IsTold v2 → Always v3 (ComesFrom v2 Pages (λ _ c. c ≡ made_pages)))
-    → Runs e v3 (new_store rows)
+pub new_runs : (v1 v2 v3 : View) (e : Logged) (rows : ℕ) → e.down ≡ false → StandsFor e.store (new_store no_savepoint rows) → e.log ≡ log_start → v2.told ≡ v1.told → v3.told ≡ v2.told → (IsTold v1 → EmptyLog v1 v2) → (IsTold v2 → Always v3 (ComesFrom v2 Pages (λ _ c. c ≡ made_pages)))
+    → Runs e v3 (new_store no_savepoint rows)
 new_runs v1 v2 v3 e rows up stands is told12 told23 empty pages =
     record {
       up = up;
@@ -94,6 +99,14 @@ new_runs v1 v2 v3 e rows up stands is told12 told23 empty pages =
         let told1 : IsTold v1 = subst IsTrue told12 told2 in
         let from = pages told2 c left in
         empty_reading from.0 c (empty told1 from.0 from.1).3 from.2 from.3
+
+pub is_new : (v0 v1 v2 v3 : View) (e : Logged) (rows : ℕ) → ReadsOnly v0 v1 → (IsTold v0 → IsMade v0.seen.pages → ⊥) → e.down ≡ false → StandsFor e.store (new_store no_savepoint rows) → e.log ≡ log_start → v2.told ≡ v1.told → v3.told ≡ v2.told → (IsTold v1 → EmptyLog v1 v2)
+    → (IsTold v2 → Always v3 (ComesFrom v2 Pages (λ _ c. c ≡ made_pages))) → IsNew e rows v0 v3
+is_new v0 v1 v2 v3 e rows read unmade up stands is told12 told23 empty pages = record {
+  runs = new_runs v1 v2 v3 e rows up stands is told12 told23 empty pages;
+  unmade = unmade;
+  pages = λ told c left. (pages (subst IsTrue (sym told12) (subst IsTrue (sym read.told) told)) c left).3;
+}
 
 -- ---- a store that is opened
 
@@ -122,7 +135,7 @@ opened v0 v1 v2 v3 e entries rows r up reopened file short made holds = record {
   journal = journal_of entries;
   runs = record {
     up = up;
-    stands = reopened.stands;
+    stands = reopened.stands no_savepoint.image_pages;
     base = refl;
     held = reads;
     file = file;

@@ -4,7 +4,7 @@ use Rattle.ut_value.specs.declared.entry.Entry.{Entry}
 use Rattle.ut_value.specs.Spelling.{has_spelling}
 use Rattle.ut_plain.specs.State.{State, empty_state, after, can, suits}
 use Rattle.ut_plain.specs.Journal.{Journal, empty_journal, can_all, journal_len, prefix, appended, IsJournal}
-use Rattle.ut_plain.specs.Plain.{Plain, new_store}
+use Rattle.ut_plain.specs.Plain.{Plain, new_store, no_savepoint}
 use Rattle.ut_plain.specs.Reached.{IsPlain, MayOpen}
 use Rattle.ut_plain.proofs.BoolLemmas.{and_left, and_right}
 use Rattle.ut_plain.proofs.ListLemmas.{take_within, take_whole}
@@ -24,7 +24,7 @@ may_open p h base = record {
 }
 
 pub may_open_new : MayOpen [] empty_journal
-may_open_new = may_open (new_store 0) (IsPlain-new 0 (omega arith)) refl
+may_open_new = may_open (new_store no_savepoint 0) (IsPlain-new no_savepoint.image_pages 0 (omega arith)) refl
 
 -- all of a journal
 pub prefix_all : (j : Journal) → prefix j (journal_len j) ≡ j

@@ -13,12 +13,12 @@ use Rattle.ut_plain.specs.declared.reply.Reply.{Reply}
 use Rattle.ut_plain.specs.declared.reply.Reply.TheVariants.{DiskFault}
 use Rattle.ut_plain.specs.declared.reply.Refusal.{Refusal}
 use Rattle.ut_plain.specs.Journal.{journal_len, appended}
-use Rattle.ut_plain.specs.Plain.{Plain, open_at}
+use Rattle.ut_plain.specs.Plain.{Plain, Phase, Idle, Writing, Sealed, open_at}
 use Rattle.ut_plain.specs.View.{view}
 use Rattle.ut_plain.specs.Query.{told}
 use Rattle.ut_plain.specs.Refusals.{refusal}
 use Rattle.ut_plain.specs.declared.stage.PendingMerge.{PendingMerge}
-use Rattle.ut_plain.specs.Step.{step, step_by, effect_of, merge_ended, said_alone, said_changed, committed, committed_by, MayAnswer, Steps, LacksMemory}
+use Rattle.ut_plain.specs.Step.{step, step_by, effect_of, merge_ended, save_written, save_sealed, save_flipped, said_alone, said_changed, committed, committed_by, MayAnswer, Steps, LacksMemory}
 use Rattle.ut_plain.proofs.JournalLaws.{journal_len-appended}
 
 alone_sound : (commits rows : ℕ) → said_alone commits rows ≡ DiskFault → ⊥
@@ -50,6 +50,21 @@ ended_sound : (p : Plain) (pending : Option PendingMerge) → (merge_ended p pen
 ended_sound p None e = cc
 ended_sound p (Some m) e = cc
 
+written_sound : (p : Plain) (n : ℕ) (phase : Phase) → (save_written p n phase).reply ≡ DiskFault → ⊥
+written_sound p n Idle e = cc
+written_sound p n (Writing captured done pages image) e = cc
+written_sound p n (Sealed captured pages image) e = cc
+
+sealed_sound : (p : Plain) (phase : Phase) → (save_sealed p phase).reply ≡ DiskFault → ⊥
+sealed_sound p Idle e = cc
+sealed_sound p (Writing captured done pages image) e = cc
+sealed_sound p (Sealed captured pages image) e = cc
+
+flipped_sound : (p : Plain) (phase : Phase) → (save_flipped p phase).reply ≡ DiskFault → ⊥
+flipped_sound p Idle e = cc
+flipped_sound p (Writing captured done pages image) e = cc
+flipped_sound p (Sealed captured pages image) e = cc
+
 effect_sound : (p : Plain) (session : ℕ) (st : Statement) → (effect_of p session st).reply ≡ DiskFault → ⊥
 effect_sound p session (statements.Create name columns) e = cc
 effect_sound p session (statements.Insert name values) e = changed_sound (view p session).own _ _ e
@@ -64,9 +79,9 @@ effect_sound p session (statements.MergeL1 name n) e = cc
 effect_sound p session (statements.MergeBegin name kind) e = cc
 effect_sound p session statements.MergeEnd e = ended_sound p p.pending e
 effect_sound p session statements.SaveBegin e = cc
-effect_sound p session (statements.SaveStep n) e = cc
-effect_sound p session statements.SaveSeal e = cc
-effect_sound p session statements.SaveFlip e = cc
+effect_sound p session (statements.SaveStep n) e = written_sound p n p.phase e
+effect_sound p session statements.SaveSeal e = sealed_sound p p.phase e
+effect_sound p session statements.SaveFlip e = flipped_sound p p.phase e
 effect_sound p session statements.SaveDrop e = cc
 effect_sound p session (statements.Shape name) e = cc
 

@@ -22,6 +22,7 @@ use Rattle.ut_plain.specs.declared.statement.Statement.{Statement}
 use Rattle.ut_plain.specs.declared.reply.Reply.{Reply}
 use Rattle.ut_plain.specs.declared.reply.Reply.TheVariants.{DiskFault}
 use Rattle.ut_plain.proofs.JournalLaws.{journal_len-appended}
+use Rattle.ut_plain.proofs.TranscriptLaws.{fault-appends}
 use Rattle.ut_store.specs.declared.turn.Turn.TheVariants.{Answered, Append}
 use Rattle.ut_store.specs.Held.{Held}
 use Rattle.ut_store.specs.Stands.{StandsFor}
@@ -183,7 +184,7 @@ fails old new store before after p session st reply runs answer down moments =
     record {
       fault = refl;
       down = down;
-      appends = omega (arith, journal_len-appended p.journal entry, ap journal_len next, ap (λ (x : Plain). journal_len x.journal) same);
+      may = fault-appends p session st (omega (arith, journal_len-appended p.journal entry, ap journal_len next, ap (λ (x : Plain). journal_len x.journal) same));
       any_moment = λ told. subst (λ (x : Plain). LeavesOnly before after (HoldsPrefix x.journal (journal_len p.journal))) same
           (append_leaves old before after p answer.after entry runs plain next (behind old.log store.frame).end told (moments entry spelled told));
     }

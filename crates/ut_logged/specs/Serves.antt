@@ -1,5 +1,5 @@
 -- What a statement does to a running store and to its files.
-use Rattle.std.specs.Prelude.{ℕ, ◌≡◌, ◌≤◌, ◌<◌, ◌⊎◌, true}
+use Rattle.std.specs.Prelude.{ℕ, ◌≡◌, ◌≤◌, ◌⊎◌, true}
 use Rattle.ut_outside.specs.Disk.{View, IsTold}
 use Rattle.ut_outside.specs.Faults.{Rose}
 use Rattle.ut_outside.specs.Run.{LeavesOnly}
@@ -8,7 +8,7 @@ use Rattle.ut_plain.specs.declared.reply.Reply.{Reply}
 use Rattle.ut_plain.specs.declared.reply.Reply.TheVariants.{DiskFault}
 use Rattle.ut_plain.specs.Journal.{journal_len}
 use Rattle.ut_plain.specs.Plain.{Plain}
-use Rattle.ut_plain.specs.Step.{step, MayAnswer}
+use Rattle.ut_plain.specs.Step.{step, MayAnswer, MayFault}
 use Rattle.ut_logged.specs.Logged.{Logged}
 use Rattle.ut_logged.specs.Readings.{HoldsPrefix}
 use Rattle.ut_logged.specs.Runs.{Runs}
@@ -21,11 +21,11 @@ pub record IsAnswered (p : Plain) (before : View) (session : ℕ) (st : Statemen
   pub sound : reply ≡ DiskFault → ⊥
   pub any_moment : IsTold before → LeavesOnly before after (HoldsPrefix plain.journal (journal_len p.journal))
 
--- Or the disk failed: the statement isn't refused and appends an entry, and the store is down. A crash at any moment leaves all that was there, with that entry or without it.
+-- Or the disk failed, where it may, and the store is down. A crash at any moment leaves all that was there, with that entry or without it.
 pub record IsLost (p : Plain) (before : View) (session : ℕ) (st : Statement) (reply : Reply) (new : Logged) (after : View) : Type 0 where
   pub fault : reply ≡ DiskFault
   pub down : new.down ≡ true
-  pub appends : journal_len p.journal < journal_len (step p session st).plain.journal
+  pub may : MayFault p session st
   pub any_moment : IsTold before → LeavesOnly before after (HoldsPrefix (step p session st).plain.journal (journal_len p.journal))
 
 -- What a statement does, whatever plain state the store ran from.

@@ -1,3 +1,5 @@
 pub mod FirstSeenLemmas
 pub mod HeldLemmas
 pub mod PostingLemmas
+mod WordLemmas
+mod OrderLemmas

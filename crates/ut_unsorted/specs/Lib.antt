@@ -1,3 +1,4 @@
+pub mod Coded
 pub mod FirstSeen
 pub mod Hashed
 pub mod HeldKeys

@@ -1,10 +1,13 @@
 //! The dictionary of a column that grows: different keys, each with its place as its code.
 ghost use Rattle.std.specs.Prelude.{◌≡◌, ◌+◌, ◌^◌, ◌<◌, ◌≤◌, [], length, take, slice_index_or, position, IfOk, OnOk, OnErr};
-ghost use Rattle.std.specs.List.{position_or_len};
-ghost use Rattle.ut_unsorted.specs.FirstSeen.{key_eq, note};
+ghost use Rattle.std.specs.List.{position_or_len, range_with_len};
+ghost use Rattle.std.specs.List.Sorted.{IsPermutation};
+ghost use Rattle.ut_key.specs.Keys.{IsAscending};
+ghost use Rattle.ut_unsorted.specs.FirstSeen.{key_eq, note, keys_at};
 
 use crate::held::{Held, intern_text, intern_word, text_code, texts_of, word_code};
 use crate::key::Word;
+use crate::order::{order_texts, order_words};
 use indexmap::IndexSet;
 use std::alloc::{AllocError, Global};
 use std::marker::Model;
@@ -101,6 +104,18 @@ impl UnsortedDict {
     {
         steps.tick();
         Key::from_slice(self.bytes(code))
+    }
+
+    /// The codes in the order of their keys. No key is copied.
+    pub fn order(&self, alloc: Global) -> Result<Vec<u32>, AllocError>
+        requires { length self.now < 2 ^ 32 }
+        ensures all { IfOk result (λ codes. IsPermutation (range_with_len 0 (length self.now)) codes.items) }
+        ensures ascending { IfOk result (λ codes. IsAscending (keys_at self.now codes.items)) }
+    {
+        match &self.held {
+            Held::Words(words) => order_words(alloc, words.as_slice()),
+            Held::Texts(texts) => order_texts(alloc, texts.as_slice()),
+        }
     }
 
     /// Keeps the first n keys.

@@ -1,5 +1,6 @@
 //! The keys that a dictionary holds and looks up. A hasher is fed all the bytes of a key at once.
 ghost use Rattle.std.specs.Prelude.{◌≡◌, ◌≤◌, length, IfOk};
+ghost use Rattle.std.specs.Int.{to_be_bytes, w64};
 ghost use Rattle.std.specs.Cmp.{partial_equiv_from_equiv};
 ghost use Rattle.std.specs.Cmp.Lexicographic.{nat_list_eq_equiv};
 ghost use Rattle.ut_unsorted.specs.FirstSeen.{key_eq};
@@ -46,6 +47,19 @@ impl Word {
     {
         &self.bytes[..]
     }
+
+    /// The number that the bytes spell, the highest first.
+    pub fn number(&self) -> u64
+        ensures { to_be_bytes w64 result ≡ self.now }
+    {
+        number_of(self.bytes)
+    }
+}
+
+fn number_of(bytes: [u8; 8]) -> u64
+    ensures { to_be_bytes w64 result ≡ bytes }
+{
+    u64::from_be_bytes(bytes)
 }
 
 /// A key of at most 255 bytes. Up to 24 take no allocation.

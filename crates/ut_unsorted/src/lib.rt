@@ -4,7 +4,11 @@
 mod dictionary;
 mod held;
 mod key;
+mod order;
 mod postings;
 
 pub use dictionary::UnsortedDict;
 pub use postings::Postings;
+
+#[cfg(test)]
+mod tests;

@@ -1,0 +1,13 @@
+//! The script of the benchmark: statements that fill two tables, merge, save and ask, drawn from a seed.
+#![tactic(auto)]
+
+mod draws;
+mod fixed;
+mod numbers;
+mod plan;
+mod rows;
+mod script;
+#[cfg(test)]
+mod tests;
+
+pub use script::{Script, script_len, script_line};

@@ -1,0 +1,7 @@
+use Rattle.std.proofs.Common.{◌≡◌, ◌≤◌, map, All}
+use Rattle.std.specs.List.{range_with_len}
+use Rattle.ut_unsorted.specs.Coded.{IsCoded}
+use Rattle.ut_unsorted.proofs.order.coded_words.Given as goal
+
+abbrev pub invariant-loop-code : goal.invariant-loop-code
+invariant-loop-code l = (l.code ≤ l.code-end) × (map (λ p. p.code) l.all.items ≡ range_with_len 0 l.code) × All (IsCoded l.words) l.all.items
