@@ -83,6 +83,10 @@ fn a_made_file_has_an_empty_root_and_no_pages(rt: HostRuntime) -> Result<(), Fai
 fn a_savepoint_writes_a_page_a_root_and_the_selector(rt: HostRuntime) -> Result<(), Fail> {
     let alloc = rt.alloc();
     let (mut disk, pages) = made(alloc)?;
+    let Some(free) = pages.free_pages(alloc, 1)? else {
+        panic!(rt; "no free page")
+    };
+    assert_eq!(rt; free.as_slice(), [3].as_slice());
     pages.put_page(&mut disk, 3, 0, b"image")?;
     let bytes = disk.bytes(Which::Pages);
     assert!(rt; bytes.len() == 16384);

@@ -1,0 +1,9 @@
+pub mod BeginLemmas
+pub mod CallLemmas
+pub mod ImageLemmas
+pub mod JournalLemmas
+pub mod OpenLemmas
+pub mod PlaceLemmas
+pub mod RestLemmas
+pub mod PlanLemmas
+pub mod SavingLemmas

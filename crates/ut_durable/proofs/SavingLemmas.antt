@@ -1,0 +1,170 @@
+-- What each call does to all that a store knows of its files.
+use Rattle.std.proofs.Common.{◌≡◌, ◌≢◌, ℕ, suc, ◌+◌, ◌≤◌, ◌<◌, Bool, true, false, List, [], ◌∷◌, ◌++◌, length, take, Option, None, Some, refl, sym, ◌∙◌, ap, subst, arith}
+use Rattle.std.specs.Prelude.{IsTrue, Contains, slice_get}
+use Rattle.std.specs.List.{AllByRecursion}
+use Rattle.std.proofs.lemmas.List.{take_all}
+use Rattle.ut_value.specs.declared.entry.Entry.{Entry}
+use Rattle.ut_outside.specs.declared.disk.Which.{Which}
+use Rattle.ut_outside.specs.declared.disk.Which.TheVariants.{Pages}
+use Rattle.ut_outside.specs.Disk.{Image, View, IsTold, OnFile, Others, content}
+use Rattle.ut_outside.specs.Run.{Always}
+use Rattle.ut_plain.specs.Journal.{Journal, journal_len, appended, part}
+use Rattle.ut_plain.specs.Reached.{MayOpen}
+use Rattle.ut_plain.specs.Capture.{Directory}
+use Rattle.ut_plain.specs.Plain.{Phase}
+use Rattle.ut_plain.specs.Plain.{Idle, Writing, Sealed}
+use Rattle.ut_redo.specs.Appends.{Place, IsClosedAt}
+use Rattle.ut_redo.specs.Logs.{IsLogFile, other_log}
+use Rattle.ut_redo.proofs.LogLemmas.{other_differs}
+use Rattle.ut_pages.specs.declared.slot.Slot.{Slot}
+use Rattle.ut_pages.specs.declared.root.Root.{Root}
+use Rattle.ut_pages.specs.Layout.{HasPage, other}
+use Rattle.ut_pages.specs.Crash.{ChangesOnly}
+use Rattle.ut_durable.specs.Journals.{place_of}
+use Rattle.ut_durable.specs.Files.{IsImageOf, IsStaged, LogBehind}
+use Rattle.ut_durable.specs.Calls.{Held, IsSettled, IsRested, IsFollowed, IsReady}
+use Rattle.ut_durable.specs.Saving.{Planned, IsWritten, Saving, IsPlan, IsWriting, IsWaiting, IsSaving, IsStored}
+use Rattle.ut_durable.proofs.PlaceLemmas.{is_log}
+use Rattle.ut_durable.proofs.RestLemmas.{image_of_more, captured_now}
+use Rattle.ut_durable.proofs.PlanLemmas.{still_written, earlier_apart, taken_more, all_push}
+
+-- the other files are as they were, and so what was written of pages
+written_still : (s : Saving) (v0 v1 : View) → v1.told ≡ v0.told → (IsTold v0 → content Pages v1.seen ≡ content Pages v0.seen) → (IsTold v0 → AllByRecursion (IsWritten v0.seen.pages) (take s.done s.planned)) → IsTold v1 → AllByRecursion (IsWritten v1.seen.pages) (take s.done s.planned)
+written_still s v0 v1 same pages written later =
+    let told : IsTold v0 = subst IsTrue same later in
+    subst (λ (file : List ℕ). AllByRecursion (IsWritten file) (take s.done s.planned)) (sym (pages told)) (written told)
+
+-- ---- an append
+
+module _ (j : Journal) (e : Entry) (f f' : Held) (selected : Root) (d : Directory) (v0 v1 : View) (file : f'.log.file ≡ f.log.file) (slot : f'.slot ≡ f.slot) (reached : f'.reached ≡ f.reached)
+    (same : v1.told ≡ v0.told) (pages : IsTold v0 → content Pages v1.seen ≡ content Pages v0.seen)
+    (may : (root : Root) (c : Directory) → IsImageOf j root c → (n : ℕ) → root.length ≤ n → n ≤ journal_len (appended j e) → MayOpen c.stages (part (appended j e) root.length n))
+    (rests : (root : Root) (c : Directory) → IsImageOf j root c → IsRested j root c f v0 → IsRested (appended j e) root c f' v1)
+    (captured : (root : Root) → root.length ≤ journal_len j → IsFollowed j root f v0 → IsFollowed (appended j e) root f' v1)
+    (ready : (root : Root) (pages : List ℕ) (c : Directory) → IsImageOf j root c → IsReady j (other f.slot) pages root c f v0 → IsReady (appended j e) (other f.slot) pages root c f' v1) where
+  more : (root : Root) (c : Directory) → IsImageOf j root c → IsImageOf (appended j e) root c
+  more root c of = image_of_more j e root c of (may root c of)
+
+  pub saving_appended : (saving : Option Saving) (phase : Phase) → IsSaving j f selected v0 saving phase → IsSaving (appended j e) f' selected v1 saving phase
+  saving_appended None Idle is = tt
+  saving_appended None (Writing b p q c) is = is
+  saving_appended None (Sealed b q c) is = is
+  saving_appended (Some s) Idle is = is
+  saving_appended (Some s) (Writing b p q c) is = record {
+    captured = is.captured;
+    done = is.done;
+    pages = is.pages;
+    unsealed = is.unsealed;
+    few = is.few;
+    version = is.version;
+    image = more s.root c is.image;
+    apart = λ same_file. is.apart (sym file ∙ same_file);
+    log = captured s.root is.image.within is.log;
+    plan = subst (λ (l : List ℕ). IsPlan s.planned l s.reached s.root c) (sym reached) is.plan;
+    written = written_still s v0 v1 same pages is.written;
+  }
+  saving_appended (Some s) (Sealed b q c) is = record {
+    captured = is.captured;
+    pages = is.pages;
+    sealed = is.sealed;
+    image = more s.root c is.image;
+    apart = λ same_file. is.apart (sym file ∙ same_file);
+    ready = subst (λ (k : Slot). IsReady (appended j e) (other k) s.reached s.root c f' v1) (sym slot) (ready s.root s.reached c is.image is.ready);
+  }
+
+  pub stored_appended : (saving : Option Saving) (phase : Phase) → IsStored j f selected d saving phase v0 → IsStored (appended j e) f' selected d saving phase v1
+  stored_appended saving phase stored = record { image = more selected d stored.image; rests = rests selected d stored.image stored.rests; under_way = saving_appended saving phase stored.under_way }
+
+-- ---- a savepoint begins
+
+-- the log has moved off the selected root's file, or stood in the other one before
+pub stored_begun : (j : Journal) (f : Held) (selected : Root) (d : Directory) (s : Saving) (c : Directory) (v : View) → IsImageOf j selected d → IsRested j selected d f v → IsSettled f v
+    → IsImageOf j s.root c → s.root.length ≡ journal_len j → place_of s.root ≡ f.log → s.root.version ≡ 2 → f.log.file ≢ (place_of selected).file → s.sealed ≡ false → s.done ≡ 0 → IsPlan s.planned f.reached s.reached s.root c
+    → IsStored j f selected d (Some s) (Writing (journal_len j) 0 (length s.planned) c) v
+stored_begun j f selected d s c v image rests settled of whole here version apart unsealed none plan = record {
+  image = image;
+  rests = rests;
+  under_way = record {
+    captured = sym whole;
+    done = sym none;
+    pages = refl;
+    unsealed = unsealed;
+    few = omega (arith, none);
+    version = version;
+    image = of;
+    apart = apart;
+    log = λ told image' left. captured_now j s.root f.log image' (omega (arith, whole)) here (settled told image' left).0;
+    plan = plan;
+    written = λ told. subst (λ (n : ℕ). AllByRecursion (IsWritten v.seen.pages) (take n s.planned)) (sym none) tt;
+  };
+}
+
+-- after a switch it has
+pub switched_differs : (f : Held) (selected : Root) → f.log.file ≡ (place_of selected).file → other_log f.log.file ≢ (place_of selected).file
+switched_differs f selected same is = other_differs f.log.file (subst IsLogFile (sym same) (is_log selected.file)) (same ∙ sym is)
+
+-- ---- a page
+
+pub stored_step : (j : Journal) (f : Held) (selected : Root) (d : Directory) (s : Saving) (b n q : ℕ) (c : Directory) (p : Planned) (v0 v1 : View) → slice_get s.planned s.done ≡ Some p → s.done < length s.planned → v1.told ≡ v0.told
+    → (IsRested j selected d f v0 → IsRested j selected d f v1) → (IsFollowed j s.root f v0 → IsFollowed j s.root f v1)
+    → (IsTold v0 → HasPage p.n p.next p.payload v1.seen.pages) → (IsTold v0 → OnFile Pages (ChangesOnly p.n (length v0.seen.pages)) v0.seen v1.seen)
+    → IsStored j f selected d (Some s) (Writing b n q c) v0 → IsStored j f selected d (Some (record s { done = s.done + 1 })) (Writing b (n + 1) q c) v1
+stored_step j f selected d s b n q c p v0 v1 next more same rests captured here others stored =
+    let w = stored.under_way in
+    record {
+      image = stored.image;
+      rests = rests stored.rests;
+      under_way = record {
+        captured = w.captured;
+        done = omega (arith, w.done);
+        pages = w.pages;
+        unsealed = w.unsealed;
+        few = omega (arith, more);
+        version = w.version;
+        image = w.image;
+        apart = w.apart;
+        log = captured w.log;
+        plan = w.plan;
+        written = λ later.
+            let told : IsTold v0 = subst IsTrue same later in
+            let before = still_written (take s.done s.planned) p.n v0.seen.pages v1.seen.pages (earlier_apart s.planned s.done p next w.plan.apart) (others told).0 (w.written told) in
+            let both = all_push (IsWritten v1.seen.pages) (take s.done s.planned) p before (here told) in
+            let next_is : s.done + 1 ≡ suc s.done = omega arith in
+            let is : take (s.done + 1) s.planned ≡ take s.done s.planned ++ p ∷ [] = ap (λ (k : ℕ). take k s.planned) next_is ∙ taken_more s.planned s.done p next in
+            subst (AllByRecursion (IsWritten v1.seen.pages)) (sym is) both;
+      };
+    }
+
+-- ---- the root
+
+pub stored_sealed : (j : Journal) (f : Held) (selected : Root) (d : Directory) (s : Saving) (b n q : ℕ) (c : Directory) (v0 v1 : View) → s.done ≡ length s.planned
+    → (IsRested j selected d f v0 → IsRested j selected d f v1)
+    → ((IsTold v0 → IsStaged s.reached s.root c v0.seen.pages) → IsFollowed j s.root f v0 → IsReady j (other f.slot) s.reached s.root c f v1)
+    → IsStored j f selected d (Some s) (Writing b n q c) v0 → IsStored j f selected d (Some (record s { sealed = true })) (Sealed b q c) v1
+stored_sealed j f selected d s b n q c v0 v1 all rests ready stored =
+    let w = stored.under_way in
+    record {
+      image = stored.image;
+      rests = rests stored.rests;
+      under_way = record {
+        captured = w.captured;
+        pages = w.pages;
+        sealed = refl;
+        image = w.image;
+        apart = w.apart;
+        ready = ready (λ told. w.plan.staged v0.seen.pages (subst (AllByRecursion (IsWritten v0.seen.pages)) (take_all s.done s.planned (omega (arith, all))) (w.written told))) w.log;
+      };
+    }
+
+-- ---- the flip
+
+pub stored_flipped : (j : Journal) (f f' : Held) (selected : Root) (d : Directory) (s : Saving) (b q : ℕ) (c : Directory) (v0 v1 : View)
+    → (IsRested j selected d f v0 → IsReady j (other f.slot) s.reached s.root c f v0 → IsRested j s.root c f' v1)
+    → IsStored j f selected d (Some s) (Sealed b q c) v0 → IsStored j f' s.root c None Idle v1
+stored_flipped j f f' selected d s b q c v0 v1 flip stored =
+    let w = stored.under_way in record { image = w.image; rests = flip stored.rests w.ready; under_way = tt }
+
+-- ---- it is dropped
+
+pub stored_dropped : (j : Journal) (f : Held) (selected : Root) (d : Directory) (saving : Option Saving) (phase : Phase) (v : View) → IsStored j f selected d saving phase v → IsStored j f selected d None Idle v
+stored_dropped j f selected d saving phase v stored = record { image = stored.image; rests = stored.rests; under_way = tt }

@@ -1,0 +1,9 @@
+pub mod Parts
+pub mod Bytes
+pub mod Calls
+pub mod Directories
+pub mod Images
+pub mod Journals
+pub mod Files
+pub mod Saving
+pub mod Plans

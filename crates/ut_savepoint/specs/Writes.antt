@@ -1,0 +1,11 @@
+-- Pages in memory as those that are to be written.
+use Rattle.std.specs.Prelude.{ℕ, List, [], ◌∷◌}
+use Rattle.ut_durable.specs.Saving.{Planned}
+use Rattle.ut_savepoint.specs.declared.cut.PageWrite.{PageWrite}
+
+abbrev pub planned_write : PageWrite → Planned
+planned_write write = record { n = write.page; next = write.next; payload = write.bytes.items }
+
+abbrev pub planned_in : List PageWrite → List Planned
+planned_in [] = []
+planned_in (write ∷ writes) = planned_write write ∷ planned_in writes
