@@ -1,0 +1,13 @@
+use Rattle.std.proofs.Common.{◌≡◌}
+use Rattle.ut_files.specs.Deeds.{IsMaking}
+use Rattle.ut_files.proofs.StandingLemmas.{stands_noted, did_last}
+use Rattle.ut_files.proofs.files.StoreFiles.cut.Goals as goal
+
+pub invariant_of-self : goal.invariant_of-self
+invariant_of-self g c = stands_noted _ _ c.cut.result _ _ _ _ c.cut.ensures (λ x file is. tt) c.self.invariant
+
+pub returns : goal.returns
+returns g c = record {
+  does = did_last c.args.file (IsMaking c.args.file) _ _ _ _ c.cut.result _ _ (c.args.len ≡ 0) c.in_ok-reach_or_make.ensures.makes
+      c.in_ok-reach_or_make.ensures.named c.self.view_is c.cut.ensures tt;
+}
