@@ -4,9 +4,10 @@ use Rattle.std.specs.List.{All}
 use Rattle.std.proofs.lemmas.List.{append-nil}
 use Rattle.std.proofs.lemmas.List.Elements.{All-nil, All-append, All-push}
 use Rattle.ut_outside.specs.declared.disk.Which.{Which}
+use Rattle.ut_outside.specs.declared.disk.Which.TheVariants.{Pages}
 use Rattle.ut_files.specs.declared.folder.Deed.{Deed}
 use Rattle.ut_files.specs.declared.folder.Deed.TheVariants as deeds
-use Rattle.ut_files.specs.Deeds.{Done, behind, Adds, Since, Any, AreFilled, IsReady, KeepsName, IsNamed, Grows, Ends}
+use Rattle.ut_files.specs.Deeds.{Done, behind, Adds, Since, Any, AreFilled, IsHeld, IsMissing, KeepsName, IsNamed, Grows, Ends}
 
 -- ---- joining
 
@@ -49,18 +50,25 @@ pub filled_now : (a b : Option Done) → Adds deeds.Filled [] a b → AreFilled 
 filled_now None b adds = subst AreFilled (sym adds) tt
 filled_now (Some o) b adds = subst AreFilled (sym adds) (since_last Any deeds.Filled o.deeds)
 
-pub ready_now : (a b : Option Done) → AreFilled a → Adds deeds.Locked [] a b → IsReady b
-ready_now None b filled adds = subst IsReady (sym adds) tt
-ready_now (Some o) b filled adds = subst IsReady (sym adds) (since_one Any deeds.Filled o.deeds deeds.Locked filled tt, since_last Any deeds.Locked o.deeds)
+pub filled_kept : (a b : Option Done) (deed : Deed) (bytes : List ℕ) → Adds deed bytes a b → AreFilled a → AreFilled b
+filled_kept None b deed bytes adds filled = subst AreFilled (sym adds) tt
+filled_kept (Some o) b deed bytes adds filled = subst AreFilled (sym adds) (since_one Any deeds.Filled o.deeds deed filled tt)
 
-pub ready_kept : (a b : Option Done) (deed : Deed) (bytes : List ℕ) → Adds deed bytes a b → IsReady a → IsReady b
-ready_kept None b deed bytes adds ready = subst IsReady (sym adds) tt
-ready_kept (Some o) b deed bytes adds ready = subst IsReady (sym adds) (since_one Any deeds.Filled o.deeds deed ready.0 tt, since_one Any deeds.Locked o.deeds deed ready.1 tt)
+pub held_now : (a b : Option Done) → Adds deeds.Locked [] a b → IsHeld b
+held_now None b adds = subst IsHeld (sym adds) tt
+held_now (Some o) b adds = subst IsHeld (sym adds) (since_last (KeepsName Pages) deeds.Locked o.deeds)
 
-pub ready_grown : (P : Deed → Type 0) (a b : Option Done) → Grows P a b → IsReady a → IsReady b
-ready_grown P None b grows ready = subst IsReady (sym grows) tt
-ready_grown P (Some o) b grows ready = subst IsReady (sym grows.2)
-    (since_more Any deeds.Filled o.deeds grows.0 ready.0 (λ k d lt. tt), since_more Any deeds.Locked o.deeds grows.0 ready.1 (λ k d lt. tt))
+pub held_kept : (a b : Option Done) (deed : Deed) (bytes : List ℕ) → Adds deed bytes a b → KeepsName Pages deed → IsHeld a → IsHeld b
+held_kept None b deed bytes adds keeps held = subst IsHeld (sym adds) tt
+held_kept (Some o) b deed bytes adds keeps held = subst IsHeld (sym adds) (since_one (KeepsName Pages) deeds.Locked o.deeds deed held keeps)
+
+pub missing_now : (file : Which) (a b : Option Done) → Adds (deeds.Missing file) [] a b → IsMissing file b
+missing_now file None b adds = subst (IsMissing file) (sym adds) tt
+missing_now file (Some o) b adds = subst (IsMissing file) (sym adds) (since_last (KeepsName file) (deeds.Missing file) o.deeds)
+
+pub missing_kept : (file : Which) (a b : Option Done) (deed : Deed) (bytes : List ℕ) → Adds deed bytes a b → KeepsName file deed → IsMissing file a → IsMissing file b
+missing_kept file None b deed bytes adds keeps missing = subst (IsMissing file) (sym adds) tt
+missing_kept file (Some o) b deed bytes adds keeps missing = subst (IsMissing file) (sym adds) (since_one (KeepsName file) (deeds.Missing file) o.deeds deed missing keeps)
 
 -- ---- how a run of calls goes on
 
@@ -90,7 +98,3 @@ ends_by P None b c deed bytes grows adds = subst (λ m. Adds deed bytes m c) gro
 ends_by P (Some o) b c deed bytes grows adds =
     let last : Adds deed bytes (Some (behind o grows.0 [])) c = subst (λ m. Adds deed bytes m c) grows.2 adds in
     (grows.0, grows.1, last ∙ ap Some (behind_behind o grows.0 (deed ∷ []) [] bytes))
-
-pub ends_weaker : (P Q : Deed → Type 0) (a b : Option Done) (deed : Deed) (bytes : List ℕ) → ((d : Deed) → P d → Q d) → Ends P deed bytes a b → Ends Q deed bytes a b
-ends_weaker P Q None b deed bytes implies ends = ends
-ends_weaker P Q (Some o) b deed bytes implies ends = (ends.0, (λ k d lt. implies _ (ends.1 k d lt)), ends.2)

@@ -1,6 +1,7 @@
 -- What was done in a folder: the deeds in order, what they say, and what a call adds to them.
-use Rattle.std.specs.Prelude.{◌≡◌, ◌≢◌, ℕ, Bool, true, false, List, [], ◌∷◌, ◌++◌, All, Option, None, Some, Result, MatchResult}
+use Rattle.std.specs.Prelude.{◌≡◌, ◌≢◌, ◌⊎◌, ℕ, Bool, true, false, List, [], ◌∷◌, ◌++◌, All, Option, None, Some, Result, MatchResult}
 use Rattle.ut_outside.specs.declared.disk.Which.{Which}
+use Rattle.ut_outside.specs.declared.disk.Which.TheVariants.{Pages}
 use Rattle.ut_files.specs.declared.folder.Deed.{Deed}
 use Rattle.ut_files.specs.declared.folder.Deed.TheVariants as deeds
 
@@ -40,11 +41,6 @@ abbrev pub AreFilled : Option Done → Type 0
 AreFilled None = Unit {0}
 AreFilled (Some done) = Since Any deeds.Filled done.deeds
 
--- they were filled, and the store was locked
-abbrev pub IsReady : Option Done → Type 0
-IsReady None = Unit {0}
-IsReady (Some done) = Since Any deeds.Filled done.deeds × Since Any deeds.Locked done.deeds
-
 -- neither makes this file nor opens it
 abbrev pub KeepsName : Which → Deed → Type 0
 KeepsName file (deeds.Opened other) = other ≢ file
@@ -56,6 +52,16 @@ abbrev pub IsNamed : Which → Option Done → Type 0
 IsNamed file None = Unit {0}
 IsNamed file (Some done) = Since (KeepsName file) deeds.Named done.deeds
 
+-- since the page file was made or opened it was locked: no other process has the store
+abbrev pub IsHeld : Option Done → Type 0
+IsHeld None = Unit {0}
+IsHeld (Some done) = Since (KeepsName Pages) deeds.Locked done.deeds
+
+-- this file wasn't there when it was looked for, and it wasn't made since
+abbrev pub IsMissing : Which → Option Done → Type 0
+IsMissing file None = Unit {0}
+IsMissing file (Some done) = Since (KeepsName file) (deeds.Missing file) done.deeds
+
 -- ---- what a call of the disk does
 
 -- what an open comes to
@@ -66,15 +72,15 @@ opening file false = deeds.Missing file
 -- what comes before a file's first use: it changes no file
 abbrev pub IsOpening : Deed → Type 0
 IsOpening deeds.Filled = Unit {0}
-IsOpening deeds.Locked = Unit {0}
 IsOpening (deeds.Missing _) = Unit {0}
 IsOpening (deeds.Opened _) = Unit {0}
+IsOpening deeds.Locked = Unit {0}
 IsOpening deeds.Named = Unit {0}
 IsOpening _ = ⊥
 
--- what comes before the first write of a file: it is opened, or made
+-- what comes before the first change of a file: it is opened or made, and so is the page file
 abbrev pub IsMaking : Which → Deed → Type 0
-IsMaking file (deeds.Made other) = other ≡ file
+IsMaking file (deeds.Made other) = (other ≡ file) ⊎ (other ≡ Pages)
 IsMaking file deed = IsOpening deed
 
 -- nothing but what is allowed was done between, and no byte was moved
@@ -90,4 +96,4 @@ Ends Allowed deed bytes (Some old) new = (more : List Deed) × All Allowed more 
 -- A call did this to the file, whose name is durable, after what is allowed. Or the file isn't there, and the call is done with that.
 pub data Does (file : Which) (Allowed : Deed → Type 0) (deed : Deed) (bytes : List ℕ) (Idle : Type 0) (old new : Option Done) : Type 0 where
   There : IsNamed file new → Ends Allowed deed bytes old new → Does file Allowed deed bytes Idle old new
-  Absent : Idle → Ends IsOpening (deeds.Missing file) [] old new → Does file Allowed deed bytes Idle old new
+  Absent : Idle → IsMissing file new → Grows IsOpening old new → Does file Allowed deed bytes Idle old new

@@ -1,6 +1,6 @@
 //! A set of the store's files.
-ghost use Rattle.std.specs.Prelude.{◌≡◌, ◌⊎◌, true, false};
-ghost use Rattle.ut_files.specs.FileSets.{is_in};
+ghost use Rattle.std.specs.Prelude.{◌≡◌, false};
+ghost use Rattle.ut_files.specs.FileSets.{is_in, with_file};
 
 use ut_outside::Which;
 
@@ -32,7 +32,9 @@ impl FileSet {
         }
     }
 
-    pub(crate) fn add(&mut self, file: Which) {
+    pub(crate) fn add(&mut self, file: Which)
+        ensures { self.new ≡ with_file file self.old }
+    {
         match file {
             Which::Redo => self.redo = true,
             Which::Pages => self.pages = true,

@@ -1,7 +1,11 @@
-//! The store's files in a folder, each opened at its first use and made by its first write.
-ghost use Rattle.std.specs.Prelude.{◌≡◌, ◌≤◌, [], ⊤, length, take, OnOk, IfOk};
+//! The store's files in a folder, each opened at its first use and made by its first write. Whoever has the page file locked has
+//! the store: it is sought before any other file, and made before one is changed.
+ghost use Rattle.std.specs.Prelude.{◌≡◌, ◌≢◌, ◌≤◌, true, [], ⊤, length, take, OnOk, IfOk};
 ghost use Rattle.std.specs.Bool.{MatchBool};
-ghost use Rattle.ut_files.specs.Deeds.{IsReady, IsNamed, IsOpening, IsMaking, Grows, Ends, Does};
+ghost use Rattle.ut_outside.specs.declared.disk.Which.TheVariants.{Pages as PagesFile};
+ghost use Rattle.ut_files.specs.Deeds.{AreFilled, IsMissing, IsOpening, IsMaking, Grows, Does};
+ghost use Rattle.ut_files.specs.FileSets.{is_in};
+ghost use Rattle.ut_files.specs.Standing.{IsSought};
 ghost use Rattle.ut_files.specs.declared.folder.Deed.TheVariants as deeds;
 
 use crate::file_set::FileSet;
@@ -10,68 +14,137 @@ use std::io;
 use std::marker::Model;
 use ut_outside::Which;
 
-/// The files of a folder. Contracts see what was done in it.
+/// Whether the page file was found and locked.
+#[derive(Clone, Copy, Debug, PartialEq, Eq)]
+pub(crate) enum Hold {
+    Unsought,
+    Missing,
+    Held,
+    /// Another process may have made it since it was sought.
+    Lost,
+}
+
+/// The files of a folder.
 #[derive(Drop)]
 pub(crate) struct StoreFiles<F: Folder> {
     folder: F,
-    /// Whether the streams are filled and the store is locked.
-    is_ready: bool,
+    hold: Hold,
     /// The files that are open, with names that are durable.
     named: FileSet,
 }
 
 impl<F: Folder> Model for StoreFiles<F> {
-    ghost use Rattle.std.specs.Prelude.{Option};
-    ghost use Rattle.ut_files.specs.Deeds.{Done};
-    ghost use Rattle.ut_files.specs.Standing.{Stands};
+    ghost use Rattle.ut_files.specs.Standing.{Files, Stands};
 
-    ghost Value = { Option Done };
+    ghost Value = { Files };
 
-    ghost view = { λ s. F.done s.folder };
+    ghost view = { λ s. record { done = F.done s.folder; hold = s.hold; named = s.named } };
 
-    ghost invariant = { λ s. Stands (F.done s.folder) s.is_ready s.named };
+    ghost invariant = { λ s. Stands (record { done = F.done s.folder; hold = s.hold; named = s.named }) };
 }
 
 impl<F: Folder> StoreFiles<F> {
     pub(crate) fn new(folder: F) -> StoreFiles<F>
-        ensures { result ≡ F.done folder }
+        ensures { result.done ≡ F.done folder }
     {
         StoreFiles {
             folder,
-            is_ready: false,
+            hold: Hold::Unsought,
             named: FileSet::empty(),
         }
     }
 
     pub(crate) fn folder(&self) -> &F
-        ensures { F.done result.now ≡ self.now }
+        ensures { F.done result.now ≡ self.now.done }
     {
         &self.folder
     }
 
-    // Fills the streams and locks the store, before the first file is touched.
-    fn prepare(&mut self) -> io::Result<()>
-        ensures opens { Grows IsOpening self.old self.new }
-        ensures ready { OnOk result (IsReady self.new) }
+    // Seeks the page file, before the first file is touched. Where it is there, it is locked.
+    fn seek(&mut self) -> io::Result<()>
+        ensures opens { Grows IsOpening self.old.done self.new.done }
+        ensures sought { OnOk result (IsSought self.new.hold) }
     {
-        if self.is_ready {
-            return Ok(());
+        match self.hold {
+            Hold::Held => Ok(()),
+            Hold::Missing => Ok(()),
+            Hold::Lost => Err(io::ErrorKind::WouldBlock.into()),
+            Hold::Unsought => self.look(),
         }
+    }
+
+    fn look(&mut self) -> io::Result<()>
+        requires { self.old.hold ≡ Hold.Unsought }
+        ensures opens { Grows IsOpening self.old.done self.new.done }
+        ensures sought { OnOk result (IsSought self.new.hold) }
+    {
         self.folder.fill_streams()?;
+        if self.folder.open(Which::Pages)? {
+            return self.lock();
+        }
+        self.hold = Hold::Missing;
+        Ok(())
+    }
+
+    // Locks the page file that was just opened or made.
+    fn lock(&mut self) -> io::Result<()>
+        requires { AreFilled self.old.done }
+        ensures opens { Grows IsOpening self.old.done self.new.done }
+        ensures held { OnOk result (self.new.hold ≡ Hold.Held) }
+    {
         self.folder.lock()?;
-        self.is_ready = true;
+        self.folder.sync_names()?;
+        self.named.add(Which::Pages);
+        self.hold = Hold::Held;
+        Ok(())
+    }
+
+    // Takes the store: makes the page file where there is none.
+    fn take(&mut self) -> io::Result<()>
+        ensures makes { Grows (IsMaking PagesFile) self.old.done self.new.done }
+        ensures held { OnOk result (self.new.hold ≡ Hold.Held) }
+    {
+        self.seek()?;
+        match self.hold {
+            Hold::Held => Ok(()),
+            Hold::Missing => self.make(),
+            Hold::Unsought | Hold::Lost => Err(io::ErrorKind::WouldBlock.into()),
+        }
+    }
+
+    fn make(&mut self) -> io::Result<()>
+        requires { self.old.hold ≡ Hold.Missing }
+        ensures makes { Grows (IsMaking PagesFile) self.old.done self.new.done }
+        ensures held { OnOk result (self.new.hold ≡ Hold.Held) }
+    {
+        self.hold = Hold::Lost;
+        self.folder.make(Which::Pages)?;
+        self.lock()
+    }
+
+    // Makes the name of an open file durable.
+    fn name(&mut self, file: Which) -> io::Result<()>
+        requires { file ≢ PagesFile }
+        ensures opens { Grows IsOpening self.old.done self.new.done }
+        ensures named { OnOk result (is_in file self.new.named ≡ true) }
+        ensures hold { self.new.hold ≡ self.old.hold }
+    {
+        self.folder.sync_names()?;
+        self.named.add(file);
         Ok(())
     }
 
     // Opens the file, and says whether it is there.
     fn reach(&mut self, file: Which) -> io::Result<bool>
-        ensures opens { Grows IsOpening self.old self.new }
-        ensures ready { OnOk result (IsReady self.new) }
-        ensures found { IfOk result (λ found. MatchBool found (IsNamed file self.new) (Ends IsOpening (deeds.Missing file) [] self.old self.new)) }
+        ensures opens { Grows IsOpening self.old.done self.new.done }
+        ensures found { IfOk result (λ found. MatchBool found (is_in file self.new.named ≡ true) (IsMissing file self.new.done)) }
     {
-        self.prepare()?;
+        self.seek()?;
         if self.named.has(file) {
             return Ok(true);
+        }
+        if file == Which::Pages {
+            return Ok(false);
         }
         if !self.folder.open(file)? {
             return Ok(false);
@@ -80,22 +153,13 @@ impl<F: Folder> StoreFiles<F> {
         Ok(true)
     }
 
-    // Makes the name of an open file durable.
-    fn name(&mut self, file: Which) -> io::Result<()>
-        ensures opens { Grows IsOpening self.old self.new }
-        ensures named { OnOk result (IsNamed file self.new) }
-    {
-        self.folder.sync_names()?;
-        self.named.add(file);
-        Ok(())
-    }
-
-    // Opens the file, or makes it where it isn't there.
+    // Takes the store, and opens the file or makes it where it isn't there.
     fn reach_or_make(&mut self, file: Which) -> io::Result<()>
-        ensures makes { OnOk result (Grows (IsMaking file) self.old self.new) }
-        ensures named { OnOk result (IsNamed file self.new) }
+        ensures makes { OnOk result (Grows (IsMaking file) self.old.done self.new.done) }
+        ensures named { OnOk result (is_in file self.new.named ≡ true) }
+        ensures held { OnOk result (self.new.hold ≡ Hold.Held) }
     {
-        self.prepare()?;
+        self.take()?;
         if self.named.has(file) {
             return Ok(());
         }
@@ -108,7 +172,7 @@ impl<F: Folder> StoreFiles<F> {
 
     /// How many bytes a file has, 0 for one that isn't there.
     pub(crate) fn size(&mut self, file: Which) -> io::Result<u64>
-        ensures does { IfOk result (λ n. Does file IsOpening (deeds.Sized file n) [] (n ≡ 0) self.old self.new) }
+        ensures does { IfOk result (λ n. Does file IsOpening (deeds.Sized file n) [] (n ≡ 0) self.old.done self.new.done) }
     {
         if !self.reach(file)? {
             return Ok(0);
@@ -119,7 +183,7 @@ impl<F: Folder> StoreFiles<F> {
     /// As much as the buffer or the file has.
     pub(crate) fn read_at(&mut self, file: Which, at: u64, buf: &mut [u8]) -> io::Result<usize>
         ensures bound { IfOk result (λ n. n ≤ length buf.old) }
-        ensures does { IfOk result (λ n. Does file IsOpening (deeds.Read file at n) (take n buf.new) (n ≡ 0) self.old self.new) }
+        ensures does { IfOk result (λ n. Does file IsOpening (deeds.Read file at n) (take n buf.new) (n ≡ 0) self.old.done self.new.done) }
     {
         if !self.reach(file)? {
             return Ok(0);
@@ -129,7 +193,7 @@ impl<F: Folder> StoreFiles<F> {
 
     /// The first write makes the file.
     pub(crate) fn write_at(&mut self, file: Which, at: u64, bytes: &[u8]) -> io::Result<()>
-        ensures does { OnOk result (Does file (IsMaking file) (deeds.Wrote file at (length bytes.now)) bytes.now ⊥ self.old self.new) }
+        ensures does { OnOk result (Does file (IsMaking file) (deeds.Wrote file at (length bytes.now)) bytes.now ⊥ self.old.done self.new.done) }
     {
         self.reach_or_make(file)?;
         self.folder.write_at(file, at, bytes)
@@ -137,7 +201,7 @@ impl<F: Folder> StoreFiles<F> {
 
     /// A file that isn't there has nothing to cut off.
     pub(crate) fn cut(&mut self, file: Which, len: u64) -> io::Result<()>
-        ensures does { OnOk result (Does file (IsMaking file) (deeds.Cut file len) [] (len ≡ 0) self.old self.new) }
+        ensures does { OnOk result (Does file (IsMaking file) (deeds.Cut file len) [] (len ≡ 0) self.old.done self.new.done) }
     {
         if len == 0 {
             return self.empty(file);
@@ -147,17 +211,18 @@ impl<F: Folder> StoreFiles<F> {
     }
 
     fn empty(&mut self, file: Which) -> io::Result<()>
-        ensures does { OnOk result (Does file IsOpening (deeds.Cut file 0) [] ⊤ self.old self.new) }
+        ensures does { OnOk result (Does file (IsMaking file) (deeds.Cut file 0) [] ⊤ self.old.done self.new.done) }
     {
         if !self.reach(file)? {
             return Ok(());
         }
+        self.reach_or_make(file)?;
         self.folder.cut(file, 0)
     }
 
     /// A file that isn't there has nothing to sync.
     pub(crate) fn sync(&mut self, file: Which) -> io::Result<()>
-        ensures does { OnOk result (Does file IsOpening (deeds.Synced file) [] ⊤ self.old self.new) }
+        ensures does { OnOk result (Does file IsOpening (deeds.Synced file) [] ⊤ self.old.done self.new.done) }
     {
         if !self.reach(file)? {
             return Ok(());

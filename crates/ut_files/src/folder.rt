@@ -1,6 +1,7 @@
-//! What the disk asks of the system: a folder with the store's files, held by one process.
-ghost use Rattle.std.specs.Prelude.{◌≤◌, ◌++◌, ℕ, [], length, take, Option, IfOk};
-ghost use Rattle.ut_files.specs.Deeds.{Done, Notes, AreFilled, IsReady, opening};
+//! What the disk asks of the system: a folder with the store's files, of which the page file has the store's lock.
+ghost use Rattle.std.specs.Prelude.{◌≢◌, ◌≤◌, [], length, take, Option, IfOk};
+ghost use Rattle.ut_outside.specs.declared.disk.Which.TheVariants.{Pages as PagesFile};
+ghost use Rattle.ut_files.specs.Deeds.{Done, Notes, AreFilled, IsHeld, opening};
 ghost use Rattle.ut_files.specs.declared.folder.Deed.TheVariants as deeds;
 
 use std::io;
@@ -11,12 +12,12 @@ use ut_outside::Which;
 pub enum Deed {
     /// The standard streams that were closed are open.
     Filled,
-    /// No other process holds the store until this one ends.
-    Locked,
     /// A file that isn't there was looked for.
     Missing(Which),
     Opened(Which),
     Made(Which),
+    /// The page file was locked: no other process has the store until this one ends.
+    Locked,
     /// The names of the files are on the disk.
     Named,
     Sized(Which, u64),
@@ -37,20 +38,20 @@ pub trait Folder {
     fn fill_streams(&mut self) -> io::Result<()>
         ensures { Notes (done self.old) (done self.new) result (λ _. deeds.Filled) (λ _. []) };
 
-    /// Takes the store for this process, where no other one holds it.
-    fn lock(&mut self) -> io::Result<()>
-        requires { AreFilled (done self.old) }
-        ensures { Notes (done self.old) (done self.new) result (λ _. deeds.Locked) (λ _. []) };
-
     /// Opens a file to read and write, and says whether it is there.
     fn open(&mut self, file: Which) -> io::Result<bool>
-        requires { IsReady (done self.old) }
+        requires { AreFilled (done self.old) }
         ensures { Notes (done self.old) (done self.new) result (opening file) (λ _. []) };
 
     /// Makes a file that isn't there, and opens it.
     fn make(&mut self, file: Which) -> io::Result<()>
-        requires { IsReady (done self.old) }
+        requires filled { AreFilled (done self.old) }
+        requires held { file ≢ PagesFile → IsHeld (done self.old) }
         ensures { Notes (done self.old) (done self.new) result (λ _. deeds.Made file) (λ _. []) };
+
+    /// Locks the open page file for as long as the process lives, where no other one has locked it.
+    fn lock(&mut self) -> io::Result<()>
+        ensures { Notes (done self.old) (done self.new) result (λ _. deeds.Locked) (λ _. []) };
 
     /// Makes the names of the files durable.
     fn sync_names(&mut self) -> io::Result<()>
@@ -66,10 +67,12 @@ pub trait Folder {
         ensures notes { Notes (done self.old) (done self.new) result (λ n. deeds.Read file at n) (λ n. take n buf.new) };
 
     fn write_at(&mut self, file: Which, at: u64, bytes: &[u8]) -> io::Result<()>
+        requires { IsHeld (done self.old) }
         ensures { Notes (done self.old) (done self.new) result (λ _. deeds.Wrote file at (length bytes.now)) (λ _. bytes.now) };
 
     /// Makes an open file so long.
     fn cut(&mut self, file: Which, len: u64) -> io::Result<()>
+        requires { IsHeld (done self.old) }
         ensures { Notes (done self.old) (done self.new) result (λ _. deeds.Cut file len) (λ _. []) };
 
     /// Makes the bytes and the length of an open file durable.

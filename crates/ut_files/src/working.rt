@@ -20,8 +20,6 @@ const MAX_OFFSET: u64 = (1 << 63) - 1;
 pub struct WorkingFolder<'a, R: Files<File = File>> {
     rt: &'a R,
     nulls: Option<[File; 3]>,
-    /// The folder itself, with the lock.
-    folder: Option<File>,
     redo: Option<File>,
     pages: Option<File>,
     redo2: Option<File>,
@@ -33,7 +31,6 @@ impl<'a, R: Files<File = File>> WorkingFolder<'a, R> {
         WorkingFolder {
             rt,
             nulls: None,
-            folder: None,
             redo: None,
             pages: None,
             redo2: None,
@@ -49,22 +46,11 @@ impl<'a, R: Files<File = File>> WorkingFolder<'a, R> {
         opened.as_ref().ok_or(io::ErrorKind::NotFound.into())
     }
 
-    // Holds a file that was just opened, under a lock of its own: another folder may have a link to it.
-    fn hold(&mut self, file: Which, opened: File) -> io::Result<()> {
-        opened.try_lock()?;
+    fn keep(&mut self, file: Which, opened: Option<File>) {
         match file {
-            Which::Redo => self.redo = Some(opened),
-            Which::Pages => self.pages = Some(opened),
-            Which::Redo2 => self.redo2 = Some(opened),
-        }
-        Ok(())
-    }
-
-    fn let_go(&mut self, file: Which) {
-        match file {
-            Which::Redo => self.redo = None,
-            Which::Pages => self.pages = None,
-            Which::Redo2 => self.redo2 = None,
+            Which::Redo => self.redo = opened,
+            Which::Pages => self.pages = opened,
+            Which::Redo2 => self.redo2 = opened,
         }
     }
 }
@@ -92,23 +78,15 @@ impl<R: Files<File = File>> Folder for WorkingFolder<'_, R> {
         Ok(())
     }
 
-    // The lock is the folder's, so that it is taken before a file is opened or made.
-    fn lock(&mut self) -> io::Result<()> {
-        let folder = File::open(self.rt, WORKING)?;
-        folder.try_lock()?;
-        self.folder = Some(folder);
-        Ok(())
-    }
-
     fn open(&mut self, file: Which) -> io::Result<bool> {
-        self.let_go(file);
+        self.keep(file, None);
         match OpenOptions::new()
             .read(true)
             .write(true)
             .open(self.rt, name_of(file))
         {
             Ok(opened) => {
-                self.hold(file, opened)?;
+                self.keep(file, Some(opened));
                 Ok(true)
             }
             Err(error) if error.kind() == io::ErrorKind::NotFound => Ok(false),
@@ -118,14 +96,17 @@ impl<R: Files<File = File>> Folder for WorkingFolder<'_, R> {
 
     fn make(&mut self, file: Which) -> io::Result<()> {
         let made = File::create_new(self.rt, name_of(file))?;
-        self.hold(file, made)
+        self.keep(file, Some(made));
+        Ok(())
+    }
+
+    fn lock(&mut self) -> io::Result<()> {
+        self.opened(Which::Pages)?.try_lock()?;
+        Ok(())
     }
 
     fn sync_names(&mut self) -> io::Result<()> {
-        match &self.folder {
-            Some(folder) => folder.sync_all(),
-            None => Err(io::ErrorKind::NotFound.into()),
-        }
+        File::open(self.rt, WORKING)?.sync_all()
     }
 
     fn size(&mut self, file: Which) -> io::Result<u64> {
