@@ -8,10 +8,14 @@ mod damage;
 #[cfg(test)]
 mod faults;
 #[cfg(test)]
+mod kept;
+#[cfg(test)]
 mod replies;
 #[cfg(test)]
 mod rows;
 #[cfg(test)]
 mod run;
+#[cfg(test)]
+mod sizes;
 #[cfg(test)]
 mod streams;

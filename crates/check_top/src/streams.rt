@@ -5,8 +5,8 @@ use crate::run::{REPLIES, RUN_NEW, Ran, SCRIPT, run_between, run_on};
 use std::alloc::{AllocError, Global};
 use std::test::Fail;
 use std::thread::Threads;
-use ut_app::Status;
-use ut_outside::{MemDisk, MemSink, MemSource};
+use ut_app::{Status, top};
+use ut_outside::{MemDisk, MemSink, MemSource, NoHook};
 
 /// The longest line that is read.
 const LINE_LIMIT: usize = 65536;
@@ -92,6 +92,46 @@ fn a_sink_that_fails_ends_the_run(rt: HostRuntime) -> Result<(), Fail> {
         let ran = run_between(&rt, alloc, RUN_NEW, source, sink, &mut disk)?;
         assert_eq!(rt; ran.status, Status::WriteFault, "at {call}");
         assert_eq!(rt; ran.replies.len(), told, "at {call}");
+    }
+    Ok(())
+}
+
+/// What the sink has taken once so many lines of the script were given.
+const TAKEN: [u64; 4] = [0, 14, 30, 45];
+
+/// How many lines end in the bytes that a source of the script gave, with so many left.
+fn lines_given(left: u64) -> usize {
+    let given = (SCRIPT.len() as u64).saturating_sub(left);
+    let mut lines = 0usize;
+    for byte in SCRIPT.iter().take(given as usize) {
+        if *byte == b'\n' {
+            lines = lines.saturating_add(1);
+        }
+    }
+    lines
+}
+
+#[test]
+fn each_reply_is_given_before_more_is_asked_for(rt: HostRuntime) -> Result<(), Fail> {
+    let alloc = rt.alloc();
+    for piece in [1, 7, 24] {
+        let mut disk = MemDisk::of(alloc, &[], &[], &[])?;
+        let mut source = MemSource::new(alloc, SCRIPT, piece, None)?;
+        let mut sink = MemSink::new(alloc, None);
+        let ran = top(
+            &rt,
+            alloc,
+            RUN_NEW,
+            &mut source,
+            &mut sink,
+            &mut disk,
+            &NoHook,
+        );
+        assert_eq!(rt; ran.status, Status::Done);
+        for ask in source.asks() {
+            let taken = TAKEN.get(lines_given(ask.left)).copied();
+            assert_eq!(rt; Some(ask.taken), taken, "with {} left", ask.left);
+        }
     }
     Ok(())
 }

@@ -1,18 +1,26 @@
 -- How a run begins.
-use Rattle.std.proofs.Common.{inl, inr, ◌≡◌, refl, sym, ◌∙◌, subst, arith}
+use Rattle.std.proofs.Common.{inl, inr, ◌≡◌, refl, sym, ◌∙◌, subst, arith, IsTrue, Result, Err}
+use Rattle.std.specs.Prelude.{IsErrOf}
+use Rattle.ut_outside.specs.Faults.{Rose}
 use Rattle.ut_outside.specs.Disk.{View, Image, IsTold}
-use Rattle.ut_outside.specs.Run.{Always, LeavesOnly}
+use Rattle.ut_outside.specs.Run.{Always, LeavesOnly, ReadsOnly}
+use Rattle.ut_outside.proofs.RunLemmas.{reads_start}
 use Rattle.ut_pages.specs.Layout.{IsMade}
 use Rattle.ut_plain.specs.Journal.{Journal, empty_journal, journal_len}
 use Rattle.ut_plain.specs.Plain.{new_store}
 use Rattle.ut_logged.specs.Logged.{Logged}
 use Rattle.ut_logged.specs.Readings.{HoldsJournal, HoldsPrefix}
+use Rattle.ut_logged.specs.declared.error.OpenError.{OpenError}
+use Rattle.ut_logged.specs.declared.error.OpenError.TheVariants as errors
+use Rattle.ut_logged.specs.Opening.{MayOnlyRead}
 use Rattle.ut_logged.specs.Runs.{Runs, Opens, NotMadeOrEmpty}
 use Rattle.ut_app.specs.declared.words.Start.{Start}
 use Rattle.ut_app.specs.declared.words.Start.TheVariants.{New, Open}
 use Rattle.ut_app.specs.Keeping.{Begins, SinceEntry, HoldsRun, NothingPending}
-use Rattle.ut_app.specs.Serving.{rows_limit}
-use Rattle.ut_app.specs.Beginning.{Begun}
+use Rattle.ut_app.specs.declared.report.Status.{Status}
+use Rattle.ut_app.specs.declared.report.Status.TheVariants.{NoStore, Exists, DiskFault, Damaged, Memory}
+use Rattle.ut_app.specs.Serving.{rows_limit, LosesNothing}
+use Rattle.ut_app.specs.Beginning.{Begun, NotBegun, OpenStatus}
 use Rattle.ut_app.proofs.SayLemmas.{whole}
 
 whole_of : (j : Journal) (c : Image) → HoldsJournal j c → HoldsPrefix j (journal_len j) c
@@ -32,8 +40,9 @@ since_made entry now leaves told first begins nothing =
     let l = leaves told (none_made entry begins.1 nothing) in
     record { past = l.later; holds = λ c h. subst (λ (j : Journal). HoldsRun New j (journal_len j) c) (sym begins.0) (new_run c (l.each c h)) }
 
-pub since_opened : (entry now : View) → LeavesOnly entry now entry.crash_states → (first : Journal) → HoldsJournal first entry.seen → NothingPending entry → SinceEntry Open entry now first first
-since_opened entry now l first holds nothing =
+pub since_opened : (entry now : View) → ReadsOnly entry now → (first : Journal) → HoldsJournal first entry.seen → NothingPending entry → SinceEntry Open entry now first first
+since_opened entry now reads first holds nothing =
+    let l = reads.any_moment in
     record { past = l.later; holds = λ c h. subst (λ (i : Image). HoldsPrefix first (journal_len first) i) (sym (nothing c (l.each c h))) (whole_of first entry.seen holds) }
 
 pub begun_new : (entry now : View) (e : Logged) → now.told ≡ entry.told → Runs e now (new_store rows_limit) → (IsTold entry → IsMade entry.seen.pages → ⊥)
@@ -50,20 +59,70 @@ begun_new entry now e same runs unmade leaves = record {
   };
 }
 
-pub begun_open : (entry now : View) (e : Logged) → now.told ≡ entry.told → Opens e rows_limit entry now → LeavesOnly entry now entry.crash_states → Begun Open entry now e
-begun_open entry now e same opens leaves = record {
+pub begun_open : (entry now : View) (e : Logged) → Opens e rows_limit entry now → ReadsOnly entry now → Begun Open entry now e
+begun_open entry now e opens reads = record {
   first = opens.journal;
   runs = opens.runs;
   begins = opens.said;
   kept = λ told. record {
-    told = same ∙ told;
+    told = subst IsTrue (sym reads.told) told;
     no_more = omega arith;
     acknowledged = tt;
-    since_entry = since_opened entry now leaves opens.journal (opens.said told);
+    since_entry = since_opened entry now reads opens.journal (opens.said told);
   };
 }
 
--- what is read is what a run begins with
-pub seen_run : (start : Start) (entry : View) (first : Journal) → Begins start first entry.seen → NothingPending entry → (c : Image) → entry.crash_states c → HoldsRun start first (journal_len first) c
-seen_run New entry first begins nothing c h = inr (λ made. begins.1 (subst (λ (i : Image). IsMade i.pages) (nothing c h) made))
-seen_run Open entry first begins nothing c h = subst (λ (i : Image). HoldsPrefix first (journal_len first) i) (sym (nothing c h)) (whole_of first entry.seen begins)
+-- ---- where no store could be made or opened
+
+pub loses_opened : (entry now : View) (status : Status) → ReadsOnly entry now → LosesNothing Open entry now status
+loses_opened entry now status reads = record {
+  reads = λ told may. reads;
+  unbegun = λ memory. reads;
+  since_entry = λ told first begins nothing c h. (since_opened entry now reads first begins nothing).holds c h;
+}
+
+pub loses_made : (entry now : View) (status : Status) → (IsTold entry → IsMade entry.seen.pages → ReadsOnly entry now) → (status ≡ Memory → ReadsOnly entry now) → (IsTold entry → Always entry (λ c. IsMade c.pages → ⊥) → LeavesOnly entry now NotMadeOrEmpty) → LosesNothing New entry now status
+loses_made entry now status kept unbegun leaves = record {
+  reads = kept;
+  unbegun = unbegun;
+  since_entry = λ told first begins nothing c h. (since_made entry now leaves told first begins nothing).holds c h;
+}
+
+-- nothing was done
+pub loses_untouched : (start : Start) (v : View) (status : Status) → ((c : Image) → v.crash_states_since v.moment c → v.crash_states c) → LosesNothing start v v status
+loses_untouched Open v status only = loses_opened v v status (reads_start v only)
+loses_untouched New v status only = record {
+  reads = λ told made. reads_start v only;
+  unbegun = λ memory. reads_start v only;
+  since_entry = λ told first begins nothing c h. inr (λ made. begins.1 (subst (λ (i : Image). IsMade i.pages) (nothing c (only c h)) made));
+}
+
+-- an answer that is this error
+abbrev failed : OpenError → Result Logged OpenError
+failed error = Err error
+
+-- why no store was made
+pub not_made : (entry now : View) (error : OpenError) (status : Status) → OpenStatus error status → (IsErrOf (failed error) errors.Made → IsTold entry → IsMade entry.seen.pages) → (IsErrOf (failed error) errors.Disk → Rose entry.faults now.faults)
+    → (IsErrOf (failed error) errors.NotMade → ⊥) × (IsErrOf (failed error) errors.Damaged → ⊥) → (MayOnlyRead (failed error) entry → ReadsOnly entry now) → (IsTold entry → Always entry (λ c. IsMade c.pages → ⊥) → LeavesOnly entry now NotMadeOrEmpty)
+    → NotBegun New entry now status
+not_made entry now errors.Made status is made disk others reads leaves =
+    subst (λ (s : Status). NotBegun New entry now s) (sym is) (record { early = tt; fits = λ told. (refl, made refl told); cause = λ e. cc; disk = loses_made entry now Exists (λ told is. reads (inr (told, is))) (λ e. cc) leaves })
+not_made entry now errors.NotMade status is made disk others reads leaves = absurd (others.0 refl)
+not_made entry now errors.Damaged status is made disk others reads leaves = absurd (others.1 refl)
+not_made entry now errors.Disk status is made disk others reads leaves =
+    subst (λ (s : Status). NotBegun New entry now s) (sym is) (record { early = tt; fits = λ told. tt; cause = λ e. disk refl; disk = loses_made entry now DiskFault (λ told is. reads (inr (told, is))) (λ e. cc) leaves })
+not_made entry now errors.Memory status is made disk others reads leaves =
+    subst (λ (s : Status). NotBegun New entry now s) (sym is) (record { early = tt; fits = λ told. tt; cause = λ e. cc; disk = loses_made entry now Memory (λ told is. reads (inr (told, is))) (λ e. reads (inl refl)) leaves })
+
+-- why none was opened
+pub not_opened : (entry now : View) (error : OpenError) (status : Status) → OpenStatus error status → (IsErrOf (failed error) errors.NotMade → IsTold entry → IsMade entry.seen.pages → ⊥) → (IsErrOf (failed error) errors.Damaged → IsTold entry → IsMade entry.seen.pages × ((j : Journal) → HoldsJournal j entry.seen → ⊥))
+    → (IsErrOf (failed error) errors.Disk → Rose entry.faults now.faults) → (IsErrOf (failed error) errors.Made → ⊥) → ReadsOnly entry now → NotBegun Open entry now status
+not_opened entry now errors.Made status is none damaged disk others reads = absurd (others refl)
+not_opened entry now errors.NotMade status is none damaged disk others reads =
+    subst (λ (s : Status). NotBegun Open entry now s) (sym is) (record { early = tt; fits = λ told. (refl, none refl told); cause = λ e. cc; disk = loses_opened entry now NoStore reads })
+not_opened entry now errors.Damaged status is none damaged disk others reads =
+    subst (λ (s : Status). NotBegun Open entry now s) (sym is) (record { early = tt; fits = λ told. (let d = damaged refl told in (refl, d.0, d.1)); cause = λ e. cc; disk = loses_opened entry now Damaged reads })
+not_opened entry now errors.Disk status is none damaged disk others reads =
+    subst (λ (s : Status). NotBegun Open entry now s) (sym is) (record { early = tt; fits = λ told. tt; cause = λ e. disk refl; disk = loses_opened entry now DiskFault reads })
+not_opened entry now errors.Memory status is none damaged disk others reads =
+    subst (λ (s : Status). NotBegun Open entry now s) (sym is) (record { early = tt; fits = λ told. tt; cause = λ e. cc; disk = loses_opened entry now Memory reads })

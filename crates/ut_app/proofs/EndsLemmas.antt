@@ -1,148 +1,129 @@
--- Why a run ends.
-use Rattle.std.proofs.Common.{ℕ, zero, suc, ◌+◌, ◌<◌, ◌≤◌, ◌≡◌, ◌⊎◌, inl, inr, Bool, true, false, not, List, [], ◌∷◌, ◌++◌, refl, ap, ◌∙◌, sym, subst, arith, add-one, length, take, drop, Option, None, Some, Ok, Err}
+-- Why a run ends: how far its lines go.
+use Rattle.std.proofs.Common.{ℕ, ◌+◌, ◌<◌, ◌≤◌, ◌≡◌, ◌⊎◌, inl, inr, Bool, true, false, not, List, [], ◌∷◌, ◌++◌, refl, ap, ◌∙◌, sym, subst, arith, length, append_assoc, append-nil, Option, None, Some, Ok, Err}
 use Rattle.std.specs.Prelude.{◌&&◌, ◌||◌, nat_le, nat_lt}
 use Rattle.std.proofs.lemmas.Grind.{common_steps}
-use Rattle.std.proofs.lemmas.List.{take_all}
+use Rattle.std.proofs.lemmas.List.{length-append}
 use Rattle.ut_script.specs.declared.lines.LineError.TheVariants as failed
-use Rattle.ut_script.specs.Lines.{Reading, lines_of, is_long, has_line, NextLine}
+use Rattle.ut_script.specs.Lines.{Reading, lines_of, is_long, has_line, NextLine, StepsLine}
+use Rattle.ut_script.proofs.AskLemmas.{ended-append}
 use Rattle.ut_app.specs.declared.report.Status.{Status}
 use Rattle.ut_app.specs.declared.report.Status.TheVariants.{Done, Usage, NoStore, Exists, ReadFault, WriteFault, DiskFault, Damaged, Memory, TooLong}
-use Rattle.ut_app.specs.Ends.{all_fit, is_too_long, EndsBy, Reads, ReadsInput, ReadSoFar, IsReading}
+use Rattle.ut_app.specs.Script.{lines_limit, all_fit, is_too_long, FitsInput, IsPast, EndsBy, ReadsInput, ReadSoFar, IsReading}
 
 -- ---- lines
 
-fit_more : (n : ℕ) (lines : List (List ℕ)) (line : List ℕ) (rest : List (List ℕ)) → drop n lines ≡ line ∷ rest → all_fit (take n lines) ≡ true → length line ≤ 65536 → all_fit (take (suc n) lines) ≡ true
-fit_more zero [] line rest d h l = cc
-fit_more zero (x ∷ xs) line rest d h l = let is : x ≡ line = cc in rw is (grind (arith, common_steps, l))
-fit_more (suc n) [] line rest d h l = cc
-fit_more (suc n) (x ∷ xs) line rest d h l = by_first (nat_le (length x) 65536) h (λ k. fit_more n xs line rest d k l)
+pub fit_more : (script : List (List ℕ)) (line : List ℕ) → all_fit script ≡ true → length line ≤ 65536 → all_fit (script ++ line ∷ []) ≡ true
+fit_more [] line h l = grind (arith, common_steps, l)
+fit_more (x ∷ xs) line h l = by_first (nat_le (length x) 65536) h (λ k. fit_more xs line k l)
   where
-    by_first : (t : Bool) → (t && all_fit (take n xs)) ≡ true → (all_fit (take n xs) ≡ true → all_fit (take (suc n) xs) ≡ true) → (t && all_fit (take (suc n) xs)) ≡ true
+    by_first : (t : Bool) → (t && all_fit xs) ≡ true → (all_fit xs ≡ true → all_fit (xs ++ line ∷ []) ≡ true) → (t && all_fit (xs ++ line ∷ [])) ≡ true
     by_first true h more = more h
     by_first false h more = cc
 
-next_rest : (n : ℕ) (lines : List (List ℕ)) (line : List ℕ) (rest : List (List ℕ)) → drop n lines ≡ line ∷ rest → drop (suc n) lines ≡ rest
-next_rest zero [] line rest h = cc
-next_rest zero (x ∷ xs) line rest h = cc
-next_rest (suc n) [] line rest h = cc
-next_rest (suc n) (x ∷ xs) line rest h = next_rest n xs line rest h
-
 -- a line past the length stands behind these
-over_fits : (n : ℕ) (lines : List (List ℕ)) → is_long (drop n lines) ≡ true → all_fit lines ≡ false
-over_fits zero [] h = cc
-over_fits zero (x ∷ xs) h = over x (all_fit xs) h
+over_fits : (script rest : List (List ℕ)) → is_long rest ≡ true → all_fit (script ++ rest) ≡ false
+over_fits [] [] h = cc
+over_fits [] (x ∷ xs) h = over x (all_fit xs) h
   where
     over : (x : List ℕ) (t : Bool) → nat_lt 65536 (length x) ≡ true → (nat_le (length x) 65536 && t) ≡ false
     over x t h = let no : nat_le (length x) 65536 ≡ false = grind (arith, common_steps, h) in ap (λ (b : Bool). b && t) no
-over_fits (suc n) [] h = cc
-over_fits (suc n) (x ∷ xs) h = by_first (nat_le (length x) 65536) (over_fits n xs h)
+over_fits (x ∷ xs) rest h = by_first (nat_le (length x) 65536) (over_fits xs rest h)
   where
-    by_first : (t : Bool) → all_fit xs ≡ false → (t && all_fit xs) ≡ false
+    by_first : (t : Bool) → all_fit (xs ++ rest) ≡ false → (t && all_fit (xs ++ rest)) ≡ false
     by_first true h = h
     by_first false h = refl
 
-many_too_long : (limit : ℕ) (input : List ℕ) → limit < length (lines_of input) → is_too_long limit input ≡ true
-many_too_long limit input h = grind (arith, common_steps, h)
+many_too_long : (input : List ℕ) → lines_limit < length (lines_of input) → is_too_long input ≡ true
+many_too_long input h = grind (arith, common_steps, h)
 
-over_too_long : (limit : ℕ) (input : List ℕ) → all_fit (lines_of input) ≡ false → is_too_long limit input ≡ true
-over_too_long limit input h = either (nat_lt limit (length (lines_of input))) (all_fit (lines_of input)) h
+over_too_long : (input : List ℕ) → all_fit (lines_of input) ≡ false → is_too_long input ≡ true
+over_too_long input h = either (nat_lt lines_limit (length (lines_of input))) (all_fit (lines_of input)) h
   where
     either : (s t : Bool) → t ≡ false → (s || not t) ≡ true
     either true t h = refl
     either false true h = cc
     either false false h = refl
 
-not_too_long : (limit : ℕ) (input : List ℕ) → length (lines_of input) ≤ limit → all_fit (lines_of input) ≡ true → is_too_long limit input ≡ false
-not_too_long limit input h k = let few : nat_lt limit (length (lines_of input)) ≡ false = grind (arith, common_steps, h) in rw (few, k) refl
+not_too_long : (input : List ℕ) → length (lines_of input) ≤ lines_limit → all_fit (lines_of input) ≡ true → is_too_long input ≡ false
+not_too_long input h k = let few : nat_lt lines_limit (length (lines_of input)) ≡ false = grind (arith, common_steps, h) in rw (few, k) refl
 
 has_more : (lines : List (List ℕ)) → has_line lines ≡ true → 1 ≤ length lines
 has_more [] h = cc
 has_more (l ∷ ls) h = omega arith
 
 -- why the next line is past the limits
-past_by : (limit number : ℕ) (lines : List (List ℕ)) → ((nat_le limit number && has_line lines) || is_long lines) ≡ true → ((limit ≤ number) × (1 ≤ length lines)) ⊎ (is_long lines ≡ true)
-past_by limit number lines h = by (nat_le limit number) (has_line lines) (is_long lines) refl refl h
+past_by : (limit number : ℕ) (lines : List (List ℕ)) → number ≤ limit → ((nat_le limit number && has_line lines) || is_long lines) ≡ true → ((number ≡ limit) × (has_line lines ≡ true)) ⊎ (is_long lines ≡ true)
+past_by limit number lines few h = by (nat_le limit number) (has_line lines) (is_long lines) refl refl h
   where
-    by : (s t u : Bool) → nat_le limit number ≡ s → has_line lines ≡ t → ((s && t) || u) ≡ true → ((limit ≤ number) × (1 ≤ length lines)) ⊎ (u ≡ true)
+    by : (s t u : Bool) → nat_le limit number ≡ s → has_line lines ≡ t → ((s && t) || u) ≡ true → ((number ≡ limit) × (t ≡ true)) ⊎ (u ≡ true)
     by s t true e f h = inr refl
-    by true true false e f h = inl (grind (arith, common_steps, e), has_more lines f)
+    by true true false e f h = inl (grind (arith, common_steps, e, few), refl)
     by true false false e f h = cc
     by false t false e f h = cc
 
+past_too_long : (input : List ℕ) (script rest : List (List ℕ)) → lines_of input ≡ script ++ rest → IsPast (length script) rest → is_too_long input ≡ true
+past_too_long input script rest parts (inl many) = let more = has_more rest many.1 in many_too_long input (omega (arith, many.0, more, ap length parts, length-append script rest))
+past_too_long input script rest parts (inr long) = over_too_long input (ap all_fit parts ∙ over_fits script rest long)
+
 -- ---- reading
 
-pub reading-start : (limit : ℕ) (source : Option (List ℕ)) (held : List ℕ) → held ≡ [] → IsReading limit source 0 held source
-reading-start limit None held e = tt
-reading-start limit (Some input) held e = record {
+pub reading-start : (source : Option (List ℕ)) (held : List ℕ) → held ≡ [] → IsReading source [] held source
+reading-start None held e = tt
+reading-start (Some input) held e = record {
   after = input;
   is_left = refl;
-  rest = ap (λ (h : List ℕ). lines_of (h ++ input)) (sym e);
-  all = let same = ap (λ (h : List ℕ). length (lines_of (h ++ input))) e in omega (arith, same);
-  few = omega arith;
-  fits = refl;
+  parts = ap (λ (h : List ℕ). lines_of (h ++ input)) (sym e);
+  front = [];
+  input_is = ap (λ (h : List ℕ). h ++ input) (sym e);
+  ended = omega arith;
 }
 
--- what the next line is
-pub record NextOf (input : List ℕ) (count : ℕ) (line : List ℕ) : Type 0 where
-  pub rest : List (List ℕ)
-  pub is : drop count (lines_of input) ≡ line ∷ rest
-
-pub next_of : (limit : ℕ) (input : List ℕ) (count : ℕ) (old new : Reading) (left left2 : Option (List ℕ)) → ReadSoFar limit input count old.held left → NextLine old left (Ok true) new left2 → NextOf input count new.line
-next_of limit input count old new left left2 r n =
+pub reading-more : (source : Option (List ℕ)) (script : List (List ℕ)) (old new : Reading) (left left2 : Option (List ℕ)) → IsReading source script old.held left → NextLine old left (Ok true) new left2 → StepsLine old left new left2 → IsReading source (script ++ new.line ∷ []) new.held left2
+reading-more None script old new left left2 r n m = tt
+reading-more (Some input) script old new left left2 r n m =
     let took = subst (λ (l : Option (List ℕ)). NextLine old l (Ok true) new left2) r.is_left n in
-    record { rest = lines_of (new.held ++ took.after); is = r.rest ∙ took.taken.line }
-
-pub reading-more : (limit : ℕ) (source : Option (List ℕ)) (count : ℕ) (old new : Reading) (left left2 : Option (List ℕ))
-    → IsReading limit source count old.held left → NextLine old left (Ok true) new left2 → length new.line ≤ 65536 → count < limit → IsReading limit source (count + 1) new.held left2
-reading-more limit None count old new left left2 r n fits few = tt
-reading-more limit (Some input) count old new left left2 r n fits few =
-    let took = subst (λ (l : Option (List ℕ)). NextLine old l (Ok true) new left2) r.is_left n in
-    let next : drop count (lines_of input) ≡ new.line ∷ lines_of (new.held ++ took.after) = r.rest ∙ took.taken.line in
-    let len : length (lines_of (old.held ++ r.after)) ≡ suc (length (lines_of (new.held ++ took.after))) = ap length took.taken.line in
-    let all = r.all in
+    let step = subst (λ (l : Option (List ℕ)). StepsLine old l new left2) r.is_left m in
+    let same : Some step.after ≡ Some took.after = sym step.is_left ∙ took.is_left in
+    let after : step.after ≡ took.after = cc in
     record {
       after = took.after;
       is_left = took.is_left;
-      rest = rw (add-one count) (next_rest count (lines_of input) new.line (lines_of (new.held ++ took.after)) next);
-      all = omega (arith, all, len);
-      few = omega (arith, few);
-      fits = rw (add-one count) (fit_more count (lines_of input) new.line (lines_of (new.held ++ took.after)) next r.fits fits);
+      parts = r.parts ∙ ap (λ (ls : List (List ℕ)). script ++ ls) took.taken.line ∙ sym (append_assoc script (new.line ∷ []) (lines_of (new.held ++ took.after)));
+      front = r.front ++ step.piece;
+      input_is = r.input_is ∙ ap (λ (xs : List ℕ). r.front ++ xs) (step.parts ∙ ap (λ (xs : List ℕ). step.piece ++ (new.held ++ xs)) after) ∙ sym (append_assoc r.front step.piece (new.held ++ took.after));
+      ended = omega (arith, r.ended, step.one, ended-append r.front step.piece, length-append script (new.line ∷ []));
     }
 
-ends-done : (limit : ℕ) (input : List ℕ) (count : ℕ) (held : List ℕ) (left left2 : Option (List ℕ)) (r : ReadSoFar limit input count held left)
-    → lines_of (held ++ r.after) ≡ [] → left2 ≡ Some [] → Reads limit input left2 Done count
-ends-done limit input count held left left2 r none end =
-    let none_len : length (lines_of (held ++ r.after)) ≡ 0 = ap length none in
-    let all = r.all in
-    let len : count ≡ length (lines_of input) = omega (arith, all, none_len) in
-    let few = r.few in
-    let whole : take count (lines_of input) ≡ lines_of input = take_all count (lines_of input) (omega (arith, len)) in
-    record {
-      few = r.few;
-      fits = r.fits;
-      ends = (not_too_long limit input (omega (arith, len, few)) (ap all_fit (sym whole) ∙ r.fits), len, end);
-    }
+-- what a status says at the end of the reading
+pub record EndsReading (source : Option (List ℕ)) (left : Option (List ℕ)) (status : Status) (script : List (List ℕ)) : Type 0 where
+  pub input : ReadsInput source left status script
+  pub fits : FitsInput status source
 
-pub reading-done : (limit : ℕ) (source : Option (List ℕ)) (count : ℕ) (old new : Reading) (left left2 : Option (List ℕ))
-    → IsReading limit source count old.held left → NextLine old left (Ok false) new left2 → ReadsInput limit source left2 Done count
-reading-done limit None count old new left left2 r n = tt
-reading-done limit (Some input) count old new left left2 r n =
+pub reading-done : (source : Option (List ℕ)) (script : List (List ℕ)) (old new : Reading) (left left2 : Option (List ℕ)) → length script ≤ lines_limit → all_fit script ≡ true
+    → IsReading source script old.held left → NextLine old left (Ok false) new left2 → EndsReading source left2 Done script
+reading-done None script old new left left2 few fit r n = record { input = tt; fits = tt }
+reading-done (Some input) script old new left left2 few fit r n =
     let took = subst (λ (l : Option (List ℕ)). NextLine old l (Ok false) new left2) r.is_left n in
-    ends-done limit input count old.held left left2 r took.taken.none (took.is_left ∙ ap (λ (a : List ℕ). Some a) took.taken.end)
-
-long_by : (limit : ℕ) (input : List ℕ) (count number : ℕ) (held : List ℕ) (left : Option (List ℕ)) (r : ReadSoFar limit input count held left) → number ≡ count
-    → ((limit ≤ number) × (1 ≤ length (lines_of (held ++ r.after)))) ⊎ (is_long (lines_of (held ++ r.after)) ≡ true) → is_too_long limit input ≡ true
-long_by limit input count number held left r e (inl many) = let all = r.all in many_too_long limit input (omega (arith, many.0, many.1, e, all))
-long_by limit input count number held left r e (inr long) = over_too_long limit input (over_fits count (lines_of input) (ap is_long r.rest ∙ long))
+    let all : lines_of input ≡ script = r.parts ∙ ap (λ (ls : List (List ℕ)). script ++ ls) took.taken.none ∙ append-nil script in
+    record {
+      input = record { rest = lines_of (old.held ++ r.after); parts = r.parts; ends = (took.taken.none, took.is_left ∙ ap (λ (a : List ℕ). Some a) took.taken.end) };
+      fits = not_too_long input (omega (arith, few, ap length all)) (ap all_fit all ∙ fit);
+    }
 
 -- the next line is too long, or one too many
-pub reading-long : (limit : ℕ) (source : Option (List ℕ)) (count : ℕ) (old new : Reading) (left left2 : Option (List ℕ)) → old.limit ≡ limit → old.number ≡ count
-    → IsReading limit source count old.held left → NextLine old left (Err failed.TooLong) new left2 → ReadsInput limit source left2 TooLong count
-reading-long limit None count old new left left2 e f r n = tt
-reading-long limit (Some input) count old new left left2 e f r n =
+pub reading-long : (source : Option (List ℕ)) (script : List (List ℕ)) (old new : Reading) (left left2 : Option (List ℕ)) → old.limit ≡ lines_limit → old.number ≡ length script → length script ≤ lines_limit
+    → IsReading source script old.held left → NextLine old left (Err failed.TooLong) new left2 → EndsReading source left2 TooLong script
+reading-long None script old new left left2 e f few r n = record { input = tt; fits = tt }
+reading-long (Some input) script old new left left2 e f few r n =
     let took = subst (λ (l : Option (List ℕ)). NextLine old l (Err failed.TooLong) new left2) r.is_left n in
-    let past = past_by limit old.number (lines_of (old.held ++ r.after)) (ap (λ (m : ℕ). (nat_le m old.number && has_line (lines_of (old.held ++ r.after))) || is_long (lines_of (old.held ++ r.after))) (sym e) ∙ took.taken) in
-    record { few = r.few; fits = r.fits; ends = long_by limit input count old.number old.held left r f past }
+    let rest = lines_of (old.held ++ r.after) in
+    let here : ((nat_le lines_limit (length script) && has_line rest) || is_long rest) ≡ true =
+    ap (λ (m : ℕ). (nat_le lines_limit m && has_line rest) || is_long rest) (sym f) ∙ ap (λ (m : ℕ). (nat_le m old.number && has_line rest) || is_long rest) (sym e) ∙ took.taken in
+    let past = past_by lines_limit (length script) rest few here in
+    record {
+      input = record { rest = rest; parts = r.parts; ends = past };
+      fits = past_too_long input script rest r.parts past;
+    }
 
 -- a status that says nothing of the input
 abbrev pub IsCut : Status → Type 0
@@ -150,21 +131,33 @@ IsCut Done = ⊥
 IsCut TooLong = ⊥
 IsCut _ = Unit {0}
 
-pub reading-cut : (limit : ℕ) (source : Option (List ℕ)) (count : ℕ) (held : List ℕ) (left left2 : Option (List ℕ)) (status : Status) → IsReading limit source count held left → IsCut status → ReadsInput limit source left2 status count
-reading-cut limit None count held left left2 status r cut = tt
-reading-cut limit (Some input) count held left left2 status r cut = record { few = r.few; fits = r.fits; ends = says status cut }
-  where
-    says : (s : Status) → IsCut s → EndsBy s limit input count left2
-    says Done c = absurd c
-    says Usage c = tt
-    says NoStore c = tt
-    says Exists c = tt
-    says ReadFault c = tt
-    says WriteFault c = tt
-    says DiskFault c = tt
-    says Damaged c = tt
-    says TooLong c = absurd c
-    says Memory c = tt
+pub fits_cut : (status : Status) (source : Option (List ℕ)) → IsCut status → FitsInput status source
+fits_cut Done source c = absurd c
+fits_cut Usage source c = tt
+fits_cut NoStore source c = tt
+fits_cut Exists source c = tt
+fits_cut ReadFault source c = tt
+fits_cut WriteFault source c = tt
+fits_cut DiskFault source c = tt
+fits_cut Damaged source c = tt
+fits_cut Memory source c = tt
+fits_cut TooLong source c = absurd c
 
-pub unread : (limit : ℕ) (source : Option (List ℕ)) (status : Status) → IsCut status → ReadsInput limit source source status 0
-unread limit source status cut = reading-cut limit source 0 [] source source status (reading-start limit source [] refl) cut
+ends_cut : (status : Status) (count : ℕ) (rest : List (List ℕ)) (left : Option (List ℕ)) → IsCut status → EndsBy status count rest left
+ends_cut Done count rest left c = absurd c
+ends_cut Usage count rest left c = tt
+ends_cut NoStore count rest left c = tt
+ends_cut Exists count rest left c = tt
+ends_cut ReadFault count rest left c = tt
+ends_cut WriteFault count rest left c = tt
+ends_cut DiskFault count rest left c = tt
+ends_cut Damaged count rest left c = tt
+ends_cut Memory count rest left c = tt
+ends_cut TooLong count rest left c = absurd c
+
+pub reading-cut : (source : Option (List ℕ)) (script : List (List ℕ)) (held : List ℕ) (left left2 : Option (List ℕ)) (status : Status) → IsReading source script held left → IsCut status → EndsReading source left2 status script
+reading-cut None script held left left2 status r cut = record { input = tt; fits = fits_cut status None cut }
+reading-cut (Some input) script held left left2 status r cut = record {
+  input = record { rest = lines_of (held ++ r.after); parts = r.parts; ends = ends_cut status (length script) (lines_of (held ++ r.after)) left2 cut };
+  fits = fits_cut status (Some input) cut;
+}

@@ -6,6 +6,7 @@ pub mod BeginLemmas
 pub mod KeepLemmas
 pub mod TellLemmas
 pub mod MarkLemmas
+pub mod AskLemmas
 pub mod ServeLemmas
 pub mod EndsLemmas
 pub mod RunLemmas

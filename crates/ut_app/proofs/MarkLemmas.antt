@@ -5,8 +5,7 @@ use Rattle.ut_outside.specs.declared.ack.Ack.{Ack}
 use Rattle.ut_outside.specs.declared.faults.Failed as fails
 use Rattle.ut_plain.specs.Transcript.{Answer}
 use Rattle.ut_script.specs.Texts.{session_text, reply_body}
-use Rattle.ut_app.specs.Writing.{answer_text, texts_of, WroteAll, WroteSome, Writes, AreMarked, AreMarkedBy, WroteAnswers, HasWritten, WroteFront}
-use Rattle.ut_app.specs.Serving.{HasFront}
+use Rattle.ut_app.specs.Writing.{answer_text, texts_of, WroteAll, WroteSome, Writes, AreMarked, AreMarkedBy, WroteAnswers, HasWritten, WroteFront, HasFront}
 
 pub texts-append : (xs ys : List Answer) → texts_of (xs ++ ys) ≡ texts_of xs ++ texts_of ys
 texts-append [] ys = refl
@@ -50,11 +49,6 @@ marked_more (b ∷ answers) at marks more (ack ∷ acks) a k m h =
     let e : at + length (answer_text b) + length (texts_of answers) ≡ at + length (answer_text b ++ texts_of answers) = omega (arith, length-append (answer_text b) (texts_of answers)) in
     (get_front marks more at ack.moment m.0, marked_more answers (at + length (answer_text b)) marks more acks a k m.1 (ap (λ i. slice_get (marks ++ more) i) e ∙ h))
 
-pub marked_by : (answers : List Answer) (at : ℕ) (marks : List ℕ) (end : ℕ) (acks : List Ack) → AreMarked answers at marks acks → AreMarkedBy answers at marks end acks
-marked_by [] at marks end acks m = m
-marked_by (a ∷ answers) at marks end [] m = absurd m
-marked_by (a ∷ answers) at marks end (k ∷ acks) m = (sym (or_got marks at k.moment end m.0), marked_by answers (at + length (answer_text a)) marks end acks m.1)
-
 marked_last : (answers : List Answer) (at : ℕ) (marks more : List ℕ) (end : ℕ) (acks : List Ack) (a : Answer) (k : Ack) → AreMarked answers at marks acks → k.moment ≡ get_or (marks ++ more) (at + length (texts_of answers)) end → AreMarkedBy (answers ++ a ∷ []) at (marks ++ more) end (acks ++ k ∷ [])
 marked_last [] at marks more end acks a k m h =
     let same : at + 0 ≡ at = omega arith in
@@ -91,9 +85,12 @@ some_by b answers a held marks acks n m then marks_then w some =
     let place : length marks ≡ length b + length (texts_of answers) = omega (arith, length-append b (texts_of answers), w.each_byte) in
     let more = replicate (length some.front) m in
     record {
-      front = texts_of answers ++ some.front;
+      given = answers;
+      last = a;
+      part = some.front;
       rest = some.rest;
-      parts = texts-one answers a ∙ ap (λ t. texts_of answers ++ t) some.parts ∙ sym (append_assoc (texts_of answers) some.front some.rest);
+      answers_are = refl;
+      parts = some.parts;
       bytes = some.wrote.bytes ∙ ap (λ t. Some t) (append_assoc b (texts_of answers) some.front);
       marked = subst (λ (xs : List ℕ). AreMarkedBy (answers ++ a ∷ []) (length b) xs m (acks ++ record { journal = n; moment = m } ∷ [])) (sym some.wrote.moments)
           (marked_last answers (length b) marks more m acks a (record { journal = n; moment = m }) w.marked (sym (or_first marks (length some.front) m) ∙ ap (λ i. get_or (marks ++ more) i m) place));
@@ -104,11 +101,6 @@ pub written-some : (before : Option (List ℕ)) (answers : List Answer) (a : Ans
 written-some None answers a held marks acks n m then marks_then e w writes = tt
 written-some (Some b) answers a held marks acks n m then marks_then e w writes =
     some_by b answers a held marks acks n m then marks_then w (subst (λ (o : Option (List ℕ)). Writes {T = Unit {0}} {E = fails.Failed} o marks (answer_text a) m (Err e) then marks_then) w.bytes writes)
-
--- all is a front of itself
-pub whole_front : (before : Option (List ℕ)) (answers : List Answer) (end : ℕ) (held : Option (List ℕ)) (marks : List ℕ) (acks : List Ack) → HasWritten before answers held marks acks → HasFront before answers end held marks acks
-whole_front None answers end held marks acks w = tt
-whole_front (Some b) answers end held marks acks w = record { front = texts_of answers; rest = []; parts = sym (append-nil (texts_of answers)); bytes = w.bytes; marked = marked_by answers (length b) marks end acks w.marked }
 
 pub nothing_written : (before : Option (List ℕ)) (marks : List ℕ) → ((bytes : List ℕ) → before ≡ Some bytes → length marks ≡ length bytes) → HasWritten before [] before marks []
 nothing_written None marks h = tt

@@ -1,7 +1,7 @@
 -- What a line comes to.
 use Rattle.std.proofs.Common.{inl, inr, ℕ, zero, suc, ◌≡◌, ◌<◌, ◌-◌, ◌⊎◌, Bool, true, false, List, [], ◌∷◌, Option, None, Some, refl, ap, ◌∙◌, sym, subst, arith}
 use Rattle.std.proofs.lemmas.List.{take_all}
-use Rattle.ut_outside.specs.Disk.{View, Image}
+use Rattle.ut_outside.specs.Disk.{View, Image, IsTold}
 use Rattle.ut_outside.proofs.RunLemmas.{started}
 use Rattle.ut_value.specs.declared.entry.Op.{Op}
 use Rattle.ut_plain.specs.declared.statement.Statement.{Statement}
@@ -23,12 +23,14 @@ use Rattle.ut_plain.specs.Transcript.{Answer, AnswersLine}
 use Rattle.ut_script.specs.Texts.{reply_text, is_small}
 use Rattle.ut_script.specs.Statements.{needs_memory}
 use Rattle.ut_script.specs.Grammar.{MayLackMemory}
+use Rattle.ut_redo.specs.Appends.{Place}
 use Rattle.ut_logged.specs.Logged.{Logged}
 use Rattle.ut_logged.specs.Readings.{IsReading, HoldsPrefix}
 use Rattle.ut_logged.specs.Runs.{Runs}
 use Rattle.ut_logged.specs.Serves.{Serves, IsAnswered, IsLost}
 use Rattle.ut_app.specs.declared.say.Said.{Said}
 use Rattle.ut_app.specs.declared.say.Said.TheVariants as saids
+use Rattle.ut_app.specs.Keeping.{HoldsWhole}
 use Rattle.ut_app.specs.Saying.{IsText, Whole, Lacking, Keeps, Outcome, Quiet, Replied, Failed, Says, said_of}
 
 -- a disk's own moment leaves what a crash leaves now
@@ -36,14 +38,18 @@ abbrev pub OnlyNow : View → Type 0
 OnlyNow v = (c : Image) → v.crash_states_since v.moment c → v.crash_states c
 
 -- a whole journal is a prefix of itself
-pub whole : (j : Journal) (end : ℕ) (c : Image) → IsReading j end c → HoldsPrefix j (journal_len j) c
+pub whole : (j : Journal) (end : Place) (c : Image) → IsReading j end c → HoldsPrefix j (journal_len j) c
 whole j end c r =
     let all : prefix j (journal_len j) ≡ j = ap (λ es. record j { entries = es }) (take_all (journal_len j - j.base.length) j.entries (omega arith)) in
     record { count = journal_len j; no_fewer = omega arith; no_more = omega arith; holds = record { end = end; reading = subst (λ k. IsReading k end c) (sym all) r } }
 
+-- what a running store holds of its files
+pub runs_whole : (e : Logged) (v : View) (p : Plain) → Runs e v p → IsTold v → HoldsWhole v p.journal
+runs_whole e v p runs told c h = whole p.journal e.log c (runs.held told c h)
+
 -- a store that does nothing keeps all
 pub still : (e : Logged) (v : View) (p : Plain) → OnlyNow v → Runs e v p → Keeps v v p.journal (journal_len p.journal)
-still e v p only runs told = started v (HoldsPrefix p.journal (journal_len p.journal)) (λ c h. whole p.journal e.log.end c (runs.held told c (only c h)))
+still e v p only runs told = started v (HoldsPrefix p.journal (journal_len p.journal)) (λ c h. runs_whole e v p runs told c (only c h))
 
 -- ---- long replies
 

@@ -19,10 +19,7 @@ use Rattle.ut_plain.specs.declared.stage.PendingMerge.{PendingMerge}
 use Rattle.ut_plain.specs.Tables.{place_in}
 use Rattle.ut_plain.specs.Step.{merge_ended, step, step_by, effect_of, with_txn, with_made, committed, committed_by, MayAnswer, Steps, LacksMemory}
 use Rattle.ut_plain.specs.Transcript.{Answer, AnswersLine, Answers, Transcript, Whole, Cut, Faults}
-use Rattle.ut_script.specs.Lines.{lines_of}
-use Rattle.ut_script.specs.Grammar.{parsed}
 use Rattle.ut_app.specs.Telling.{Tells, AnswersAll, AnswersToFault}
-use Rattle.ut_app.specs.Serving.{first_lines}
 use Rattle.ut_app.proofs.KeepLemmas.{GoesOn}
 
 -- ---- transcripts
@@ -46,17 +43,6 @@ whole_transcript p lines answers lengths journal q a = Whole (tells_answers p li
 
 pub cut_transcript : (p : Plain) (lines : List Parsed) (answers : List Answer) (lengths : List ℕ) (journal : ℕ) (q : Plain) → AnswersToFault p lines answers lengths journal q → Transcript p lines answers q
 cut_transcript p lines answers lengths journal q a = Cut a.before a.line a.given a.last a.mid a.lines_are a.answers_are (tells_answers p a.before a.given a.told a.mid a.tells) a.faults
-
--- ---- lines of the input
-
-taken : {A B : Type 0} (f : A → B) (n : ℕ) (xs : List A) (x : A) (rest : List A) → drop n xs ≡ x ∷ rest → map f (take (suc n) xs) ≡ map f (take n xs) ++ f x ∷ []
-taken f zero [] x rest h = cc
-taken f zero (y ∷ ys) x rest h = cc
-taken f (suc n) [] x rest h = cc
-taken f (suc n) (y ∷ ys) x rest h = ap (λ l. f y ∷ l) (taken f n ys x rest h)
-
-pub one_line : (count : ℕ) (input line : List ℕ) (rest : List (List ℕ)) → drop count (lines_of input) ≡ line ∷ rest → first_lines (count + 1) input ≡ first_lines count input ++ parsed false line ∷ []
-one_line count input line rest h = rw (add-one count) (taken (parsed false) count (lines_of input) line rest h)
 
 -- ---- the journal only grows
 

@@ -1,8 +1,8 @@
 -- How a run begins: the store is made or opened.
 use Rattle.std.specs.Prelude.{◌≡◌, []}
-use Rattle.ut_outside.specs.Disk.{View, Image, IsTold}
+use Rattle.ut_outside.specs.Disk.{View, IsTold}
 use Rattle.ut_outside.specs.Faults.{Rose}
-use Rattle.ut_plain.specs.Journal.{Journal, journal_len}
+use Rattle.ut_plain.specs.Journal.{Journal}
 use Rattle.ut_plain.specs.Plain.{opened_store}
 use Rattle.ut_logged.specs.declared.error.OpenError.{OpenError}
 use Rattle.ut_logged.specs.declared.error.OpenError.TheVariants as errors
@@ -11,8 +11,8 @@ use Rattle.ut_logged.specs.Runs.{Runs}
 use Rattle.ut_app.specs.declared.words.Start.{Start}
 use Rattle.ut_app.specs.declared.report.Status.{Status}
 use Rattle.ut_app.specs.declared.report.Status.TheVariants.{NoStore, Exists, DiskFault, Damaged, Memory}
-use Rattle.ut_app.specs.Keeping.{Begins, Kept, HoldsRun, NothingPending}
-use Rattle.ut_app.specs.Serving.{rows_limit}
+use Rattle.ut_app.specs.Keeping.{Begins, Kept}
+use Rattle.ut_app.specs.Serving.{rows_limit, LosesNothing}
 use Rattle.ut_app.specs.Ends.{FitsStore, IsEarly}
 
 -- the store runs from what it was opened with, and nothing was lost on the way
@@ -27,7 +27,7 @@ pub record NotBegun (start : Start) (entry now : View) (status : Status) : Type 
   pub early : IsEarly status
   pub fits : IsTold entry → FitsStore status start entry.seen
   pub cause : status ≡ DiskFault → Rose entry.faults now.faults
-  pub since_entry : IsTold entry → (first : Journal) → Begins start first entry.seen → NothingPending entry → (c : Image) → now.crash_states_since entry.moment c → HoldsRun start first (journal_len first) c
+  pub disk : LosesNothing start entry now status
 
 -- the status of an error
 abbrev pub OpenStatus : OpenError → Status → Type 0

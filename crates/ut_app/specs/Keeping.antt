@@ -24,6 +24,10 @@ abbrev pub HoldsRun : Start → Journal → ℕ → Image → Type 0
 HoldsRun New j least c = HoldsPrefix j least c ⊎ (IsMade c.pages → ⊥)
 HoldsRun Open j least c = HoldsPrefix j least c
 
+-- a crash now leaves the whole journal
+abbrev pub HoldsWhole : View → Journal → Type 0
+HoldsWhole now j = Always now (HoldsPrefix j (journal_len j))
+
 -- a journal with these entries behind it
 abbrev pub behind : Journal → List Entry → Journal
 behind j es = record j { entries = j.entries ++ es }

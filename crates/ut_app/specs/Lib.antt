@@ -1,6 +1,9 @@
 pub mod Words
+pub mod World
+pub mod Script
 pub mod Writing
 pub mod Telling
+pub mod Asking
 pub mod Saying
 pub mod Keeping
 pub mod Turning

@@ -1,56 +1,52 @@
 -- How far a run is, and what it came to.
-use Rattle.std.specs.Prelude.{ℕ, ◌≡◌, ◌⊎◌, false, List, [], take, map, Option, None, Some}
+use Rattle.std.specs.Prelude.{ℕ, ◌≡◌, ◌≤◌, ◌⊎◌, Bool, true, false, List, [], length, map}
 use Rattle.ut_outside.specs.Disk.{View, Image, IsTold}
 use Rattle.ut_outside.specs.Faults.{Rose}
+use Rattle.ut_outside.specs.Run.{ReadsOnly}
 use Rattle.ut_outside.specs.declared.ack.Ack.{Ack}
+use Rattle.ut_pages.specs.Layout.{IsMade}
 use Rattle.ut_plain.specs.declared.statement.Parsed.{Parsed}
 use Rattle.ut_plain.specs.Journal.{Journal, journal_len}
 use Rattle.ut_plain.specs.Plain.{Plain, opened_store}
 use Rattle.ut_plain.specs.Transcript.{Answer, Transcript}
-use Rattle.ut_script.specs.Lines.{lines_of}
 use Rattle.ut_script.specs.Grammar.{parsed}
 use Rattle.ut_logged.specs.Logged.{Logged}
 use Rattle.ut_logged.specs.Runs.{Runs}
 use Rattle.ut_app.specs.declared.words.Start.{Start}
+use Rattle.ut_app.specs.declared.words.Start.TheVariants.{New, Open}
 use Rattle.ut_app.specs.declared.report.Status.{Status}
 use Rattle.ut_app.specs.declared.report.Status.TheVariants as statuses
+use Rattle.ut_app.specs.World.{World, StreamsStay, DiskStays}
+use Rattle.ut_app.specs.Script.{lines_limit, all_fit, ReadsInput}
 use Rattle.ut_app.specs.Telling.{Tells, AnswersAll, AnswersToFault}
-use Rattle.ut_app.specs.Writing.{HasWritten, WroteFront}
-use Rattle.ut_app.specs.Keeping.{Begins, Kept, HoldsRun, NothingPending}
+use Rattle.ut_app.specs.Writing.{HasWritten, HasFront}
+use Rattle.ut_app.specs.Asking.{replies_of, AsksInTime}
+use Rattle.ut_app.specs.Keeping.{Begins, Kept, HoldsRun, HoldsWhole, NothingPending}
 
 -- the greatest id that a run gives
 abbrev pub rows_limit : ℕ
 rows_limit = 2147483648
 
--- the first lines of an input, as the grammar reads them
-abbrev pub first_lines : ℕ → List ℕ → List Parsed
-first_lines count input = map (parsed false) (take count (lines_of input))
+-- lines as the grammar reads them
+abbrev pub parsed_lines : List (List ℕ) → List Parsed
+parsed_lines script = map (parsed false) script
 
 -- the lengths that acknowledgements carry
 abbrev pub lengths_of : List Ack → List ℕ
 lengths_of acks = map (λ (a : Ack). a.journal) acks
 
--- The first lines of an input were answered one after the other; what was written, acknowledged and kept meanwhile.
-pub record Progress (start : Start) (input : List ℕ) (before : Option (List ℕ)) (entry : View) (count : ℕ) (store : Logged) (now : View) (held : Option (List ℕ)) (marks : List ℕ) (acks : List Ack) (journal : ℕ) : Type 0 where
+-- These lines were answered one after the other; what was written, acknowledged and kept meanwhile.
+pub record Progress (start : Start) (before now : World) (script : List (List ℕ)) (store : Logged) (acks : List Ack) (journal : ℕ) : Type 0 where
   pub first : Journal
   pub answers : List Answer
   pub plain : Plain
-  pub begins : IsTold entry → Begins start first entry.seen
-  pub tells : Tells (opened_store [] first rows_limit) (first_lines count input) answers (lengths_of acks) plain
-  pub runs : Runs store now plain
-  pub written : HasWritten before answers held marks acks
-  pub kept : IsTold entry → Kept start entry now first plain.journal acks
+  pub begins : IsTold before.disk → Begins start first before.disk.seen
+  pub tells : Tells (opened_store [] first rows_limit) (parsed_lines script) answers (lengths_of acks) plain
+  pub runs : Runs store now.disk plain
+  pub written : HasWritten before.sink answers now.sink now.marks acks
+  pub in_time : AsksInTime before.source before.sink before.asks (replies_of (parsed_lines script) answers) now.asks
+  pub kept : IsTold before.disk → Kept start before.disk now.disk first plain.journal acks
   pub length_is : journal ≡ journal_len plain.journal
-
--- of a source that tells its bytes
-abbrev pub IsProgress : Start → Option (List ℕ) → Option (List ℕ) → View → ℕ → Logged → View → Option (List ℕ) → List ℕ → List Ack → ℕ → Type 0
-IsProgress start None before entry count store now held marks acks journal = Unit {0}
-IsProgress start (Some input) before entry count store now held marks acks journal = Progress start input before entry count store now held marks acks journal
-
--- what was written of answers, of a sink that tells its bytes
-abbrev pub HasFront : Option (List ℕ) → List Answer → ℕ → Option (List ℕ) → List ℕ → List Ack → Type 0
-HasFront None answers end held marks acks = Unit {0}
-HasFront (Some before) answers end held marks acks = WroteFront before answers end held marks acks
 
 -- where the disk failed, the status says so, or that the sink failed too
 abbrev pub IsFault : Status → Type 0
@@ -58,26 +54,70 @@ IsFault statuses.DiskFault = Unit {0}
 IsFault statuses.WriteFault = Unit {0}
 IsFault _ = ⊥
 
--- The first lines of an input were answered, to the last of them or to one at which the disk failed; what was written, acknowledged and kept.
-pub record Ran (start : Start) (input : List ℕ) (before : Option (List ℕ)) (entry : View) (status : Status) (lines : ℕ) (now : View) (held : Option (List ℕ)) (marks : List ℕ) (acks : List Ack) (journal : ℕ) : Type 0 where
+-- All answers were written, or where the sink failed all but the end of the last one.
+abbrev pub IsWritten : Status → World → List Answer → World → List Ack → Type 0
+IsWritten statuses.WriteFault before answers after acks = HasFront before.sink answers after.disk.moment after.sink after.marks acks
+IsWritten _ before answers after acks = HasWritten before.sink answers after.sink after.marks acks
+
+-- The lines were answered to the last, and a crash now leaves the whole journal.
+pub record AllAnswered (p : Plain) (script : List (List ℕ)) (answers : List Answer) (acks : List Ack) (journal : ℕ) (q : Plain) (now : View) : Type 0 where
+  pub all : AnswersAll p (parsed_lines script) answers (lengths_of acks) journal q
+  pub stays : IsTold now → HoldsWhole now q.journal
+
+-- They were answered to one at which the disk failed.
+pub record LastFaulted (p : Plain) (script : List (List ℕ)) (answers : List Answer) (acks : List Ack) (journal : ℕ) (q : Plain) (entry now : View) (status : Status) : Type 0 where
+  pub cut : AnswersToFault p (parsed_lines script) answers (lengths_of acks) journal q
+  pub says : IsFault status
+  pub rose : Rose entry.faults now.faults
+
+-- What was answered to these lines, written, acknowledged and kept.
+pub record Answered (start : Start) (before after : World) (status : Status) (script : List (List ℕ)) (acks : List Ack) (journal : ℕ) : Type 0 where
   -- the journal at the entry, the answers, and the state after them
   pub first : Journal
   pub answers : List Answer
   pub plain : Plain
-  pub begins : IsTold entry → Begins start first entry.seen
-  pub transcript : Transcript (opened_store [] first rows_limit) (first_lines lines input) answers plain
+  pub begins : IsTold before.disk → Begins start first before.disk.seen
+  pub transcript : Transcript (opened_store [] first rows_limit) (parsed_lines script) answers plain
   -- one acknowledgement for each answer, with the length of the journal after its line, or before it where the disk failed
-  pub answered : AnswersAll (opened_store [] first rows_limit) (first_lines lines input) answers (lengths_of acks) journal plain
-      ⊎ (AnswersToFault (opened_store [] first rows_limit) (first_lines lines input) answers (lengths_of acks) journal plain × IsFault status × Rose entry.faults now.faults)
-  pub written : HasFront before answers now.moment held marks acks
-  pub all_written : (status ≡ statuses.WriteFault → ⊥) → HasWritten before answers held marks acks
-  pub kept : IsTold entry → Kept start entry now first plain.journal acks
+  pub ended : AllAnswered (opened_store [] first rows_limit) script answers acks journal plain after.disk
+      ⊎ LastFaulted (opened_store [] first rows_limit) script answers acks journal plain before.disk after.disk status
+  pub written : IsWritten status before answers after acks
+  -- each reply stands in the sink before the source is asked for more than its line needs
+  pub in_time : AsksInTime before.source before.sink before.asks (replies_of (parsed_lines script) answers) after.asks
+  pub kept : IsTold before.disk → Kept start before.disk after.disk first plain.journal acks
 
--- The run ended before a line was read: nothing was written, and a crash leaves what was there, whatever journal the run would have begun with.
-pub record EndedEarly (start : Start) (before : Option (List ℕ)) (marks_before : List ℕ) (entry : View) (lines : ℕ) (now : View) (held : Option (List ℕ)) (marks : List ℕ) (acks : List Ack) (journal : ℕ) : Type 0 where
+-- The first lines of the input were answered, each within the limits. Where the source doesn't tell its bytes, some lines were.
+pub record Ran (start : Start) (before after : World) (status : Status) (lines : ℕ) (acks : List Ack) (journal : ℕ) : Type 0 where
+  pub script : List (List ℕ)
+  pub count : lines ≡ length script
+  pub few : lines ≤ lines_limit
+  pub fit : all_fit script ≡ true
+  pub input : ReadsInput before.source after.source status script
+  pub answered : Answered start before after status script acks journal
+
+-- a run may not write where a store is to be opened, nor where one is to be made and is there
+abbrev pub MayOnlyRead : Start → Image → Type 0
+MayOnlyRead Open c = Unit {0}
+MayOnlyRead New c = IsMade c.pages
+
+-- What becomes of the disk where no store could be opened or made: a store that is there is only read, and one that was to be made isn't begun where memory is wanting. A crash leaves what was there, or while a store is made no store or an empty one.
+pub record LosesNothing (start : Start) (entry now : View) (status : Status) : Type 0 where
+  pub reads : IsTold entry → MayOnlyRead start entry.seen → ReadsOnly entry now
+  pub unbegun : status ≡ statuses.Memory → ReadsOnly entry now
+  pub since_entry : IsTold entry → (first : Journal) → Begins start first entry.seen → NothingPending entry → (c : Image) → now.crash_states_since entry.moment c → HoldsRun start first (journal_len first) c
+
+-- The run ended before a line was read, and no store was opened: only the disk was asked.
+pub record EndedEarly (start : Start) (before after : World) (status : Status) (lines : ℕ) (acks : List Ack) (journal : ℕ) : Type 0 where
   pub none : lines ≡ 0
   pub no_acks : acks ≡ []
   pub no_journal : journal ≡ 0
-  pub same : held ≡ before
-  pub same_marks : marks ≡ marks_before
-  pub since_entry : IsTold entry → (first : Journal) → Begins start first entry.seen → NothingPending entry → (c : Image) → now.crash_states_since entry.moment c → HoldsRun start first (journal_len first) c
+  pub streams : StreamsStay before after
+  pub disk : LosesNothing start before.disk after.disk status
+
+-- Nothing was read, written or asked.
+pub record DidNothing (before after : World) (lines : ℕ) (acks : List Ack) (journal : ℕ) : Type 0 where
+  pub none : lines ≡ 0
+  pub no_acks : acks ≡ []
+  pub no_journal : journal ≡ 0
+  pub streams : StreamsStay before after
+  pub disk : DiskStays before.disk after.disk

@@ -61,10 +61,18 @@ abbrev pub HasWritten : Option (List ℕ) → List Answer → Option (List ℕ) 
 HasWritten None answers held marks acks = Unit {0}
 HasWritten (Some before) answers held marks acks = WroteAnswers before answers held marks acks
 
--- The texts of these answers were written, or where the sink failed a front of them; the moments of the acknowledgements.
+-- The texts of these answers were written, but of the last one a part alone, since the sink failed there; the moments of the acknowledgements.
 pub record WroteFront (before : List ℕ) (answers : List Answer) (end : ℕ) (held : Option (List ℕ)) (marks : List ℕ) (acks : List Ack) : Type 0 where
-  pub front : List ℕ
+  pub given : List Answer
+  pub last : Answer
+  pub part : List ℕ
   pub rest : List ℕ
-  pub parts : texts_of answers ≡ front ++ rest
-  pub bytes : held ≡ Some (before ++ front)
+  pub answers_are : answers ≡ given ++ last ∷ []
+  pub parts : answer_text last ≡ part ++ rest
+  pub bytes : held ≡ Some (before ++ (texts_of given ++ part))
   pub marked : AreMarkedBy answers (length before) marks end acks
+
+-- of a sink that tells its bytes
+abbrev pub HasFront : Option (List ℕ) → List Answer → ℕ → Option (List ℕ) → List ℕ → List Ack → Type 0
+HasFront None answers end held marks acks = Unit {0}
+HasFront (Some before) answers end held marks acks = WroteFront before answers end held marks acks

@@ -1,12 +1,12 @@
 //! The next line, or why the run ends before it.
 ghost use Rattle.std.specs.Prelude.{◌≡◌, ◌≤◌, [], None, true, Ok, IfOk, IfErr, OnOk};
-ghost use Rattle.ut_script.specs.Lines.{NextLine, Counts};
+ghost use Rattle.ut_script.specs.Lines.{NextLine, StepsLine, AsksFew, Counts};
 ghost use Rattle.ut_app.specs.Input.{NoLine, GoesOn};
 
 use crate::report::Status;
 use crate::turn::Replies;
 use std::alloc::{AllocError, Global};
-use ut_outside::Source;
+use ut_outside::{Source, Taken};
 use ut_script::{LineError, Lines};
 
 /// At most so many lines are read.
@@ -20,14 +20,17 @@ pub(crate) fn script_lines(alloc: Global) -> Result<Lines, AllocError>
 }
 
 /// Makes room for one reply more and reads the next line, or says why the run ends.
-pub(crate) fn next_line<S: Source>(
+pub(crate) fn next_line<S: Source, K: Taken>(
     replies: &mut Replies,
     lines: &mut Lines,
     source: &mut S,
+    sink: &K,
 ) -> Result<(), Status>
     requires { lines.old.failed ≡ None }
     ensures room { OnOk result (1 ≤ replies.new.acks.spare) }
     ensures line { OnOk result (NextLine lines.old (S.left source.old) (Ok true) lines.new (S.left source.new)) }
+    ensures steps { OnOk result (StepsLine lines.old (S.left source.old) lines.new (S.left source.new)) }
+    ensures asks { AsksFew lines.old (S.left source.old) (K.held sink.now) (S.asks source.old) (S.asks source.new) }
     ensures counts { OnOk result (Counts lines.old (Ok true) lines.new) }
     ensures ends { IfErr result (λ status. NoLine status lines.old (S.left source.old) (S.faults source.old) lines.new (S.left source.new) (S.faults source.new)) }
     ensures later { S.faults source.old ≤ S.faults source.new }
@@ -38,7 +41,7 @@ pub(crate) fn next_line<S: Source>(
         Ok(()) => {}
         Err(_) => return Err(Status::Memory),
     }
-    outcome(lines.advance(source))
+    outcome(lines.advance(source, sink))
 }
 
 /// What an answer of the reader says of the run.

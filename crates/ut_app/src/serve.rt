@@ -19,8 +19,8 @@ pub(crate) fn serve<S: Source, K: Sink<D>, D: Disk>(
     disk: &mut D,
 ) -> Report
     ensures { Run start
-        (record { source = S.left source.old; reads = S.faults source.old; sink = K.held sink.old; marks = K.moments sink.old; writes = K.faults sink.old; disk = D.view disk.old })
-        (record { source = S.left source.new; reads = S.faults source.new; sink = K.held sink.new; marks = K.moments sink.new; writes = K.faults sink.new; disk = D.view disk.new })
+        (record { source = S.left source.old; asks = S.asks source.old; reads = S.faults source.old; sink = K.held sink.old; marks = K.moments sink.old; writes = K.faults sink.old; disk = D.view disk.old })
+        (record { source = S.left source.new; asks = S.asks source.new; reads = S.faults source.new; sink = K.held sink.new; marks = K.moments sink.new; writes = K.faults sink.new; disk = D.view disk.new })
         result.status result.lines result.acks.items result.journal }
 {
     let mut lines = match script_lines(alloc) {
@@ -38,7 +38,7 @@ pub(crate) fn serve<S: Source, K: Sink<D>, D: Disk>(
     replies.opened(store.journal_len());
     let mut count = 0u64;
     loop {
-        match next_line(&mut replies, &mut lines, source) {
+        match next_line(&mut replies, &mut lines, source, sink) {
             Ok(()) => {}
             Err(status) => return replies.report(status, count),
         }

@@ -5,7 +5,7 @@ use Rattle.ut_plain.specs.declared.statement.Statement.{Statement}
 use Rattle.ut_plain.specs.declared.reply.Reply.{Reply}
 use Rattle.ut_plain.specs.Plain.{Plain, new_store}
 use Rattle.ut_logged.specs.Logged.{Logged}
-use Rattle.ut_logged.specs.Runs.{Runs, Opens}
+use Rattle.ut_logged.specs.Runs.{Runs, IsNew, Opens}
 use Rattle.ut_logged.specs.Serves.{Serves, IsAnswered, IsLost}
 
 pub goes_on : (old new : Logged) (before after : View) (session : ℕ) (st : Statement) (reply : Reply) (p : Plain) → Runs old before p → Serves old before session st reply new after → new.down ≡ false → (q : Plain) × Runs new after q
@@ -15,8 +15,8 @@ goes_on old new before after session st reply p runs serves up = by_case (serves
     by_case is = ⊎_elim (λ answered. (answered.plain, answered.runs)) (λ lost. let down : new.down ≡ true = lost.down in cc) is
 
 -- a store that was just made or opened runs from some plain state
-pub made_runs : (e : Logged) (disk : View) (rows : ℕ) → Runs e disk (new_store rows) → (p : Plain) × Runs e disk p
-made_runs e disk rows runs = (new_store rows, runs)
+pub made_runs : (e : Logged) (rows : ℕ) (before after : View) → IsNew e rows before after → (p : Plain) × Runs e after p
+made_runs e rows before after new = (new_store rows, new.runs)
 
 pub opened_runs : (e : Logged) (rows : ℕ) (before after : View) → Opens e rows before after → (p : Plain) × Runs e after p
 opened_runs e rows before after opens = (_, opens.runs)

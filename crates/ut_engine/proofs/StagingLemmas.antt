@@ -217,7 +217,7 @@ wants_memory e disk session st only lacks = record {
     may = LacksMemory lacks refl refl;
     runs = runs;
     sound = λ fault. cc;
-    any_moment = λ told. started disk (HoldsPrefix p.journal (journal_len p.journal)) (λ c left. holds_all p.journal e.log.end (journal_len p.journal) c (omega arith) (runs.held told c (only c left)));
+    any_moment = λ told. started disk (HoldsPrefix p.journal (journal_len p.journal)) (λ c left. holds_all p.journal e.log (journal_len p.journal) c (omega arith) (runs.held told c (only c left)));
   });
   told = refl;
   later = omega arith;

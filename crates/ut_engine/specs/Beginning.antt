@@ -1,17 +1,17 @@
 -- What a call answers that makes or opens a store over a disk, and what becomes of that disk.
 use base.Fml.{GName}
 use Rattle.std.specs.Prelude.{ℕ, ◌≡◌, ◌≤◌, Result, Ok, Err, IfOk, IsErrOf}
-use Rattle.ut_outside.specs.Disk.{View, IsTold}
+use Rattle.ut_outside.specs.Disk.{View, Image, IsTold}
 use Rattle.ut_outside.specs.Faults.{Rose}
-use Rattle.ut_outside.specs.Run.{Always, LeavesOnly}
+use Rattle.ut_outside.specs.Run.{Always, LeavesOnly, ReadsOnly}
 use Rattle.ut_pages.specs.Layout.{IsMade}
 use Rattle.ut_plain.specs.Journal.{Journal}
-use Rattle.ut_plain.specs.Plain.{new_store}
 use Rattle.ut_logged.specs.declared.error.OpenError.{OpenError}
 use Rattle.ut_logged.specs.declared.error.OpenError.TheVariants as errors
 use Rattle.ut_logged.specs.Logged.{Logged}
 use Rattle.ut_logged.specs.Readings.{HoldsJournal}
-use Rattle.ut_logged.specs.Runs.{Runs, Opens, NotMadeOrEmpty}
+use Rattle.ut_logged.specs.Opening.{MayOnlyRead}
+use Rattle.ut_logged.specs.Runs.{IsNew, Opens, NotMadeOrEmpty}
 use Rattle.ut_engine.specs.declared.unopened.Unopened.{Unopened}
 use Rattle.ut_engine.specs.Lent.{Lent}
 
@@ -30,18 +30,24 @@ abbrev pub store_or_cause : {D : Type 0} → Result (Lent D) (Unopened D) → Re
 store_or_cause (Ok e) = Ok e.store
 store_or_cause (Err u) = Err u.cause
 
+-- since its last moment a crash leaves of a disk what it leaves now
+abbrev pub IsStill : View → Type 0
+IsStill disk = (c : Image) → disk.crash_states_since disk.moment c → disk.crash_states c
+
 -- a store that gives at most so many ids was to be made
 pub record Makes (rows : ℕ) (before after : View) (answer : Result Logged OpenError) : Type 0 where
-  pub runs : IfOk answer (λ e. Runs e after (new_store rows))
   -- `Made` exactly where the store is made
-  pub unmade : IfOk answer (λ _. IsTold before → IsMade before.seen.pages → ⊥)
+  pub new : IfOk answer (λ e. IsNew e rows before after)
   pub made : IsErrOf answer errors.Made → IsTold before → IsMade before.seen.pages
   pub cause : IsErrOf answer errors.Disk → Rose before.faults after.faults
   pub others : (IsErrOf answer errors.NotMade → ⊥) × (IsErrOf answer errors.Damaged → ⊥)
+  -- Files that are made are only read, whatever the answer, and so are all where memory is wanting.
+  pub reads : MayOnlyRead answer before → ReadsOnly before after
   -- Of files that no crash leaves made, a crash at any moment leaves none that are made, or an empty store.
   pub any_moment : IsTold before → Always before (λ c. IsMade c.pages → ⊥) → LeavesOnly before after NotMadeOrEmpty
   pub told : after.told ≡ before.told
   pub later : before.faults ≤ after.faults
+  pub still : IsStill after
 
 -- a store was to be opened with what its files say
 pub record Reopens (rows : ℕ) (before after : View) (answer : Result Logged OpenError) : Type 0 where
@@ -51,7 +57,5 @@ pub record Reopens (rows : ℕ) (before after : View) (answer : Result Logged Op
   pub damaged : IsErrOf answer errors.Damaged → IsTold before → IsMade before.seen.pages × ((j : Journal) → HoldsJournal j before.seen → ⊥)
   pub cause : IsErrOf answer errors.Disk → Rose before.faults after.faults
   pub others : IsErrOf answer errors.Made → ⊥
-  -- A crash leaves what it might have left before.
-  pub any_moment : LeavesOnly before after before.crash_states
-  pub told : after.told ≡ before.told
-  pub later : before.faults ≤ after.faults
+  pub reads : ReadsOnly before after
+  pub still : IsStill after

@@ -124,3 +124,10 @@ impl<'d, D: Disk> Engine<'d, D> {
         self.disk
     }
 }
+
+/// An engine may be sent to another thread, where its disk may.
+pub fn engine_is_sent<'d, D: Disk + Send>(engine: &Engine<'d, D>) {
+    sent(engine);
+}
+
+fn sent<T: Send>(_: &T) {}

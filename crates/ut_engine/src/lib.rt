@@ -9,6 +9,6 @@ mod stages;
 mod tests;
 mod unopened;
 
-pub use engine::Engine;
+pub use engine::{Engine, engine_is_sent};
 pub use error::L1Error;
 pub use unopened::Unopened;

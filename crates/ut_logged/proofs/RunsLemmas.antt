@@ -12,7 +12,8 @@ use Rattle.ut_value.proofs.OneSpelling.{entry_rule}
 use Rattle.ut_value.proofs.SpellingLengths.{entry_length}
 use Rattle.ut_pages.specs.Layout.{IsMade}
 use Rattle.ut_redo.specs.Appends.{Place, behind, HasClosedGate, BeforeOrAfter, After}
-use Rattle.ut_redo.specs.Frames.{Holds}
+use Rattle.ut_redo.specs.Logs.{IsLogFile, LogHolds}
+use Rattle.ut_redo.proofs.LogLemmas.{not_pages, log_more, log_more_or_same}
 use Rattle.ut_plain.specs.State.{empty_state}
 use Rattle.ut_plain.specs.Journal.{Journal, journal_len, appended, IsJournal}
 use Rattle.ut_plain.specs.Plain.{Plain}
@@ -26,7 +27,7 @@ use Rattle.ut_store.specs.Held.{Held}
 use Rattle.ut_store.specs.Stands.{StandsFor}
 use Rattle.ut_store.specs.Answers.{Answer, Answers}
 use Rattle.ut_logged.specs.Logged.{Logged}
-use Rattle.ut_logged.specs.Readings.{IsReading, HoldsPrefix}
+use Rattle.ut_logged.specs.Readings.{log_start, IsReading, HoldsPrefix}
 use Rattle.ut_logged.specs.Runs.{Runs}
 use Rattle.ut_logged.specs.Serves.{IsAnswered, IsLost, Serves}
 use Rattle.ut_logged.proofs.JournalLemmas.{may_open, prefix_all, prefix_appended, last_spelled}
@@ -34,7 +35,7 @@ use Rattle.ut_logged.proofs.ReplyLemmas.{answer_sound, step_adds}
 
 -- ---- files that hold a journal hold prefixes
 
-pub holds_all : (j : Journal) (end least : ℕ) (c : Image) → least ≤ journal_len j → IsReading j end c → HoldsPrefix j least c
+pub holds_all : (j : Journal) (end : Place) (least : ℕ) (c : Image) → least ≤ journal_len j → IsReading j end c → HoldsPrefix j least c
 holds_all j end least c le reading = record {
   count = journal_len j;
   no_fewer = le;
@@ -42,7 +43,7 @@ holds_all j end least c le reading = record {
   holds = record { end = end; reading = subst (λ (k : Journal). IsReading k end c) (sym (prefix_all j)) reading };
 }
 
-holds_before : (j : Journal) (e : Entry) (end : ℕ) (c : Image) → IsReading j end c → HoldsPrefix (appended j e) (journal_len j) c
+holds_before : (j : Journal) (e : Entry) (end : Place) (c : Image) → IsReading j end c → HoldsPrefix (appended j e) (journal_len j) c
 holds_before j e end c reading = record {
   count = journal_len j;
   no_fewer = omega arith;
@@ -60,12 +61,12 @@ spells p q entry payload h next is = (last_spelled p.journal entry (subst IsJour
 pub has_room : (e : Logged) (disk : View) (p : Plain) → Runs e disk p → e.log.end ≤ 2 ^ 61
 has_room e disk p runs = let short = runs.short in let few = runs.stands.plain.short in omega (arith, short, few)
 
-pages_differ : Pages ≢ Redo
-pages_differ e = cc
+redo_is_log : IsLogFile Redo
+redo_is_log e = cc
 
 -- the page file stays
-reading_after : (j k : Journal) (end next : ℕ) (d c : Image) → IsReading j end d → Others Redo d c → k.base ≡ empty_state → Holds 0 k.entries next c.redo → MayOpen [] k → IsReading k next c
-reading_after j k end next d c was others base holds may = record { made = subst IsMade (sym (others Pages pages_differ)) was.made; base = base; log = holds; may = may }
+reading_after : (j k : Journal) (end next : Place) (d c : Image) → IsLogFile end.file → IsReading j end d → Others end.file d c → k.base ≡ empty_state → LogHolds log_start k.entries next c → MayOpen [] k → IsReading k next c
+reading_after j k end next d c log was others base holds may = record { made = subst IsMade (sym (others Pages (not_pages end.file log))) was.made; base = base; log = holds; may = may }
 
 module _ (old : Logged) (before after : View) (p q : Plain) (entry : Entry) (runs : Runs old before p) (plain : IsPlain q) (next : q.journal ≡ appended p.journal entry) where
   may_more : MayOpen [] (appended p.journal entry)
@@ -74,26 +75,29 @@ module _ (old : Logged) (before after : View) (p q : Plain) (entry : Entry) (run
   longer : journal_len p.journal < journal_len (appended p.journal entry)
   longer = omega (arith, journal_len-appended p.journal entry)
 
-  reading_more : (end : ℕ) (d c : Image) → IsReading p.journal old.log.end d → Others Redo d c → Holds 0 (p.journal.entries ++ entry ∷ []) end c.redo → IsReading (appended p.journal entry) end c
-  reading_more end d c was others holds = reading_after p.journal (appended p.journal entry) old.log.end end d c was others runs.base holds may_more
+  abbrev next_at : ℕ → Place
+  next_at end = record { file = old.log.file; end = end }
 
-  before_or_after : (end : ℕ) (c : Image) → IsTold before → ComesFrom before Redo (BeforeOrAfter (entry ∷ []) old.log.end end) c → HoldsPrefix (appended p.journal entry) (journal_len p.journal) c
+  reading_more : (end : ℕ) (d c : Image) → IsReading p.journal old.log d → Others old.log.file d c → LogHolds log_start (p.journal.entries ++ entry ∷ []) (next_at end) c → IsReading (appended p.journal entry) (next_at end) c
+  reading_more end d c was others holds = reading_after p.journal (appended p.journal entry) old.log (next_at end) d c runs.file was others runs.base holds may_more
+
+  before_or_after : (end : ℕ) (c : Image) → IsTold before → ComesFrom before old.log.file (BeforeOrAfter (entry ∷ []) old.log.end end) c → HoldsPrefix (appended p.journal entry) (journal_len p.journal) c
   before_or_after end c told from =
       let was = runs.held told from.0 from.1 in
       ⊎_elim
-      (λ same. holds_before p.journal entry old.log.end c (reading_after p.journal p.journal old.log.end old.log.end from.0 c was from.2 runs.base same was.may))
-      (λ gained. holds_all (appended p.journal entry) end (journal_len p.journal) c (omega (arith, longer)) (reading_more end from.0 c was from.2 gained))
-      (from.3 0 p.journal.entries was.log)
+      (λ same. holds_before p.journal entry old.log c (reading_after p.journal p.journal old.log old.log from.0 c runs.file was from.2 runs.base same was.may))
+      (λ gained. holds_all (appended p.journal entry) (next_at end) (journal_len p.journal) c (omega (arith, longer)) (reading_more end from.0 c was from.2 gained))
+      (log_more_or_same log_start p.journal.entries (entry ∷ []) old.log end from.0 c redo_is_log from.2 from.3 was.log)
 
   -- at any moment
   pub append_leaves : (end : ℕ) → IsTold before → LeavesOnly before after (ComesFrom before old.log.file (BeforeOrAfter (entry ∷ []) old.log.end end)) → LeavesOnly before after (HoldsPrefix q.journal (journal_len p.journal))
   append_leaves end told run =
       weaker before after (ComesFrom before old.log.file (BeforeOrAfter (entry ∷ []) old.log.end end)) (HoldsPrefix q.journal (journal_len p.journal))
-      (λ c from. subst (λ (j : Journal). HoldsPrefix j (journal_len p.journal) c) (sym next) (before_or_after end c told (subst (λ (f : Which). ComesFrom before f (BeforeOrAfter (entry ∷ []) old.log.end end) c) runs.file from)))
+      (λ c from. subst (λ (j : Journal). HoldsPrefix j (journal_len p.journal) c) (sym next) (before_or_after end c told from))
       run
 
-  after_reading : (end : ℕ) (c : Image) → IsTold before → ComesFrom before Redo (After (entry ∷ []) old.log.end end) c → IsReading (appended p.journal entry) end c
-  after_reading end c told from = let was = runs.held told from.0 from.1 in reading_more end from.0 c was from.2 (from.3 0 p.journal.entries was.log)
+  after_reading : (end : ℕ) (c : Image) → IsTold before → ComesFrom before old.log.file (After (entry ∷ []) old.log.end end) c → IsReading (appended p.journal entry) (next_at end) c
+  after_reading end c told from = let was = runs.held told from.0 from.1 in reading_more end from.0 c was from.2 (log_more log_start p.journal.entries (entry ∷ []) old.log end from.0 c redo_is_log from.2 from.3 was.log)
 
   -- at the end
   pub append_runs : (new : Logged) (payload : List ℕ) → StandsFor new.store q → payload ≡ spelling entry → new.log ≡ behind old.log payload → new.down ≡ old.down → after.told ≡ before.told → HasClosedGate new.log after
@@ -109,9 +113,8 @@ module _ (old : Logged) (before after : View) (p q : Plain) (entry : Entry) (run
         base = ap (λ (j : Journal). j.base) next ∙ runs.base;
         held = λ now c left.
             let was_told : IsTold before = subst IsTrue told now in
-            let from = subst (λ (f : Which). ComesFrom before f (After (entry ∷ []) old.log.end (behind old.log payload).end) c) runs.file (gained was_told c left) in
-            subst (λ (j : Journal). IsReading j new.log.end c) (sym next) (subst (λ (n : ℕ). IsReading (appended p.journal entry) n c) (sym end) (after_reading (behind old.log payload).end c was_told from));
-        file = ap (λ (l : Place). l.file) log ∙ runs.file;
+            subst (λ (j : Journal). IsReading j new.log c) (sym next) (subst (λ (l : Place). IsReading (appended p.journal entry) l c) (sym log) (after_reading (behind old.log payload).end c was_told (gained was_told c left)));
+        file = subst (λ (l : Place). IsLogFile l.file) (sym log) runs.file;
         gate = gate;
         short = let short = runs.short in omega (arith, end, long, short, ap journal_len next, journal_len-appended p.journal entry);
       }
@@ -129,17 +132,17 @@ stays old new disk p session st reply only runs answer log down = record {
     stands = answer.stands;
     base = ap (λ (j : Journal). j.base) answer.logs ∙ runs.base;
     held = λ told c left. reads told c left;
-    file = ap (λ (l : Place). l.file) log ∙ runs.file;
+    file = subst (λ (l : Place). IsLogFile l.file) (sym log) runs.file;
     gate = subst (λ (l : Place). HasClosedGate l disk) (sym log) runs.gate;
     short = let short = runs.short in omega (arith, short, ap (λ (l : Place). l.end) log, ap journal_len answer.logs);
   };
   sound = answer_sound p session st reply answer.after answer.may;
   any_moment = λ told. started disk (HoldsPrefix answer.after.journal (journal_len p.journal))
-      (λ c left. subst (λ (j : Journal). HoldsPrefix j (journal_len p.journal) c) (sym answer.logs) (holds_all p.journal old.log.end (journal_len p.journal) c (omega arith) (runs.held told c (only c left))));
+      (λ c left. subst (λ (j : Journal). HoldsPrefix j (journal_len p.journal) c) (sym answer.logs) (holds_all p.journal old.log (journal_len p.journal) c (omega arith) (runs.held told c (only c left))));
 }
   where
-    reads : IsTold disk → (c : Image) → disk.crash_states c → IsReading answer.after.journal new.log.end c
-    reads told c left = subst (λ (j : Journal). IsReading j new.log.end c) (sym answer.logs) (subst (λ (l : Place). IsReading p.journal l.end c) (sym log) (runs.held told c left))
+    reads : IsTold disk → (c : Image) → disk.crash_states c → IsReading answer.after.journal new.log c
+    reads told c left = subst (λ (j : Journal). IsReading j new.log c) (sym answer.logs) (subst (λ (l : Place). IsReading p.journal l c) (sym log) (runs.held told c left))
 
 -- what an append that answers Ok promises of the disk, and one that fails
 pub record Appended (log next : Place) (payload : List ℕ) (before after : View) : Type 0 where

@@ -2,12 +2,12 @@
 use Rattle.std.specs.Prelude.{ℕ, ◌*◌, ◌≡◌, ◌≤◌, ◌⊎◌, false, []}
 use Rattle.ut_outside.specs.Disk.{View, Image, IsTold}
 use Rattle.ut_outside.specs.Run.{Always}
-use Rattle.ut_outside.specs.declared.disk.Which.TheVariants.{Redo}
-use Rattle.ut_pages.specs.Layout.{IsMade}
+use Rattle.ut_pages.specs.Layout.{IsMade, made_pages}
 use Rattle.ut_redo.specs.Appends.{HasClosedGate}
+use Rattle.ut_redo.specs.Logs.{IsLogFile}
 use Rattle.ut_plain.specs.State.{empty_state}
 use Rattle.ut_plain.specs.Journal.{Journal, empty_journal, journal_len}
-use Rattle.ut_plain.specs.Plain.{Plain, opened_store}
+use Rattle.ut_plain.specs.Plain.{Plain, new_store, opened_store}
 use Rattle.ut_store.specs.Stands.{StandsFor}
 use Rattle.ut_logged.specs.Logged.{Logged}
 use Rattle.ut_logged.specs.Readings.{IsReading, HoldsJournal}
@@ -17,10 +17,16 @@ pub record Runs (e : Logged) (disk : View) (p : Plain) : Type 0 where
   pub up : e.down ≡ false
   pub stands : StandsFor e.store p
   pub base : p.journal.base ≡ empty_state
-  pub held : IsTold disk → Always disk (IsReading p.journal e.log.end)
-  pub file : e.log.file ≡ Redo
+  pub held : IsTold disk → Always disk (IsReading p.journal e.log)
+  pub file : IsLogFile e.log.file
   pub gate : HasClosedGate e.log disk
   pub short : e.log.end ≤ journal_len p.journal * 1073741829
+
+-- a store that was made, where there was none; its page file is the one of a store without entries in each outcome of a crash
+pub record IsNew (e : Logged) (rows_limit : ℕ) (before after : View) : Type 0 where
+  pub runs : Runs e after (new_store rows_limit)
+  pub unmade : IsTold before → IsMade before.seen.pages → ⊥
+  pub pages : IsTold before → Always after (λ c. c.pages ≡ made_pages)
 
 -- a store that was opened with what its files said
 pub record Opens (e : Logged) (rows_limit : ℕ) (before after : View) : Type 0 where

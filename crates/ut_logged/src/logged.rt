@@ -7,12 +7,13 @@ ghost use Rattle.ut_outside.specs.Run.{Always, LeavesOnly, ReadsOnly};
 ghost use Rattle.ut_pages.specs.Layout.{IsMade};
 ghost use Rattle.ut_plain.specs.Journal.{Journal};
 ghost use Rattle.ut_plain.specs.Names.{has_table};
-ghost use Rattle.ut_plain.specs.Plain.{Plain, new_store};
+ghost use Rattle.ut_plain.specs.Plain.{Plain};
 ghost use Rattle.ut_plain.specs.Spelled.{is_spelled};
 ghost use Rattle.ut_store.specs.Listed.{Lists};
 ghost use Rattle.ut_store.specs.Standing.{Stands, suits_session};
 ghost use Rattle.ut_logged.specs.Readings.{HoldsJournal};
-ghost use Rattle.ut_logged.specs.Runs.{Runs, Opens, NotMadeOrEmpty};
+ghost use Rattle.ut_logged.specs.Opening.{MayOnlyRead};
+ghost use Rattle.ut_logged.specs.Runs.{Runs, IsNew, Opens, NotMadeOrEmpty};
 ghost use Rattle.ut_logged.specs.Serves.{Serves};
 
 use crate::error::OpenError;
@@ -46,12 +47,13 @@ impl LoggedStore {
     /// Makes the files of a store without tables, which gives at most so many ids.
     pub fn make<D: Disk>(alloc: Global, disk: &mut D, rows: u32) -> Result<LoggedStore, OpenError>
         requires { rows ≤ 2 ^ 31 }
-        ensures runs { IfOk result (λ e. Runs e (D.view disk.new) (new_store rows)) }
         // `Made` exactly where the store is made.
-        ensures unmade { IfOk result (λ _. IsTold (D.view disk.old) → IsMade (D.view disk.old).seen.pages → ⊥) }
+        ensures new { IfOk result (λ e. IsNew e rows (D.view disk.old) (D.view disk.new)) }
         ensures made { IsErrOf result OpenError.Made → IsTold (D.view disk.old) → IsMade (D.view disk.old).seen.pages }
         ensures cause { IsErrOf result OpenError.Disk → Rose (D.view disk.old).faults (D.view disk.new).faults }
         ensures others { (IsErrOf result OpenError.NotMade → ⊥) × (IsErrOf result OpenError.Damaged → ⊥) }
+        // Files that are made are only read, whatever the answer, and so are all where memory is wanting.
+        ensures reads { MayOnlyRead result (D.view disk.old) → ReadsOnly (D.view disk.old) (D.view disk.new) }
         // Of files that no crash leaves made, a crash at any moment leaves none that are made, or an empty store.
         ensures any_moment { IsTold (D.view disk.old) → Always (D.view disk.old) (λ c. IsMade c.pages → ⊥) → LeavesOnly (D.view disk.old) (D.view disk.new) NotMadeOrEmpty }
         ensures told { (D.view disk.new).told ≡ (D.view disk.old).told }
@@ -79,16 +81,13 @@ impl LoggedStore {
         ensures damaged { IsErrOf result OpenError.Damaged → IsTold (D.view disk.old) → IsMade (D.view disk.old).seen.pages × ((j : Journal) → HoldsJournal j (D.view disk.old).seen → ⊥) }
         ensures cause { IsErrOf result OpenError.Disk → Rose (D.view disk.old).faults (D.view disk.new).faults }
         ensures others { IsErrOf result OpenError.Made → ⊥ }
-        // A crash leaves what it might have left before.
-        ensures any_moment { LeavesOnly (D.view disk.old) (D.view disk.new) (D.view disk.old).crash_states }
-        ensures told { (D.view disk.new).told ≡ (D.view disk.old).told }
-        ensures later { (D.view disk.old).faults ≤ (D.view disk.new).faults }
+        ensures reads { ReadsOnly (D.view disk.old) (D.view disk.new) }
     {
         settle(disk)?;
         if !Pages::made(disk)? {
             return Err(OpenError::NotMade);
         }
-        let (redo, entries) = Redo::read_all(alloc, disk, 0)?;
+        let (redo, entries) = Redo::read_all(alloc, disk, Which::Redo, 0)?;
         let store = reopen(alloc, entries, rows)?;
         Ok(LoggedStore {
             store,
@@ -184,12 +183,13 @@ impl LoggedStore {
     }
 }
 
-// Syncs both files, so that a crash leaves what a read returns.
+// Syncs the three files, so that a crash leaves what a read returns.
 fn settle<D: Disk>(disk: &mut D) -> Result<(), Failed>
     ensures settled { OnOk result (IsTold (D.view disk.old) → Always (D.view disk.new) (λ c. (file : Which) → content file c ≡ content file (D.view disk.old).seen)) }
     ensures reads { ReadsOnly (D.view disk.old) (D.view disk.new) }
     ensures cause { HasCause (D.view disk.old).faults (D.view disk.new).faults result }
 {
     disk.sync(Which::Redo)?;
+    disk.sync(Which::Redo2)?;
     disk.sync(Which::Pages)
 }

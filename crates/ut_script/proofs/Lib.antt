@@ -8,6 +8,7 @@ pub mod ConditionLemmas
 pub mod StatementLemmas
 pub mod NamedLemmas
 pub mod LineLemmas
+pub mod AskLemmas
 pub mod PieceLemmas
 pub mod RoomLemmas
 pub mod Examples

@@ -115,8 +115,19 @@ begins r0 (Some before) now h l =
       after = before;
       is_left = refl;
       parts = ap (λ (xs : List ℕ). xs ++ before) (sym h) ∙ ap (λ (xs : List ℕ). xs ++ (now.held ++ before)) (sym l);
+      took = [];
+      taken = refl;
+      read = append-nil r0.held ∙ sym h ∙ ap (λ (xs : List ℕ). xs ++ now.held) (sym l);
       no_feed = ap has_no_feed l;
     }
+
+-- two parts of what was left
+took_more : (first then mid after before : List ℕ) → before ≡ first ++ mid → mid ≡ then ++ after → before ≡ (first ++ then) ++ after
+took_more first then mid after before h k = h ∙ ap (λ (xs : List ℕ). first ++ xs) k ∙ sym (append_assoc first then after)
+
+held_more : (start first then line held filled : List ℕ) → start ++ first ≡ line ++ held → filled ≡ held ++ then → start ++ (first ++ then) ≡ line ++ filled
+held_more start first then line held filled h k =
+    sym (append_assoc start first then) ∙ ap (λ (xs : List ℕ). xs ++ then) h ∙ append_assoc line held then ∙ ap (λ (xs : List ℕ). line ++ xs) (sym k)
 
 -- the line grows by all that is held
 pub grows : (E : Type 0) (r0 : Reading) (start : Option (List ℕ)) (old : Reading) (mid : Option (List ℕ)) (filled now : Reading) (left : Option (List ℕ))
@@ -130,6 +141,9 @@ grows E r0 (Some before) old mid filled now left part fills same joins =
       is_left = f.is_left;
       parts = part.parts ∙ ap (λ (xs : List ℕ). old.line ++ xs) f.same ∙ sym (append_assoc old.line filled.held f.after)
           ∙ ap (λ (xs : List ℕ). xs ++ f.after) (sym line) ∙ ap (λ (xs : List ℕ). now.line ++ (xs ++ f.after)) (sym joins.held);
+      took = part.took ++ f.took;
+      taken = took_more part.took f.took part.after f.after before part.taken f.taken;
+      read = held_more r0.held part.took f.took old.line old.held filled.held part.read f.held ∙ sym line ∙ sym (append-nil now.line) ∙ ap (λ (xs : List ℕ). now.line ++ xs) (sym joins.held);
       no_feed = ap has_no_feed line ∙ has_no_feed-append old.line filled.held part.no_feed joins.no_feed;
     }
 

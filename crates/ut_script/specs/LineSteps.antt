@@ -45,6 +45,9 @@ pub record FillsFrom {E : Type 0} (old : Reading) (before : List ℕ) (result : 
   pub after : List ℕ
   pub is_left : left ≡ Some after
   pub same : old.held ++ before ≡ new.held ++ after
+  pub took : List ℕ
+  pub taken : before ≡ took ++ after
+  pub held : new.held ≡ old.held ++ took
   pub none : MatchResult result (λ some. MatchBool some (Unit {0}) ((old.held ++ before ≡ []) × (after ≡ []))) (λ _. Unit {0})
 
 abbrev pub Fills : {E : Type 0} → Reading → Option (List ℕ) → Result Bool E → Reading → Option (List ℕ) → Type 0
@@ -56,6 +59,9 @@ pub record PartOfLine (old : Reading) (before : List ℕ) (now : Reading) (left 
   pub after : List ℕ
   pub is_left : left ≡ Some after
   pub parts : old.held ++ before ≡ now.line ++ (now.held ++ after)
+  pub took : List ℕ
+  pub taken : before ≡ took ++ after
+  pub read : old.held ++ took ≡ now.line ++ now.held
   pub no_feed : has_no_feed now.line ≡ true
 
 abbrev pub ReadsLine : Reading → Option (List ℕ) → Reading → Option (List ℕ) → Type 0

@@ -1,6 +1,8 @@
 -- The lines of an input, and what one call takes of them.
-use Rattle.std.specs.Prelude.{ℕ, ◌+◌, ◌≡◌, ◌≤◌, Bool, true, false, nat_eq, nat_le, nat_lt, ◌&&◌, ◌||◌, if◌then◌else◌, List, [], ◌∷◌, ◌++◌, length, Option, None, Some, Result, Ok, Err, MatchResult, IsErrOf}
+use Rattle.std.specs.Prelude.{ℕ, suc, ◌+◌, ◌≡◌, ◌≤◌, Bool, true, false, nat_eq, nat_le, nat_lt, ◌&&◌, ◌||◌, if◌then◌else◌, List, [], ◌∷◌, ◌++◌, length, Option, None, Some, Result, Ok, Err, MatchResult, IsErrOf}
 use Rattle.std.specs.Bool.{MatchBool}
+use Rattle.std.specs.List.{AllByRecursion}
+use Rattle.ut_outside.specs.declared.ask.Ask.{Ask}
 use Rattle.ut_outside.specs.Faults.{Rose}
 use Rattle.ut_script.specs.declared.lines.LineError.{LineError}
 use Rattle.ut_script.specs.declared.lines.LineError.TheVariants.{Read, TooLong}
@@ -19,6 +21,11 @@ lines_of (b ∷ bytes) = if nat_eq b 10 then [] ∷ lines_of bytes else onto_lin
 abbrev pub has_no_feed : List ℕ → Bool
 has_no_feed [] = true
 has_no_feed (b ∷ bytes) = if nat_eq b 10 then false else has_no_feed bytes
+
+-- how many lines end in these bytes
+abbrev pub ended_lines : List ℕ → ℕ
+ended_lines [] = 0
+ended_lines (b ∷ bytes) = if nat_eq b 10 then suc (ended_lines bytes) else ended_lines bytes
 
 -- where a reader of lines stands
 pub record Reading : Type 0 where
@@ -103,3 +110,37 @@ StaysFailed (Some e) old result new = (result ≡ Err e) × (new ≡ old)
 pub record MayFail (old : Reading) (before now : ℕ) (result : Result Bool LineError) : Type 0 where
   pub later : before ≤ now
   pub read : IsErrOf result Read → old.failed ≡ None → Rose before now
+
+-- ---- when a source is asked
+
+-- a call that asks for more: no line ends in what is held and was taken before it
+pub record IsNeeded (old : Reading) (before taken : List ℕ) (ask : Ask) : Type 0 where
+  pub took : List ℕ
+  pub after : List ℕ
+  pub parts : before ≡ took ++ after
+  pub left : ask.left ≡ length after
+  pub at_sink : ask.taken ≡ length taken
+  pub no_line : has_no_feed (old.held ++ took) ≡ true
+
+-- the calls that ask for more
+pub record AsksMore (old : Reading) (before taken : List ℕ) (asks : List Ask) (now : Option (List Ask)) : Type 0 where
+  pub more : List Ask
+  pub is : now ≡ Some (asks ++ more)
+  pub needed : AllByRecursion (IsNeeded old before taken) more
+
+-- of a source that tells them, and of a sink that tells its bytes
+abbrev pub AsksFew : Reading → Option (List ℕ) → Option (List ℕ) → Option (List Ask) → Option (List Ask) → Type 0
+AsksFew old (Some before) (Some taken) (Some asks) now = AsksMore old before taken asks now
+AsksFew old _ _ _ now = Unit {0}
+
+-- the bytes of the line that was handed out, with its end, stood in front of those that are held and left now
+pub record StepsOver (old : Reading) (before : List ℕ) (new : Reading) (left : Option (List ℕ)) : Type 0 where
+  pub piece : List ℕ
+  pub after : List ℕ
+  pub is_left : left ≡ Some after
+  pub parts : old.held ++ before ≡ piece ++ (new.held ++ after)
+  pub one : ended_lines piece ≤ 1
+
+abbrev pub StepsLine : Reading → Option (List ℕ) → Reading → Option (List ℕ) → Type 0
+StepsLine old None new left = Unit {0}
+StepsLine old (Some before) new left = StepsOver old before new left

@@ -1,7 +1,7 @@
 //! The lines of a source, read by blocks.
-ghost use Rattle.std.specs.Prelude.{◌≡◌, ◌≢◌, ◌<◌, ◌≤◌, ◌+◌, ◌++◌, [], None, true, false, if◌then◌else◌, IfOk, IsErrOf, length, vec_len, vec_capacity, Ok};
+ghost use Rattle.std.specs.Prelude.{◌≡◌, ◌≢◌, ◌<◌, ◌≤◌, ◌+◌, ◌++◌, [], None, true, false, if◌then◌else◌, IfOk, OnOk, IsErrOf, length, vec_len, vec_capacity, Ok};
 ghost use Rattle.ut_outside.specs.Faults.{HasCause, Rose};
-ghost use Rattle.ut_script.specs.Lines.{Reading, NextLine, Counts, StaysFailed, MayFail, hands_out, counted};
+ghost use Rattle.ut_script.specs.Lines.{Reading, NextLine, StepsLine, AsksFew, Counts, StaysFailed, MayFail, hands_out, counted};
 ghost use Rattle.ut_script.specs.Words.{has_bytes};
 ghost use Rattle.ut_script.specs.LineSteps.{IsLineEnd, SameCounts, TakesPiece, Fills};
 
@@ -9,7 +9,7 @@ use memchr::memchr;
 use std::alloc::{AllocError, Global};
 use std::marker::Model;
 use thiserror::Error;
-use ut_outside::Source;
+use ut_outside::{Source, Taken};
 
 /// The bytes of the longest line, without its end.
 const MAX_LINE: usize = 65536;
@@ -78,9 +78,16 @@ impl Lines {
         &self.line
     }
 
-    /// Reads the next line, and says whether there is one. After an error each call answers that error.
-    pub fn advance<S: Source>(&mut self, source: &mut S) -> Result<bool, LineError>
+    /// Reads the next line, and says whether there is one. After an error each call answers that error. The source, which sees what the
+    /// sink took so far, is asked for more only while no whole line is held.
+    pub fn advance<S: Source, K: Taken>(
+        &mut self,
+        source: &mut S,
+        sink: &K,
+    ) -> Result<bool, LineError>
         ensures next { self.old.failed ≡ None → NextLine self.old (S.left source.old) result self.new (S.left source.new) }
+        ensures steps { self.old.failed ≡ None → OnOk result (StepsLine self.old (S.left source.old) self.new (S.left source.new)) }
+        ensures asks { AsksFew self.old (S.left source.old) (K.held sink.now) (S.asks source.old) (S.asks source.new) }
         ensures counts { self.old.failed ≡ None → Counts self.old result self.new }
         ensures again { StaysFailed self.old.failed self.old result self.new }
         ensures cause { MayFail self.old (S.faults source.old) (S.faults source.new) result }
@@ -88,7 +95,7 @@ impl Lines {
         if let Some(error) = self.failed {
             return Err(error);
         }
-        match self.next_line(source) {
+        match self.next_line(source, sink) {
             Ok(more) => Ok(more),
             Err(error) => {
                 self.failed = Some(error);
@@ -97,9 +104,15 @@ impl Lines {
         }
     }
 
-    fn next_line<S: Source>(&mut self, source: &mut S) -> Result<bool, LineError>
+    fn next_line<S: Source, K: Taken>(
+        &mut self,
+        source: &mut S,
+        sink: &K,
+    ) -> Result<bool, LineError>
         requires { self.old.failed ≡ None }
         ensures next { NextLine self.old (S.left source.old) result self.new (S.left source.new) }
+        ensures steps { OnOk result (StepsLine self.old (S.left source.old) self.new (S.left source.new)) }
+        ensures asks { AsksFew self.old (S.left source.old) (K.held sink.now) (S.asks source.old) (S.asks source.new) }
         ensures limit { self.new.limit ≡ self.old.limit }
         ensures number { self.new.number ≡ (if hands_out result then self.old.number + 1 else self.old.number) }
         ensures short { length self.new.line ≤ 65536 }
@@ -107,31 +120,43 @@ impl Lines {
         ensures cause { MayFail self.old (S.faults source.old) (S.faults source.new) result }
     {
         if self.number == self.limit {
-            self.next_past_limit(source)
+            self.next_past_limit(source, sink)
         } else {
-            self.read_line(source)
+            self.read_line(source, sink)
         }
     }
 
     /// Where no more lines may be handed out, one more is an error.
-    fn next_past_limit<S: Source>(&mut self, source: &mut S) -> Result<bool, LineError>
+    fn next_past_limit<S: Source, K: Taken>(
+        &mut self,
+        source: &mut S,
+        sink: &K,
+    ) -> Result<bool, LineError>
         requires { self.old.number ≡ self.old.limit }
         ensures next { NextLine self.old (S.left source.old) result self.new (S.left source.new) }
+        ensures steps { OnOk result (StepsLine self.old (S.left source.old) self.new (S.left source.new)) }
+        ensures asks { AsksFew self.old (S.left source.old) (K.held sink.now) (S.asks source.old) (S.asks source.new) }
         ensures same { SameCounts self.old self.new }
         ensures none { hands_out result ≡ false }
         ensures short { length self.new.line ≤ 65536 }
         ensures cause { MayFail self.old (S.faults source.old) (S.faults source.new) result }
     {
-        if self.fill(source)? {
+        if self.fill(source, sink)? {
             Err(LineError::TooLong)
         } else {
             Ok(false)
         }
     }
 
-    fn read_line<S: Source>(&mut self, source: &mut S) -> Result<bool, LineError>
+    fn read_line<S: Source, K: Taken>(
+        &mut self,
+        source: &mut S,
+        sink: &K,
+    ) -> Result<bool, LineError>
         requires { self.old.number < self.old.limit }
         ensures next { NextLine self.old (S.left source.old) result self.new (S.left source.new) }
+        ensures steps { OnOk result (StepsLine self.old (S.left source.old) self.new (S.left source.new)) }
+        ensures asks { AsksFew self.old (S.left source.old) (K.held sink.now) (S.asks source.old) (S.asks source.new) }
         ensures limit { self.new.limit ≡ self.old.limit }
         ensures number { self.new.number ≡ (if hands_out result then self.old.number + 1 else self.old.number) }
         ensures short { length self.new.line ≤ 65536 }
@@ -140,7 +165,7 @@ impl Lines {
     {
         self.line.clear();
         loop {
-            if !self.fill(source)? {
+            if !self.fill(source, sink)? {
                 return Ok(self.end_line());
             }
             let ended = match self.take_piece() {
@@ -168,8 +193,9 @@ impl Lines {
     }
 
     /// Holds bytes, where the input has any more, and says whether it does.
-    fn fill<S: Source>(&mut self, source: &mut S) -> Result<bool, LineError>
+    fn fill<S: Source, K: Taken>(&mut self, source: &mut S, sink: &K) -> Result<bool, LineError>
         ensures bytes { Fills self.old (S.left source.old) result self.new (S.left source.new) }
+        ensures asks { AsksFew self.old (S.left source.old) (K.held sink.now) (S.asks source.old) (S.asks source.new) }
         ensures some { result ≡ Ok true → 0 < length self.new.held }
         ensures same { SameCounts self.old self.new }
         ensures line { self.new.line ≡ self.old.line }
@@ -182,7 +208,7 @@ impl Lines {
         }
         self.at = 0;
         self.filled = 0;
-        match source.take(&mut self.block) {
+        match source.take(sink, &mut self.block) {
             Ok(count) => {
                 self.filled = count;
                 Ok(count > 0)

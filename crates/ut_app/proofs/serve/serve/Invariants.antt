@@ -5,8 +5,8 @@ use Rattle.ut_app.proofs.serve.serve.Given as goal
 abbrev pub invariant-loop-status : goal.invariant-loop-status
 invariant-loop-status g l = record {
   going : Going l.fn.start
-      (record { source = g.S.Source.left l.fn.source; reads = g.S.Source.faults l.fn.source; sink = g.K.Sink.held l.fn.sink; marks = g.K.Sink.moments l.fn.sink; writes = g.K.Sink.faults l.fn.sink; disk = g.D.Disk.view l.fn.disk })
-      (record { source = g.S.Source.left l.source; reads = g.S.Source.faults l.source; sink = g.K.Sink.held l.sink; marks = g.K.Sink.moments l.sink; writes = g.K.Sink.faults l.sink; disk = g.D.Disk.view l.disk })
+      (record { source = g.S.Source.left l.fn.source; asks = g.S.Source.asks l.fn.source; reads = g.S.Source.faults l.fn.source; sink = g.K.Taken.held l.fn.sink; marks = g.K.Sink.moments l.fn.sink; writes = g.K.Sink.faults l.fn.sink; disk = g.D.Disk.view l.fn.disk })
+      (record { source = g.S.Source.left l.source; asks = g.S.Source.asks l.source; reads = g.S.Source.faults l.source; sink = g.K.Taken.held l.sink; marks = g.K.Sink.moments l.sink; writes = g.K.Sink.faults l.sink; disk = g.D.Disk.view l.disk })
       l.count l.lines l.store l.replies.acks.items l.replies.journal;
 }
 

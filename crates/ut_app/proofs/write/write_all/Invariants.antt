@@ -4,7 +4,7 @@ use Rattle.ut_app.proofs.write.write_all.Given as goal
 
 abbrev pub invariant-loop-rest : goal.invariant-loop-rest
 invariant-loop-rest g l = record {
-  writing : IsWriting (g.K.Sink.held l.fn.sink) (g.K.Sink.moments l.fn.sink) l.bytes l.rest (g.D.Disk.view l.disk).moment (g.K.Sink.held l.sink) (g.K.Sink.moments l.sink);
+  writing : IsWriting (g.K.Taken.held l.fn.sink) (g.K.Sink.moments l.fn.sink) l.bytes l.rest (g.D.Disk.view l.disk).moment (g.K.Taken.held l.sink) (g.K.Sink.moments l.sink);
   later : g.K.Sink.faults l.fn.sink ≤ g.K.Sink.faults l.sink;
 }
 

@@ -2,7 +2,7 @@ use Rattle.std.proofs.Common.{false, refl, sym, subst}
 use Rattle.std.specs.Prelude.{IsTrue}
 use Rattle.ut_outside.specs.Disk.{View, IsTold}
 use Rattle.ut_logged.specs.Logged.{Logged}
-use Rattle.ut_logged.proofs.FileLemmas.{unmade_redo, unmade_pages, new_runs}
+use Rattle.ut_logged.proofs.FileLemmas.{unmade_redo, unmade_pages, unmade_by, is_new}
 use Rattle.ut_logged.proofs.logged.LoggedStore.make.Goals as goal
 
 pub returns-in_err-redo-clause-any_moment : goal.returns-in_err-redo-clause-any_moment
@@ -27,10 +27,11 @@ returns-clause-any_moment g c told none =
     let told2 : IsTold v2 = subst IsTrue (sym c.make.ensures.told) told1 in
     unmade_pages v0 v1 v2 (g.D.Disk.view c.make-2.new.disk) none c.in_ok-made.ensures.reads c.make.ensures.any_moment (c.in_ok-redo.ensures.empty told1) (c.make-2.ensures.any_moment told2)
 
-pub returns-clause-runs : goal.returns-clause-runs
-returns-clause-runs g c =
+pub returns-clause-new : goal.returns-clause-new
+returns-clause-new g c =
+    let v0 : View = g.D.Disk.view c.args.disk.now in
     let v1 : View = g.D.Disk.view c.made.new.disk in
     let v2 : View = g.D.Disk.view c.make.new.disk in
     let v3 : View = g.D.Disk.view c.make-2.new.disk in
     let e : Logged = record { store = c.in_ok-store.store; log = c.in_ok-redo.redo; down = false } in
-    new_runs v1 v2 v3 e c.args.rows refl c.in_ok-store.ensures c.in_ok-redo.ensures.place c.make.ensures.told c.make-2.ensures.told c.in_ok-redo.ensures.empty c.in_ok-make.ensures.made
+    is_new v0 v1 v2 v3 e c.args.rows c.in_ok-made.ensures.reads (unmade_by _ v0 c.if-branch.false c.in_ok-made.ensures.made) refl c.in_ok-store.ensures c.in_ok-redo.ensures.place c.make.ensures.told c.make-2.ensures.told c.in_ok-redo.ensures.empty c.in_ok-make.ensures.made

@@ -3,7 +3,8 @@ use Rattle.std.specs.Prelude.{IsTrue}
 use Rattle.std.proofs.lemmas.Result.{err_from_is_err_and}
 use Rattle.ut_outside.specs.Disk.{View, Image, IsTold}
 use Rattle.ut_pages.specs.Layout.{IsMade}
-use Rattle.ut_redo.specs.Frames.{Holds}
+use Rattle.ut_redo.specs.Logs.{LogHolds}
+use Rattle.ut_logged.specs.Readings.{log_start}
 use Rattle.ut_logged.specs.Logged.{Logged}
 use Rattle.ut_logged.specs.declared.error.OpenError.TheVariants.{Damaged}
 use Rattle.ut_logged.proofs.FileLemmas.{IsRead, opened, redo_damaged, restart_damaged, no_journal}
@@ -23,7 +24,7 @@ returns-in_err-redo-clause-damaged g c is told =
     let same : p.0 ≡ Damaged = cc in
     let error = redo_damaged c.in_err-redo.field-0.0 (sym p.2 ∙ same) in (
       subst (λ (i : Image). IsMade i.pages) first.seen made,
-      λ j holds. c.in_err-redo.ensures.damaged (ap Err error) told2 j.entries holds.end (subst (λ (i : Image). Holds 0 j.entries holds.end i.redo) (sym (second.seen ∙ first.seen)) holds.reading.log),
+      λ j holds. c.in_err-redo.ensures.damaged (ap Err error) told2 j.entries holds.end (subst (LogHolds log_start j.entries holds.end) (sym (second.seen ∙ first.seen)) holds.reading.log),
     )
 
 pub returns-in_err-store-clause-damaged : goal.returns-in_err-store-clause-damaged
@@ -39,8 +40,8 @@ returns-in_err-store-clause-damaged g c is told =
     let p = err_from_is_err_and c.from_residual-in_err-store.result c.from_residual-in_err-store.ensures.1 in
     let same : p.0 ≡ Damaged = cc in
     let error = restart_damaged c.in_err-store.field-0.0 (sym p.2 ∙ same) in
-    let holds = subst (λ (i : Image). Holds 0 c.in_ok-redo.entries c.in_ok-redo.redo.end i.redo) (second.seen ∙ first.seen) (c.in_ok-redo.ensures.found.1 told2) in
-    (subst (λ (i : Image). IsMade i.pages) first.seen made, no_journal c.in_ok-redo.entries c.in_ok-redo.redo.end v0.seen holds (c.in_err-store.ensures.damaged (ap Err error)))
+    let holds = subst (LogHolds log_start c.in_ok-redo.entries c.in_ok-redo.redo) (second.seen ∙ first.seen) (c.in_ok-redo.ensures.found told2) in
+    (subst (λ (i : Image). IsMade i.pages) first.seen made, no_journal c.in_ok-redo.entries c.in_ok-redo.redo v0.seen holds (c.in_err-store.ensures.damaged (ap Err error)))
 
 pub returns-clause-opens : goal.returns-clause-opens
 returns-clause-opens g c =
@@ -51,4 +52,4 @@ returns-clause-opens g c =
     let e : Logged = record { store = c.in_ok-store.store; log = c.in_ok-redo.redo; down = false } in
     let read : IsRead v0 v1 v2 v3 = record { first = c.in_ok-settle.ensures.reads; second = c.in_ok-made.ensures.reads; third = c.in_ok-redo.ensures.reads; settled = c.in_ok-settle.ensures.settled } in
     let log = c.in_ok-redo.ensures in
-    opened v0 v1 v2 v3 e c.in_ok-redo.entries c.args.rows read refl c.in_ok-store.ensures.ok log.found.0 log.small (λ told. (c.in_ok-made.ensures.made told).0 c.if-not-branch.false) log.found.1
+    opened v0 v1 v2 v3 e c.in_ok-redo.entries c.args.rows read refl c.in_ok-store.ensures.ok log.log log.small (λ told. (c.in_ok-made.ensures.made told).0 c.if-not-branch.false) log.found

@@ -1,4 +1,5 @@
 use Rattle.std.proofs.Common.{◌≤◌, ◌-◌, length}
+use Rattle.ut_script.specs.Lines.{AsksFew}
 use Rattle.ut_script.specs.LineSteps.{ReadsLine, SameCounts}
 use Rattle.ut_script.proofs.lines.Lines.read_line.Given as goal
 
@@ -6,6 +7,7 @@ use Rattle.ut_script.proofs.lines.Lines.read_line.Given as goal
 abbrev pub invariant-loop-self : goal.invariant-loop-self
 invariant-loop-self g l = record {
   part : ReadsLine l.fn.self (g.S.Source.left l.fn.source) l.self (g.S.Source.left l.source);
+  asks : AsksFew l.fn.self (g.S.Source.left l.fn.source) (g.K.Taken.held l.sink) (g.S.Source.asks l.fn.source) (g.S.Source.asks l.source);
   same : SameCounts l.fn.self l.self;
   short : length l.self.line ≤ 65536;
   later : g.S.Source.faults l.fn.source ≤ g.S.Source.faults l.source;
