@@ -1,0 +1,4 @@
+pub mod DeedLemmas
+pub mod FileSetLemmas
+pub mod StandingLemmas
+pub mod CallLemmas
