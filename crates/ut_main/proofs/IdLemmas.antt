@@ -1,13 +1,12 @@
 -- Ids as four bytes each, read and spelled.
-use Rattle.std.proofs.Common.{◌≡◌, ℕ, zero, suc, ◌+◌, ◌-◌, ◌*◌, ◌/◌, ◌^◌, ◌<◌, ◌≤◌, List, [], ◌∷◌, ◌++◌, length, take, drop, get_or, refl, sym, ◌∙◌, ap, arith}
+use Rattle.std.proofs.Common.{◌≡◌, ℕ, zero, suc, ◌+◌, ◌*◌, ◌<◌, ◌≤◌, List, [], ◌∷◌, ◌++◌, length, take, drop, get_or, refl, sym, ◌∙◌, ap, arith}
 use Rattle.std.proofs.lemmas.List.{append_assoc, drop-drop, take-append-drop, length-append, length-drop}
 use Rattle.std.specs.List.{flat_map}
 use Rattle.ut_bits.specs.Bits.{AllBelow}
 use Rattle.ut_bits.specs.Words.{word_bytes, word_in}
-use Rattle.ut_bits.proofs.BitLemmas.{AllBelow-drop, take-rest}
+use Rattle.ut_bits.proofs.BitLemmas.{AllBelow-drop}
 use Rattle.ut_bits.proofs.WordLemmas.{length-word_bytes, word_in-word_bytes, drop-word_bytes, word_bytes-word_in}
 use Rattle.ut_main.specs.Spelling.{id_bytes, AreIds}
-use Rattle.ut_main.specs.Reading.{MayBeIds}
 
 fours : (i : ℕ) → suc i * 4 ≡ 4 + i * 4
 fours i = omega arith

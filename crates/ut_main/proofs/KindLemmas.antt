@@ -1,5 +1,5 @@
 -- Keys of a kind: where the new keys of a part are, and all keys of the parts before, so are the keys of its rows.
-use Rattle.std.proofs.Common.{◌≡◌, ◌⊎◌, inl, inr, ℕ, zero, suc, ◌+◌, ◌<◌, ◌≤◌, All, IsTrue, IfOk, IfSome, Result, Ok, Err, Option, Some, None, List, [], ◌∷◌, ◌++◌, length, get_or, replicate, refl, sym, ◌∙◌, ap, subst, arith}
+use Rattle.std.proofs.Common.{◌≡◌, ◌⊎◌, inl, inr, ℕ, suc, ◌+◌, ◌<◌, All, IsTrue, IfOk, IfSome, Result, Ok, Err, Option, Some, None, List, [], ◌∷◌, ◌++◌, length, get_or, replicate, sym, ◌∙◌, ap, subst, arith}
 use Rattle.std.proofs.lemmas.List.{get_or_default, get_or-map, get_or-replicate, length-replicate}
 use Rattle.ut_l2.specs.KeyRows.{KeyRow, cells_at}
 use Rattle.ut_own.specs.Own.{own_dict, In}

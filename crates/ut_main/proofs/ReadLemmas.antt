@@ -1,5 +1,5 @@
 -- What a column's bytes are read as: its own dictionary and its codes, and no other.
-use Rattle.std.proofs.Common.{◌≡◌, inl, inr, ℕ, zero, suc, ◌+◌, ◌-◌, ◌^◌, ◌<◌, ◌≤◌, Bool, true, false, not, nat_eq, ◌&&◌, ◌||◌, All, IsTrue, List, [], ◌∷◌, ◌++◌, length, map, get_or, replicate, refl, sym, ◌∙◌, ap, subst, arith, true≢false}
+use Rattle.std.proofs.Common.{◌≡◌, inl, inr, ℕ, ◌+◌, ◌^◌, ◌<◌, ◌≤◌, Bool, true, false, not, nat_eq, ◌||◌, IsTrue, List, [], ◌∷◌, ◌++◌, length, map, get_or, replicate, refl, sym, ◌∙◌, ap, subst, arith, true≢false}
 use Rattle.std.proofs.lemmas.Bool.{and_parts, and_from, or_cases, eqb-true, eq-eqb, leb-true}
 use Rattle.std.proofs.lemmas.List.{append_assoc, length-append, length-map, get_or-append-add, get_or-replicate}
 use Rattle.std.specs.List.{list_any}
@@ -11,7 +11,7 @@ use Rattle.ut_own.proofs.ColumnLemmas.{column_own}
 use Rattle.ut_prefix.specs.Chain.{end_to_end, LacksAll}
 use Rattle.ut_prefix.specs.Spelling.{dict_bytes, IsDictionary}
 use Rattle.ut_prefix.proofs.ChainLemmas.{end_to_end-push}
-use Rattle.ut_value.specs.Text.{is_text, is_text_byte}
+use Rattle.ut_value.specs.Text.{is_text_byte}
 use Rattle.ut_value.specs.declared.value.Kind.{Kind}
 use Rattle.ut_value.specs.declared.value.Kind.TheVariants.{Int, Text}
 use Rattle.std.specs.List.{list_all}
@@ -19,10 +19,10 @@ use Rattle.std.proofs.Common.{nat_le}
 use Rattle.ut_main.specs.Columns.{Chain, ColumnValue, chain_of, place_of, vector_of, earlier, AreDistinct, StandsBehind, IsColumn}
 use Rattle.ut_main.specs.Spelling.{column_bytes, is_key, AreKeys}
 use Rattle.ut_main.specs.Reading.{MayBeOwn, MayBeCodes, MayBeColumn, AreUsed}
-use Rattle.ut_main.proofs.KeyLemmas.{holds-in, in-contains, contains-in, in-at, in-get, distinct-append, distinct-ascending, ascends-from, place-get, cells-places, places-below}
+use Rattle.ut_main.proofs.KeyLemmas.{holds-in, in-contains, in-at, ascends-from, place-get, cells-places, places-below}
 use Rattle.ut_main.proofs.OwnLemmas.{own-held, own-lacks, own-length, own-ascending, cell-known}
 use Rattle.ut_main.proofs.MainLemmas.{distinct-own, column-made, length-chain_of}
-use Rattle.ut_main.proofs.ColumnLemmas.{column-chain, column-vector}
+use Rattle.ut_main.proofs.ColumnLemmas.{column-vector}
 use Rattle.ut_main.proofs.UniqueLemmas.{dict-one, codes-one}
 
 -- ---- kinds

@@ -1,11 +1,10 @@
 -- The columns of a part's bytes one after the other, and the part that ids and columns make.
-use Rattle.std.proofs.Common.{◌≡◌, ◌≢◌, inl, inr, ℕ, zero, suc, ◌+◌, ◌*◌, ◌^◌, ◌<◌, ◌≤◌, All, List, [], ◌∷◌, ◌++◌, length, map, drop, get_or, refl, sym, ◌∙◌, ap, subst, arith}
+use Rattle.std.proofs.Common.{◌≡◌, inl, inr, ℕ, zero, suc, ◌+◌, ◌^◌, ◌<◌, ◌≤◌, List, [], ◌∷◌, ◌++◌, length, map, drop, get_or, refl, sym, ◌∙◌, ap, subst, arith}
 use Rattle.std.proofs.lemmas.Bool.{cases_lt}
 use Rattle.std.proofs.lemmas.List.{append_assoc, append_cancel_left, length-append, length-map, get_or-map, get_or_append_left, get_or-append-add, drop_more, drop_all, ext_get_or, flat_map_more}
 use Rattle.std.specs.List.{flat_map}
 use Rattle.ut_bits.specs.Words.{word_bytes}
 use Rattle.ut_l2.specs.KeyRows.{KeyRow, cells_at, key_at, no_row}
-use Rattle.ut_l2.specs.Delta.{rows_of}
 use Rattle.ut_own.specs.Own.{own_dict}
 use Rattle.ut_prefix.specs.Chain.{end_to_end}
 use Rattle.ut_value.specs.declared.value.Column.{Column}

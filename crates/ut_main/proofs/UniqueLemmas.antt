@@ -1,5 +1,5 @@
 -- Bytes begin with one dictionary and with one code vector only.
-use Rattle.std.proofs.Common.{◌≡◌, ℕ, zero, suc, ◌+◌, ◌-◌, ◌*◌, ◌/◌, ◌^◌, ◌<◌, ◌≤◌, nat_le, Bool, true, false, cond, List, [], inl, inr, ◌∷◌, ◌++◌, length, take, drop, get_or, refl, sym, ◌∙◌, ap, subst, arith}
+use Rattle.std.proofs.Common.{◌≡◌, ℕ, zero, suc, ◌+◌, ◌/◌, ◌^◌, ◌<◌, ◌≤◌, nat_le, Bool, true, false, cond, List, [], inl, inr, ◌∷◌, ◌++◌, length, take, drop, refl, sym, ◌∙◌, ap, subst, arith}
 use Rattle.std.proofs.lemmas.Bool.{leb-true, leb-false, cases_lt}
 use Rattle.std.proofs.lemmas.List.{append_assoc, append_cancel_left, take-append-drop, length-take, length-drop}
 use Rattle.std.proofs.Math.Nat.{pow-suc}
@@ -7,7 +7,7 @@ use Rattle.std.proofs.Math.Pow.{pow_mono}
 use Rattle.std.specs.Int.{to_le_bytes, w32}
 use Rattle.ut_bits.specs.Bits.{AllBelow}
 use Rattle.ut_codes.specs.Sizes.{width_from, code_width}
-use Rattle.ut_codes.specs.Forms.{form_of, byte_of, bytes_in, code_bytes}
+use Rattle.ut_codes.specs.Forms.{form_of, bytes_in, code_bytes}
 use Rattle.ut_codes.proofs.SizeLemmas.{AllBelow-width}
 use Rattle.ut_codes.proofs.FormLemmas.{code_bytes-front, byte_of-one, bytes_in-one}
 use Rattle.ut_codes.specs.declared.form.Form.{Form}

@@ -1,10 +1,9 @@
 -- Bytes that were added behind others, and the ids and columns of a part.
 use Rattle.std.proofs.Common.{◌≡◌, ℕ, zero, suc, ◌+◌, ◌<◌, ◌≤◌, List, [], ◌∷◌, ◌++◌, length, map, take, get_or, refl, sym, ◌∙◌, ap, arith}
-use Rattle.std.proofs.lemmas.List.{append_assoc, length-append, take-take, ext_get_or, get_or-map, length-map}
+use Rattle.std.proofs.lemmas.List.{length-append, take-take, ext_get_or, get_or-map, length-map}
 use Rattle.std.proofs.Math.Seq.{take-append_seam}
-use Rattle.std.specs.List.{flat_map}
 use Rattle.ut_l2.specs.KeyRows.{KeyRow, cells_at, no_row}
-use Rattle.ut_l2.specs.Delta.{row_at, rows_of}
+use Rattle.ut_l2.specs.Delta.{rows_of}
 use Rattle.ut_l2.proofs.DeltaLemmas.{rows-length, row-get}
 use Rattle.ut_main.specs.Columns.{Chain, ColumnValue, no_column}
 use Rattle.ut_main.specs.Parts.{PartValue, part_value, IsPart}

@@ -147,7 +147,8 @@ impl Main {
         requires few { rows_in self.now + length codes.codes ≤ 2147483647 }
         ensures before { IfOk result (λ c. c.before ≡ get_or (dicts_behind self.now) column []) }
         ensures cells { let before = get_or (dicts_behind self.now) column [] in
-            IfOk result (λ c. c.cells ≡ cells_of (end_to_end (before ++ arc_value dict ∷ [])) codes.codes) }
+            IfOk result (λ c.
+            c.cells ≡ cells_of (end_to_end (before ++ arc_value dict ∷ [])) codes.codes) }
     {
         let mut chain = self.dicts(alloc, column)?;
         chain.push(Arc::try_clone(&dict)?)?;

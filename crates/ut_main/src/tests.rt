@@ -1,5 +1,8 @@
 //! Worked parts and their bytes.
-use crate::{Main, part_bytes, part_from};
+ghost use Rattle.std.specs.Prelude.{◌≡◌, IfOk, IfSome};
+ghost use Rattle.ut_main.specs.Parts.{dicts_behind};
+
+use crate::{Main, Part, part_bytes, part_from};
 use std::alloc::{AllocError, Global};
 use std::sync::Arc;
 use std::test::Fail;
@@ -43,13 +46,31 @@ const REFUSED: [&[u8]; 5] = [
     ],
 ];
 
+/// The part whose bytes these are, where main has as many columns.
+fn read(
+    alloc: Global,
+    bytes: &[u8],
+    columns: &[Column],
+    main: &Main,
+) -> Result<Option<Part>, AllocError>
+    ensures { IfOk result (λ found. IfSome found (λ part. part.before ≡ dicts_behind main.now)) }
+{
+    if columns.len() != usize::from(main.width()) {
+        return Ok(None);
+    }
+    match part_from(alloc, bytes, columns, main)? {
+        Some(part) => Ok(Some(part)),
+        None => Ok(None),
+    }
+}
+
 #[test]
 fn parts_are_read_and_written_back(rt: HostRuntime) -> Result<(), Fail> {
     let alloc = rt.alloc();
     let columns = columns(alloc)?;
     let mut main = Main::new(alloc, 1);
     for bytes in [FIRST.as_slice(), &SECOND] {
-        let Some(part) = part_from(alloc, bytes, &columns, &main)? else {
+        let Some(part) = read(alloc, bytes, &columns, &main)? else {
             return Err(Fail::from(AllocError));
         };
         let mut written = Vec::new(alloc);
@@ -63,7 +84,7 @@ fn parts_are_read_and_written_back(rt: HostRuntime) -> Result<(), Fail> {
     let first = main.first(alloc, 1)?;
     for bytes in REFUSED {
         assert!(rt;
-            part_from(alloc, bytes, &columns, &first)?.is_none(),
+            read(alloc, bytes, &columns, &first)?.is_none(),
             "{bytes:?}"
         );
     }

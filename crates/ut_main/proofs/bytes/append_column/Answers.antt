@@ -1,9 +1,5 @@
-use Rattle.std.proofs.Common.{◌∙◌, ap}
-use Rattle.ut_codes.specs.Reached.{Reached}
-use Rattle.ut_prefix.specs.Spelling.{dict_bytes}
-use Rattle.std.proofs.Common.{◌++◌, List, ℕ}
+use Rattle.std.proofs.Common.{◌∙◌}
 use Rattle.ut_main.proofs.ReadLemmas.{column-written}
-use Rattle.ut_main.proofs.WritingLemmas.{kept}
 use Rattle.ut_main.proofs.bytes.append_column.Goals as goal
 
 pub returns-clause-ok : goal.returns-clause-ok

@@ -1,4 +1,4 @@
-use Rattle.std.proofs.Common.{◌≡◌, ◌∙◌, ◌+◌, ◌-◌, ◌<◌, ◌≤◌, ◌++◌, [], ◌∷◌, ℕ, List, length, sym, ap, subst, arith}
+use Rattle.std.proofs.Common.{◌≡◌, ◌∙◌, ◌++◌, [], ◌∷◌, ℕ, List, length, sym, ap, subst, arith}
 use Rattle.std.specs.Arc.{arc_value}
 use Rattle.ut_codes.specs.Forms.{code_bytes}
 use Rattle.ut_prefix.specs.Chain.{end_to_end, LacksAll}

@@ -1,4 +1,4 @@
-use Rattle.std.proofs.Common.{◌≡◌, ◌∙◌, ◌+◌, ◌<◌, ◌≤◌, [], ◌∷◌, ℕ, List, length, get_or, sym, ap, subst, arith}
+use Rattle.std.proofs.Common.{◌≡◌, ◌∙◌, ◌<◌, [], ◌∷◌, ℕ, List, length, get_or, sym, ap, subst, arith}
 use borrow.Author.Tests.{eqb-true}
 use Rattle.ut_prefix.specs.Chain.{end_to_end}
 use Rattle.ut_main.specs.Columns.{Chain}

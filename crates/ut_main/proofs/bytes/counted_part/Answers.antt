@@ -1,8 +1,8 @@
-use Rattle.std.proofs.Common.{◌≡◌, ◌∙◌, ◌≤◌, ◌++◌, ℕ, List, length, map, sym, ap, subst, arith}
+use Rattle.std.proofs.Common.{◌≡◌, ◌∙◌, length, map, sym, ap, subst, arith}
 use Rattle.std.proofs.lemmas.List.{length-map}
 use Rattle.std.specs.List.{flat_map}
 use Rattle.ut_l2.specs.KeyRows.{KeyRow}
-use Rattle.ut_main.specs.Parts.{PartValue, rows_in}
+use Rattle.ut_main.specs.Parts.{PartValue}
 use Rattle.ut_main.specs.Reading.{MayBeIds, MayBeColumns}
 use Rattle.ut_main.specs.Spelling.{part_bytes, column_bytes, columns_of, MayStand}
 use Rattle.ut_main.proofs.StandLemmas.{part-stands, part-spelled, stands-ids, stands-columns, ids-one}

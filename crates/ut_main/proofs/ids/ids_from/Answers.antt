@@ -1,9 +1,8 @@
-use Rattle.std.proofs.Common.{◌≡◌, ◌∙◌, ◌+◌, ◌-◌, ◌*◌, ◌++◌, ◌<◌, ◌≤◌, ℕ, List, length, take, drop, sym, ap, subst, arith}
+use Rattle.std.proofs.Common.{◌≡◌, ◌∙◌, ◌-◌, ◌*◌, ◌++◌, ℕ, List, length, take, drop, sym, ap, arith}
 use Rattle.std.specs.List.{flat_map}
 use Rattle.ut_bits.specs.Bits.{AllBelow}
-use Rattle.ut_bits.specs.Words.{word_bytes, word_in}
+use Rattle.ut_bits.specs.Words.{word_bytes}
 use Rattle.ut_bits.proofs.BitLemmas.{AllBelow-from_places, take-rest}
-use Rattle.ut_main.specs.Reading.{MayBeIds}
 use Rattle.ut_main.proofs.IdLemmas.{head-of, head-made}
 use Rattle.std.proofs.lemmas.List.{length-drop}
 use Rattle.ut_main.proofs.ids.ids_from.Goals.{then-earlier-rows-via-then-earlier-rows, then-earlier-rows-via-else-earlier-rows+then-behind-rows}

@@ -1,4 +1,4 @@
-use Rattle.std.proofs.Common.{◌≡◌, ◌∙◌, ◌*◌, ◌++◌, ◌<◌, ◌≤◌, ℕ, List, length, get_or, drop, sym, ap, subst, arith}
+use Rattle.std.proofs.Common.{◌≡◌, ◌∙◌, ◌*◌, ◌++◌, ◌<◌, ℕ, length, get_or, drop, ap, arith}
 use Rattle.std.proofs.lemmas.List.{get_or_default}
 use Rattle.ut_bits.specs.Bits.{AllBelow}
 use Rattle.ut_bits.specs.Words.{word_bytes, word_in}

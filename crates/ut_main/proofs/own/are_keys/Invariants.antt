@@ -1,4 +1,4 @@
-use Rattle.std.proofs.Common.{◌≡◌, ◌<◌, ℕ, [], get_or, IsTrue}
+use Rattle.std.proofs.Common.{◌<◌, ℕ, [], get_or, IsTrue}
 use Rattle.ut_main.specs.Spelling.{is_key}
 use Rattle.ut_main.proofs.own.are_keys.Given as goal
 

@@ -1,4 +1,4 @@
-use Rattle.std.proofs.Common.{◌≤◌, length, arith}
+use Rattle.std.proofs.Common.{arith}
 use Rattle.ut_main.proofs.own.may_be_own.Goals as goal
 
 pub returns-clause-own : goal.returns-clause-own

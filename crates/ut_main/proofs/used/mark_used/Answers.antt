@@ -1,4 +1,4 @@
-use Rattle.std.proofs.Common.{◌≡◌, ◌∙◌, ◌+◌, ◌-◌, ◌<◌, ◌≤◌, length, arith, sym, ap}
+use Rattle.std.proofs.Common.{◌+◌, ◌<◌, length, arith}
 use Rattle.ut_bits.proofs.BitLemmas.{AllBelow-at}
 use Rattle.ut_main.proofs.used.mark_used.Goals as goal
 
