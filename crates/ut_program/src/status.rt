@@ -1,4 +1,7 @@
 //! What the program says of how a run ended.
+ghost use Rattle.std.specs.Prelude.{◌≡◌};
+ghost use Rattle.ut_program.specs.Program.{exit_number};
+
 use ut_app::Status;
 
 /// What is written on the standard error.
@@ -18,7 +21,9 @@ pub(crate) fn text_of(status: Status) -> Option<&'static str> {
 }
 
 /// What the program exits with.
-pub(crate) fn exit_of(status: Status) -> u8 {
+pub(crate) fn exit_of(status: Status) -> u8
+    ensures { result ≡ exit_number status }
+{
     match status {
         Status::Done => 0,
         Status::Usage => 2,

@@ -1,0 +1,56 @@
+-- What the program comes to: a run of the top call, and the number that it exits with.
+use Rattle.std.specs.Prelude.{ℕ, ◌≡◌, ◌⊎◌, List, []}
+use Rattle.ut_outside.specs.Disk.{IsTold}
+use Rattle.ut_outside.specs.Faults.{Rose}
+use Rattle.ut_outside.specs.declared.ack.Ack.{Ack}
+use Rattle.ut_app.specs.declared.report.Status.{Status}
+use Rattle.ut_app.specs.declared.report.Status.TheVariants.{Done, Usage, NoStore, Exists, ReadFault, WriteFault, DiskFault, Damaged, Memory, TooLong}
+use Rattle.ut_app.specs.Words.{start_of}
+use Rattle.ut_app.specs.World.{World}
+use Rattle.ut_app.specs.Serving.{DidNothing}
+use Rattle.ut_app.specs.Script.{FitsInput}
+use Rattle.ut_app.specs.Ends.{IsUsage, IsComplete}
+use Rattle.ut_app.specs.Top.{FitsWords, RunsWords}
+
+-- the number that a status is told by
+abbrev pub exit_number : Status → ℕ
+exit_number Done = 0
+exit_number Usage = 2
+exit_number NoStore = 3
+exit_number Exists = 3
+exit_number ReadFault = 4
+exit_number WriteFault = 5
+exit_number DiskFault = 6
+exit_number Damaged = 7
+exit_number Memory = 8
+exit_number TooLong = 9
+
+-- All that the top call promises of a run with these words.
+pub record Tops (words : List (List ℕ)) (before after : World) (status : Status) : Type 0 where
+  pub lines : ℕ
+  pub acks : List Ack
+  pub journal : ℕ
+  pub usage : IsUsage (start_of words) status
+  pub store : IsTold before.disk → FitsWords (start_of words) status before.disk.seen
+  pub input : FitsInput status before.source
+  pub ran : RunsWords (start_of words) before after status lines acks journal
+  pub read : status ≡ ReadFault → Rose before.reads after.reads
+  pub write : status ≡ WriteFault → Rose before.writes after.writes
+  pub disk : status ≡ DiskFault → Rose before.disk.faults after.disk.faults
+  pub complete : IsComplete (start_of words) before after status
+
+-- The process's words couldn't be had, and nothing was done.
+pub record HasNoWords (before after : World) (status : Status) : Type 0 where
+  pub nothing : DidNothing before after 0 [] 0
+  pub says : (status ≡ Usage) ⊎ (status ≡ Memory)
+
+-- The top call ran with some words, which only the system knows, or there were none to be had.
+pub data Ends (before after : World) (status : Status) : Type 0 where
+  Ran : (words : List (List ℕ)) → Tops words before after status → Ends before after status
+  Unasked : HasNoWords before after status → Ends before after status
+
+-- The program exits with the number of the status that its run ended with.
+pub record Exits (before after : World) (exit : ℕ) : Type 0 where
+  pub status : Status
+  pub ends : Ends before after status
+  pub number : exit ≡ exit_number status
