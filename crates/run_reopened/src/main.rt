@@ -1,0 +1,14 @@
+//! The program, run over a store that was made before.
+#![tactic(auto)]
+
+use std::io;
+use std::process::ExitCode;
+use ut_files::{RealDisk, StdSink, StdSource, WorkingFolder};
+use ut_program::program;
+
+fn main(rt: HostRuntime) -> ExitCode {
+    let mut source = StdSource::new(rt.reader());
+    let mut sink = StdSink::new(io::writer(&rt));
+    let mut disk = RealDisk::new(WorkingFolder::new(&rt));
+    program(&rt, &mut source, &mut sink, &mut disk)
+}
