@@ -4,7 +4,8 @@ use Rattle.std.specs.declared.cmp.Ordering.{Ordering}
 use Rattle.std.specs.declared.cmp.Ordering.TheVariants.{Less, Equal, Greater}
 use Rattle.ut_key.specs.Keys.{key_cmp, IsAscending}
 use Rattle.ut_own.specs.Own.{placed, insert_key, union, holds, news, own_dict, In}
-use Rattle.ut_own.proofs.MemberLemmas.{Ascends-union, in-union, union-in}
+use Rattle.ut_own.proofs.MemberLemmas.{in-union, union-in}
+use Rattle.ut_own.proofs.UnionLemmas.{Ascends-union}
 use Rattle.ut_prefix.specs.Chain.{end_to_end, LacksAll}
 use Rattle.ut_main.proofs.KeyLemmas.{in-holds, holds-in, contains-in, in-left, in-right, ascending-from}
 

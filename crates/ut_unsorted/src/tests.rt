@@ -1,17 +1,26 @@
 //! The order of codes at a few keys.
+ghost use Rattle.std.specs.Prelude.{◌+◌, ◌<◌, ◌≤◌, length, OnOk};
 
 use crate::UnsortedDict;
 use std::alloc::{AllocError, Global};
 use std::process::Abort;
 use std::test::Fail;
 
+fn add(rt: &impl Abort, dict: &mut UnsortedDict, key: &[u8]) -> Result<(), AllocError>
+    requires { length dict.old < 100 }
+    ensures { OnOk result (length dict.new ≤ length dict.old + 1) }
+{
+    assert!(rt; key.len() < 256);
+    dict.intern(key)?;
+    Ok(())
+}
+
 /// The codes of keys that are interned one after the other, in the order of the keys.
 fn order_of(rt: &impl Abort, alloc: Global, keys: &[&[u8]]) -> Result<Vec<u32>, AllocError> {
-    let mut dict = UnsortedDict::new(alloc);
     assert!(rt; keys.len() < 100);
+    let mut dict = UnsortedDict::new(alloc);
     for key in keys {
-        assert!(rt; key.len() < 256);
-        dict.intern(key)?;
+        add(rt, &mut dict, key)?;
     }
     dict.order(alloc)
 }
