@@ -3,6 +3,7 @@ ghost use Rattle.std.specs.Prelude.{◌<◌};
 
 use crate::run::{REPLIES, RUN_NEW, Ran, SCRIPT, run_between, run_on};
 use std::alloc::{AllocError, Global};
+use std::process::Abort;
 use std::test::Fail;
 use std::thread::Threads;
 use ut_app::{Status, top};
@@ -111,27 +112,37 @@ fn lines_given(left: u64) -> usize {
     lines
 }
 
-#[test]
-fn each_reply_is_given_before_more_is_asked_for(rt: HostRuntime) -> Result<(), Fail> {
-    let alloc = rt.alloc();
-    for piece in [1, 7, 24] {
-        let mut disk = MemDisk::of(alloc, &[], &[], &[])?;
-        let mut source = MemSource::new(alloc, SCRIPT, piece, None)?;
-        let mut sink = MemSink::new(alloc, None);
-        let ran = top(
-            &rt,
-            alloc,
-            RUN_NEW,
-            &mut source,
-            &mut sink,
-            &mut disk,
-            &NoHook,
-        );
-        assert_eq!(rt; ran.status, Status::Done);
-        for ask in source.asks() {
-            let taken = TAKEN.get(lines_given(ask.left)).copied();
-            assert_eq!(rt; Some(ask.taken), taken, "with {} left", ask.left);
-        }
+/// Runs the script from a source that gives so many bytes at once, and looks at what the sink had taken at each of its calls.
+fn asked_in_time(
+    rt: &(impl Abort + Threads + Sync),
+    alloc: Global,
+    piece: usize,
+) -> Result<(), Fail>
+    requires { 0 < piece }
+{
+    let mut disk = MemDisk::of(alloc, &[], &[], &[])?;
+    let mut source = MemSource::new(alloc, SCRIPT, piece, None)?;
+    let mut sink = MemSink::new(alloc, None);
+    let ran = top(
+        rt,
+        alloc,
+        RUN_NEW,
+        &mut source,
+        &mut sink,
+        &mut disk,
+        &NoHook,
+    );
+    assert_eq!(rt; ran.status, Status::Done);
+    for ask in source.asks() {
+        let taken = TAKEN.get(lines_given(ask.left)).copied();
+        assert_eq!(rt; Some(ask.taken), taken, "with {} left", ask.left);
     }
     Ok(())
+}
+
+#[test]
+fn each_reply_is_given_before_more_is_asked_for(rt: HostRuntime) -> Result<(), Fail> {
+    asked_in_time(&rt, rt.alloc(), 1)?;
+    asked_in_time(&rt, rt.alloc(), 7)?;
+    asked_in_time(&rt, rt.alloc(), 24)
 }
