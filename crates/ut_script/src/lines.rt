@@ -80,7 +80,7 @@ impl Lines {
 
     /// Reads the next line, and says whether there is one. After an error each call answers that error. The source, which sees what the
     /// sink took so far, is asked for more only while no whole line is held.
-    pub fn advance<S: Source, K: Taken>(
+    pub fn advance<S: Source<K>, K: Taken>(
         &mut self,
         source: &mut S,
         sink: &K,
@@ -104,7 +104,7 @@ impl Lines {
         }
     }
 
-    fn next_line<S: Source, K: Taken>(
+    fn next_line<S: Source<K>, K: Taken>(
         &mut self,
         source: &mut S,
         sink: &K,
@@ -127,7 +127,7 @@ impl Lines {
     }
 
     /// Where no more lines may be handed out, one more is an error.
-    fn next_past_limit<S: Source, K: Taken>(
+    fn next_past_limit<S: Source<K>, K: Taken>(
         &mut self,
         source: &mut S,
         sink: &K,
@@ -148,7 +148,7 @@ impl Lines {
         }
     }
 
-    fn read_line<S: Source, K: Taken>(
+    fn read_line<S: Source<K>, K: Taken>(
         &mut self,
         source: &mut S,
         sink: &K,
@@ -193,7 +193,7 @@ impl Lines {
     }
 
     /// Holds bytes, where the input has any more, and says whether it does.
-    fn fill<S: Source, K: Taken>(&mut self, source: &mut S, sink: &K) -> Result<bool, LineError>
+    fn fill<S: Source<K>, K: Taken>(&mut self, source: &mut S, sink: &K) -> Result<bool, LineError>
         ensures bytes { Fills self.old (S.left source.old) result self.new (S.left source.new) }
         ensures asks { AsksFew self.old (S.left source.old) (K.held sink.now) (S.asks source.old) (S.asks source.new) }
         ensures some { result ≡ Ok true → 0 < length self.new.held }
