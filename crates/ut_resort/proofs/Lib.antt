@@ -1,0 +1,4 @@
+pub mod OrderLemmas
+mod SortLemmas
+mod PackLemmas
+pub mod ResortLaws

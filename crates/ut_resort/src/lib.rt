@@ -1,0 +1,13 @@
+//! Re-sorted order: rows by their codes, those of the columns with fewest different keys first.
+#![tactic(auto)]
+
+mod columns;
+mod laws;
+mod packing;
+mod rows;
+
+pub use laws::resorted_order;
+pub use rows::order;
+
+#[cfg(test)]
+mod tests;
