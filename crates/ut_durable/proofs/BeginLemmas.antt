@@ -15,12 +15,9 @@ use Rattle.ut_plain.proofs.PartLaws.{may_open_part}
 use Rattle.ut_pages.specs.declared.root.Root.{Root}
 use Rattle.ut_pages.specs.Layout.{IsRoot}
 use Rattle.ut_durable.specs.Directories.{IsBase}
-use Rattle.ut_durable.specs.Files.{IsImageOf}
+use Rattle.ut_durable.specs.Laws.{CapturedIsImage}
 
--- A root of the journal's length and counts, and what is captured, are an image of the journal.
-pub captured_image : (p : Plain) (root : Root) → IsPlain p → AreHeldBy p.stages (current p.journal).rows → AreDistinct (ids_of (capture (current p.journal) p.stages).stages) → IsRoot root
-    → root.length ≡ journal_len p.journal → (current p.journal).length ≡ root.length → (current p.journal).next ≡ root.next → (current p.journal).commits ≡ root.commits → (current p.journal).merges ≡ root.merges
-    → IsImageOf p.journal root (capture (current p.journal) p.stages)
+pub captured_image : CapturedIsImage
 captured_image p root is held distinct rules whole long next commits merges =
     let d : Directory = capture (current p.journal) p.stages in
     let here : state_at p.journal root.length ≡ current p.journal = state_at-last p.journal root.length (omega (arith, whole)) in

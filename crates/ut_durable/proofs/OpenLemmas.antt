@@ -2,12 +2,12 @@
 use Rattle.std.proofs.Common.{◌≡◌, ◌⊎◌, inl, inr, ⊎_elim, ℕ, zero, suc, ◌+◌, ◌-◌, ◌*◌, ◌≤◌, ◌<◌, List, [], ◌∷◌, ◌++◌, length, take, drop, refl, sym, ◌∙◌, ap, subst, arith}
 use Rattle.std.specs.Prelude.{Contains, Option, None, Some}
 use Rattle.std.specs.Ordering.{nat_cmp}
-use Rattle.ut_outside.specs.declared.disk.Which.TheVariants.{Redo}
+use Rattle.ut_outside.specs.declared.disk.Which.TheVariants.{Redo, Pages}
 use Rattle.ut_plain.specs.declared.table.Stored.{Stored}
 use Rattle.ut_plain.specs.declared.stage.Placed.{Placed}
 use Rattle.std.specs.FinMap as finmap
-use Rattle.ut_outside.specs.Disk.{Image, View, IsTold}
-use Rattle.ut_outside.specs.Run.{Always}
+use Rattle.ut_outside.specs.Disk.{Image, View, IsTold, content}
+use Rattle.ut_outside.specs.Run.{Always, ComesFrom, ReadsOnly}
 use Rattle.ut_value.specs.declared.entry.Entry.{Entry}
 use Rattle.ut_plain.specs.State.{State, empty_state}
 use Rattle.ut_plain.specs.Stages.{all_places, no_stages}
@@ -17,18 +17,25 @@ use Rattle.ut_plain.specs.Capture.{Directory, StandsInTable}
 use Rattle.ut_durable.specs.Bytes.{no_directory}
 use Rattle.ut_plain.specs.Plain.{Opening, Idle, opened_store}
 use Rattle.ut_plain.proofs.OpenedLaws.{IsPlain-opened}
+use Rattle.ut_redo.specs.Appends.{Place, IsClosedAt}
 use Rattle.ut_redo.specs.Frames.{Holds}
 use Rattle.ut_redo.specs.Logs.{LogHolds}
 use Rattle.ut_redo.specs.Logs.LogHolds.{Straight}
+use Rattle.ut_pages.specs.Selection.{Selection}
+use Rattle.ut_pages.specs.declared.slot.Slot.{Slot}
 use Rattle.ut_pages.specs.declared.slot.Slot.TheVariants.{First}
 use Rattle.ut_pages.specs.declared.root.Root.{Root}
-use Rattle.ut_pages.specs.Layout.{IsMade, IsSelected, IsThere, IsChain, IsRoot, empty_root, made_pages}
-use Rattle.ut_pages.proofs.MadeLemmas.{made_is, made_selected, made_root}
+use Rattle.ut_pages.specs.Layout.{IsMade, IsSelected, IsRoot, IsRead, empty_root, made_pages}
+use Rattle.ut_pages.specs.Crash.{Stands}
+use Rattle.ut_pages.proofs.OneLemmas.{one_read}
+use Rattle.ut_pages.proofs.MadeLemmas.{made_is, made_selected, made_root, made_stands, made_is_read}
 use Rattle.ut_durable.specs.Directories.{IsBase}
 use Rattle.ut_durable.specs.Images.{HasImage, AreThere}
 use Rattle.ut_durable.specs.Journals.{place_of}
 use Rattle.ut_durable.specs.Files.{IsImageOf, Rests}
-use Rattle.ut_durable.specs.Calls.{Held, IsRested}
+use Rattle.ut_durable.specs.Calls.{Held, IsSettled}
+use Rattle.ut_durable.specs.Made.{made_held}
+use Rattle.ut_durable.specs.Laws.{OpenedIsStored, MadeIsStored}
 use Rattle.ut_durable.specs.Saving.{IsStored}
 use Rattle.ut_plain.proofs.PartLaws.{may_open_part}
 
@@ -44,7 +51,7 @@ abbrev opening : Directory → Opening
 opening d = record { stages = d.stages; image_pages = λ (e : Directory). 0; root_pages = 0 }
 
 -- what is read is an image of its journal
-pub reading_image : (j : Journal) (root : Root) (d : Directory) → IsBase root d j.base → MayOpen d.stages j → IsRoot root → IsImageOf j root d
+reading_image : (j : Journal) (root : Root) (d : Directory) → IsBase root d j.base → MayOpen d.stages j → IsRoot root → IsImageOf j root d
 reading_image j root d base may rules =
     let here : root.length ≡ j.base.length = sym base.length in
     let is : state_at j root.length ≡ j.base = none_before j root.length here in
@@ -59,22 +66,20 @@ reading_image j root d base may rules =
           (subst (λ (s : State). all_places d.stages ≤ finmap.len s.rows) (sym is) may.places);
     }
 
--- Each outcome of a crash is what was read, of which the reached pages are there: the files hold the journal, and no savepoint is under way.
-pub opened_stored : (j : Journal) (d : Directory) (f : Held) (root : Root) (seen : Image) (disk : View) → IsMade seen.pages → IsSelected f.slot seen.pages → AreThere f.reached seen.pages → HasImage f.slot f.reached root d seen.pages → IsBase root d j.base
-    → LogHolds (place_of root) j.entries f.log seen → MayOpen d.stages j → (IsTold disk → Always disk (λ c. c ≡ seen)) → IsStored j f root d None Idle disk
-opened_stored j d f root seen disk made selected there image base log may settled =
-    let of : IsImageOf j root d = reading_image j root d base may image.has.rules in
-    record {
-      image = of;
-      rests = λ told c left.
-          subst (Rests j f.slot f.reached root d f.log) (sym (settled told c left))
-          (record {
-            stands = record { made = made; selected = selected; there = there };
-            image = image;
-            log = subst (λ (es : List Entry). LogHolds (place_of root) es f.log seen) (sym (all_behind j root.length (sym base.length))) log;
-          });
-      under_way = tt;
-    }
+-- what an outcome of a crash is, which says this
+opened_rests : (j : Journal) (d : Directory) (f : Held) (root : Root) (c : Image) → IsMade c.pages → IsSelected f.slot c.pages → AreThere f.reached c.pages → HasImage f.slot f.reached root d c.pages → IsBase root d j.base → LogHolds (place_of root) j.entries f.log c → Rests j f.slot f.reached root d f.log c
+opened_rests j d f root c made selected there image base log = record {
+  stands = record { made = made; selected = selected; there = there };
+  image = image;
+  log = subst (λ (es : List Entry). LogHolds (place_of root) es f.log c) (sym (all_behind j root.length (sym base.length))) log;
+}
+
+pub opened_is_stored : {D : Type 0} (view : D → View) → OpenedIsStored view
+opened_is_stored {D} view j d f root seen v made selected there image base log may settled = record {
+  image = reading_image j root d base may image.has.rules;
+  rests = λ told c left. subst (Rests j f.slot f.reached root d f.log) (sym (settled told c left)) (opened_rests j d f root seen made selected there image base log);
+  under_way = tt;
+}
 
 -- ---- a store that was just made
 
@@ -86,7 +91,7 @@ in_none p (inl l1) = no_element p l1
 in_none p (inr (inl l2)) = no_element p l2
 in_none p (inr (inr (part, in_parts, in_part))) = no_element part in_parts
 
-pub made_base : IsBase empty_root no_directory empty_state
+made_base : IsBase empty_root no_directory empty_state
 made_base = record {
   tables = refl;
   rows = record {
@@ -102,7 +107,7 @@ made_base = record {
     nothing : (o : Option Stored) (row : Stored) → o ≡ None → o ≡ Some row → ⊥
     nothing o row none some = let same : None ≡ Some row = sym none ∙ some in cc
 
-pub made_image : HasImage First [] empty_root no_directory made_pages
+made_image : HasImage First [] empty_root no_directory made_pages
 made_image = record {
   has = made_root;
   image = record {
@@ -118,9 +123,32 @@ made_image = record {
   };
 }
 
-pub made_stored : (f : Held) (seen : Image) (disk : View) → f ≡ record { log = record { file = Redo; end = 0 }; slot = First; reached = [] } → seen.pages ≡ made_pages → Holds 0 [] 0 seen.redo → MayOpen [] empty_journal → (IsTold disk → Always disk (λ c. c ≡ seen))
-    → IsStored empty_journal f empty_root no_directory None Idle disk
-made_stored f seen disk is pages log may settled =
-    subst (λ (h : Held). IsStored empty_journal h empty_root no_directory None Idle disk) (sym is)
-    (opened_stored empty_journal no_directory (record { log = record { file = Redo; end = 0 }; slot = First; reached = [] }) empty_root seen disk
-    (subst IsMade (sym pages) made_is) (subst (IsSelected First) (sym pages) made_selected) (λ n has. absurd (no_element n has)) (subst (HasImage First [] empty_root no_directory) (sym pages) made_image) made_base (Straight refl log) may settled)
+pub made_is_stored : {D : Type 0} (view : D → View) → MadeIsStored view
+made_is_stored {D} view f v is may left_by =
+    subst (λ (h : Held). IsStored empty_journal h empty_root no_directory None Idle (view v)) (sym is)
+    (record {
+      image = reading_image empty_journal empty_root no_directory made_base may made_root.rules;
+      rests = λ told c left.
+          let here = left_by told c left in
+          opened_rests empty_journal no_directory made_held empty_root c (subst IsMade (sym here.0) made_is) (subst (IsSelected First) (sym here.0) made_selected) (λ n has. absurd (no_element n has))
+          (subst (HasImage First [] empty_root no_directory) (sym here.0) made_image) made_base (Straight refl here.1);
+      under_way = tt;
+    })
+
+-- what was just made is settled
+pub made_settled : (f : Held) (redo : Place) (pages : Selection) (root : Root) (bytes : List ℕ) (v1 v2 v3 : View) → f ≡ record { log = redo; slot = pages.slot; reached = pages.reached } → redo ≡ place_of empty_root → ((c : Image) → v1.crash_states c → IsClosedAt redo.end (content redo.file c))
+    → v2.seen.pages ≡ made_pages → ((c : Image) → v2.crash_states c → ComesFrom v1 Pages (λ _ x. x ≡ made_pages) c) → ReadsOnly v2 v3 → IsRead pages.slot pages.reached root bytes v2.seen.pages → (f ≡ made_held) × IsSettled f v3
+made_settled f redo pages root bytes v1 v2 v3 is begins gate seen left_by reads read = (same, λ told c left. subst (λ (h : Held). IsClosedAt h.log.end (content h.log.file c) × Stands h.slot h.reached c.pages) (sym same) (settled c left))
+  where
+    one : (First ≡ pages.slot) × (empty_root ≡ root) × ([] ≡ pages.reached) × ([] ≡ bytes)
+    one = one_read First pages.slot [] pages.reached empty_root root [] bytes made_pages made_is_read (subst (IsRead pages.slot pages.reached root bytes) seen read)
+
+    same : f ≡ made_held
+    same = is ∙ ap (λ (l : Place). record { log = l; slot = pages.slot; reached = pages.reached }) begins ∙ ap (λ (s : Slot). record { log = place_of empty_root; slot = s; reached = pages.reached }) (sym one.0)
+        ∙ ap (λ (l : List ℕ). record { log = place_of empty_root; slot = First; reached = l }) (sym one.2)
+
+    settled : (c : Image) → v3.crash_states c → IsClosedAt 0 c.redo × Stands First [] c.pages
+    settled c left =
+        let from = left_by c (reads.no_more c left) in
+        let there = subst (λ (l : Place). IsClosedAt l.end (content l.file from.0)) begins (gate from.0 from.1) in
+        (subst (IsClosedAt 0) (sym (from.2 Redo (λ e. cc))) there, subst (Stands First []) (sym from.3) made_stands)

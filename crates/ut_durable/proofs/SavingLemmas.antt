@@ -1,18 +1,22 @@
 -- What each call does to all that a store knows of its files.
-use Rattle.std.proofs.Common.{◌≡◌, ◌≢◌, ℕ, suc, ◌+◌, ◌≤◌, ◌<◌, Bool, true, false, List, [], ◌∷◌, ◌++◌, length, take, Option, None, Some, refl, sym, ◌∙◌, ap, subst, arith}
+use Rattle.std.proofs.Common.{◌≡◌, ◌≢◌, ℕ, zero, suc, ◌+◌, ◌≤◌, ◌<◌, Bool, true, false, List, [], ◌∷◌, ◌++◌, length, take, Option, None, Some, refl, sym, ◌∙◌, ap, subst, arith}
 use Rattle.std.specs.Prelude.{IsTrue, Contains, slice_get}
 use Rattle.std.specs.List.{AllByRecursion}
+use Rattle.std.specs.FinMap as finmap
 use Rattle.std.proofs.lemmas.List.{take_all}
 use Rattle.ut_value.specs.declared.entry.Entry.{Entry}
 use Rattle.ut_outside.specs.declared.disk.Which.{Which}
 use Rattle.ut_outside.specs.declared.disk.Which.TheVariants.{Pages}
 use Rattle.ut_outside.specs.Disk.{Image, View, IsTold, OnFile, Others, content}
 use Rattle.ut_outside.specs.Run.{Always}
-use Rattle.ut_plain.specs.Journal.{Journal, journal_len, appended, part}
-use Rattle.ut_plain.specs.Reached.{MayOpen}
+use Rattle.ut_plain.specs.State.{State}
+use Rattle.ut_plain.specs.Stages.{all_places}
+use Rattle.ut_plain.specs.Journal.{Journal, journal_len, state_at, appended, part}
+use Rattle.ut_plain.specs.Reached.{IsPlain, IsCaptured, MayOpen}
+use Rattle.ut_plain.proofs.JournalLaws.{state_at-appended}
+use Rattle.ut_plain.proofs.PartLaws.{may_open_part}
 use Rattle.ut_plain.specs.Capture.{Directory}
-use Rattle.ut_plain.specs.Plain.{Phase}
-use Rattle.ut_plain.specs.Plain.{Idle, Writing, Sealed}
+use Rattle.ut_plain.specs.Plain.{Plain, Phase, Idle, Writing, Sealed}
 use Rattle.ut_redo.specs.Appends.{Place, IsClosedAt}
 use Rattle.ut_redo.specs.Logs.{IsLogFile, other_log}
 use Rattle.ut_redo.proofs.LogLemmas.{other_differs}
@@ -23,9 +27,11 @@ use Rattle.ut_pages.specs.Crash.{ChangesOnly}
 use Rattle.ut_durable.specs.Journals.{place_of}
 use Rattle.ut_durable.specs.Files.{IsImageOf, IsStaged, LogBehind}
 use Rattle.ut_durable.specs.Calls.{Held, IsSettled, IsRested, IsFollowed, IsReady}
-use Rattle.ut_durable.specs.Saving.{Planned, IsWritten, Saving, IsPlan, IsWriting, IsWaiting, IsSaving, IsStored}
+use Rattle.ut_durable.specs.Saving.{Planned, IsWritten, MayWrite, Saving, IsPlan, IsWriting, IsWaiting, IsSaving, IsStored}
 use Rattle.ut_durable.proofs.PlaceLemmas.{is_log}
-use Rattle.ut_durable.proofs.RestLemmas.{image_of_more, captured_now}
+use Rattle.ut_durable.specs.Laws.{AppendIsStored, SwitchIsStored, BeginIsStored, NextMayBeWritten, PageIsStored, SealIsStored, FlipIsStored, DropIsStored, StoredHoldsAll}
+use Rattle.ut_durable.proofs.CallLemmas.{settled}
+use Rattle.ut_durable.proofs.RestLemmas.{image_of_more, captured_now, rests_all}
 use Rattle.ut_durable.proofs.PlanLemmas.{still_written, earlier_apart, taken_more, all_push}
 
 -- the other files are as they were, and so what was written of pages
@@ -45,7 +51,7 @@ module _ (j : Journal) (e : Entry) (f f' : Held) (selected : Root) (d : Director
   more : (root : Root) (c : Directory) → IsImageOf j root c → IsImageOf (appended j e) root c
   more root c of = image_of_more j e root c of (may root c of)
 
-  pub saving_appended : (saving : Option Saving) (phase : Phase) → IsSaving j f selected v0 saving phase → IsSaving (appended j e) f' selected v1 saving phase
+  saving_appended : (saving : Option Saving) (phase : Phase) → IsSaving j f selected v0 saving phase → IsSaving (appended j e) f' selected v1 saving phase
   saving_appended None Idle is = tt
   saving_appended None (Writing b p q c) is = is
   saving_appended None (Sealed b q c) is = is
@@ -72,13 +78,13 @@ module _ (j : Journal) (e : Entry) (f f' : Held) (selected : Root) (d : Director
     ready = subst (λ (k : Slot). IsReady (appended j e) (other k) s.reached s.root c f' v1) (sym slot) (ready s.root s.reached c is.image is.ready);
   }
 
-  pub stored_appended : (saving : Option Saving) (phase : Phase) → IsStored j f selected d saving phase v0 → IsStored (appended j e) f' selected d saving phase v1
+  stored_appended : (saving : Option Saving) (phase : Phase) → IsStored j f selected d saving phase v0 → IsStored (appended j e) f' selected d saving phase v1
   stored_appended saving phase stored = record { image = more selected d stored.image; rests = rests selected d stored.image stored.rests; under_way = saving_appended saving phase stored.under_way }
 
 -- ---- a savepoint begins
 
 -- the log has moved off the selected root's file, or stood in the other one before
-pub stored_begun : (j : Journal) (f : Held) (selected : Root) (d : Directory) (s : Saving) (c : Directory) (v : View) → IsImageOf j selected d → IsRested j selected d f v → IsSettled f v
+stored_begun : (j : Journal) (f : Held) (selected : Root) (d : Directory) (s : Saving) (c : Directory) (v : View) → IsImageOf j selected d → IsRested j selected d f v → IsSettled f v
     → IsImageOf j s.root c → s.root.length ≡ journal_len j → place_of s.root ≡ f.log → s.root.version ≡ 2 → f.log.file ≢ (place_of selected).file → s.sealed ≡ false → s.done ≡ 0 → IsPlan s.planned f.reached s.reached s.root c
     → IsStored j f selected d (Some s) (Writing (journal_len j) 0 (length s.planned) c) v
 stored_begun j f selected d s c v image rests settled of whole here version apart unsealed none plan = record {
@@ -100,12 +106,12 @@ stored_begun j f selected d s c v image rests settled of whole here version apar
 }
 
 -- after a switch it has
-pub switched_differs : (f : Held) (selected : Root) → f.log.file ≡ (place_of selected).file → other_log f.log.file ≢ (place_of selected).file
+switched_differs : (f : Held) (selected : Root) → f.log.file ≡ (place_of selected).file → other_log f.log.file ≢ (place_of selected).file
 switched_differs f selected same is = other_differs f.log.file (subst IsLogFile (sym same) (is_log selected.file)) (same ∙ sym is)
 
 -- ---- a page
 
-pub stored_step : (j : Journal) (f : Held) (selected : Root) (d : Directory) (s : Saving) (b n q : ℕ) (c : Directory) (p : Planned) (v0 v1 : View) → slice_get s.planned s.done ≡ Some p → s.done < length s.planned → v1.told ≡ v0.told
+stored_step : (j : Journal) (f : Held) (selected : Root) (d : Directory) (s : Saving) (b n q : ℕ) (c : Directory) (p : Planned) (v0 v1 : View) → slice_get s.planned s.done ≡ Some p → s.done < length s.planned → v1.told ≡ v0.told
     → (IsRested j selected d f v0 → IsRested j selected d f v1) → (IsFollowed j s.root f v0 → IsFollowed j s.root f v1)
     → (IsTold v0 → HasPage p.n p.next p.payload v1.seen.pages) → (IsTold v0 → OnFile Pages (ChangesOnly p.n (length v0.seen.pages)) v0.seen v1.seen)
     → IsStored j f selected d (Some s) (Writing b n q c) v0 → IsStored j f selected d (Some (record s { done = s.done + 1 })) (Writing b (n + 1) q c) v1
@@ -137,7 +143,7 @@ stored_step j f selected d s b n q c p v0 v1 next more same rests captured here 
 
 -- ---- the root
 
-pub stored_sealed : (j : Journal) (f : Held) (selected : Root) (d : Directory) (s : Saving) (b n q : ℕ) (c : Directory) (v0 v1 : View) → s.done ≡ length s.planned
+stored_sealed : (j : Journal) (f : Held) (selected : Root) (d : Directory) (s : Saving) (b n q : ℕ) (c : Directory) (v0 v1 : View) → s.done ≡ length s.planned
     → (IsRested j selected d f v0 → IsRested j selected d f v1)
     → ((IsTold v0 → IsStaged s.reached s.root c v0.seen.pages) → IsFollowed j s.root f v0 → IsReady j (other f.slot) s.reached s.root c f v1)
     → IsStored j f selected d (Some s) (Writing b n q c) v0 → IsStored j f selected d (Some (record s { sealed = true })) (Sealed b q c) v1
@@ -158,7 +164,7 @@ stored_sealed j f selected d s b n q c v0 v1 all rests ready stored =
 
 -- ---- the flip
 
-pub stored_flipped : (j : Journal) (f f' : Held) (selected : Root) (d : Directory) (s : Saving) (b q : ℕ) (c : Directory) (v0 v1 : View)
+stored_flipped : (j : Journal) (f f' : Held) (selected : Root) (d : Directory) (s : Saving) (b q : ℕ) (c : Directory) (v0 v1 : View)
     → (IsRested j selected d f v0 → IsReady j (other f.slot) s.reached s.root c f v0 → IsRested j s.root c f' v1)
     → IsStored j f selected d (Some s) (Sealed b q c) v0 → IsStored j f' s.root c None Idle v1
 stored_flipped j f f' selected d s b q c v0 v1 flip stored =
@@ -166,5 +172,58 @@ stored_flipped j f f' selected d s b q c v0 v1 flip stored =
 
 -- ---- it is dropped
 
-pub stored_dropped : (j : Journal) (f : Held) (selected : Root) (d : Directory) (saving : Option Saving) (phase : Phase) (v : View) → IsStored j f selected d saving phase v → IsStored j f selected d None Idle v
+stored_dropped : (j : Journal) (f : Held) (selected : Root) (d : Directory) (saving : Option Saving) (phase : Phase) (v : View) → IsStored j f selected d saving phase v → IsStored j f selected d None Idle v
 stored_dropped j f selected d saving phase v stored = record { image = stored.image; rests = stored.rests; under_way = tt }
+
+-- ---- the laws
+
+-- behind a root each part of the longer journal can be opened
+may_more : (p : Plain) (j : Journal) (e : Entry) → IsPlain p → p.journal ≡ appended j e → (root : Root) (c : Directory) → IsImageOf j root c → (n : ℕ) → root.length ≤ n → n ≤ journal_len (appended j e) → MayOpen c.stages (part (appended j e) root.length n)
+may_more p j e is next root c of n from until =
+    let here = of.may root.length (omega arith) of.within in
+    let same : state_at j root.length ≡ state_at p.journal root.length = sym (state_at-appended j e root.length of.within) ∙ ap (λ (k : Journal). state_at k root.length) (sym next) in
+    let captured : IsCaptured c = record { staged = here.staged ∙ ap length of.base.tables; mains = here.mains; rest = here.rest } in
+    let long : journal_len p.journal ≡ journal_len (appended j e) = ap journal_len next in
+    subst (λ (k : Journal). MayOpen c.stages (part k root.length n)) next
+    (may_open_part p c root.length n is (omega (arith, of.begins, ap (λ (k : Journal). k.base.length) next)) from (omega (arith, until, long)) captured (sym of.base.tables ∙ ap (λ (s : State). s.tables) same)
+    (subst (λ (s : State). all_places c.stages ≤ finmap.len s.rows) same here.places))
+
+pub append_is_stored : {D : Type 0} (view : D → View) → AppendIsStored view
+append_is_stored {D} view j e payload f f' selected d saving phase v0 v1 p spells is next place same pages gains stored =
+    stored_appended j e f f' selected d (view v0) (view v1) (ap (λ (h : Held). h.log.file) place) (ap (λ (h : Held). h.slot) place) (ap (λ (h : Held). h.reached) place) same pages (may_more p j e is next)
+    (λ root c of rests. gains.rests j root c e spells of rests) (λ root within followed. gains.followed j root e spells within followed) (λ root ps c of ready. gains.ready j root ps c e spells of ready) saving phase stored
+
+pub switch_is_stored : {D : Type 0} (view : D → View) → SwitchIsStored view
+switch_is_stored {D} view j f f' selected d v0 v1 straight place moves stored = (
+  record { image = stored.image; rests = moves j selected d straight stored.rests; under_way = tt },
+  subst (λ (h : Held). h.log.file ≢ (place_of selected).file) (sym place) (switched_differs f selected straight),
+)
+
+pub begin_is_stored : {D : Type 0} (view : D → View) → BeginIsStored view
+begin_is_stored {D} view j f selected d s c v of whole here version apart unsealed none plan stored =
+    stored_begun j f selected d s c (view v) stored.image stored.rests (settled j selected d f (view v) stored.rests) of whole here version apart unsealed none plan
+
+planned_at : (P : Planned → Type 0) (ps : List Planned) (k : ℕ) (p : Planned) → AllByRecursion P ps → slice_get ps k ≡ Some p → P p
+planned_at P [] k p all is = absurd cc
+planned_at P (q ∷ ps) zero p all is = let same : q ≡ p = cc in subst P same all.0
+planned_at P (q ∷ ps) (suc k) p all is = planned_at P ps k p all.1 is
+
+pub next_may_be_written : {D : Type 0} (view : D → View) → NextMayBeWritten view
+next_may_be_written {D} view j f selected d s b n q c p v stored is = planned_at (MayWrite f.reached) s.planned s.done p stored.under_way.plan.may is
+
+pub page_is_stored : {D : Type 0} (view : D → View) → PageIsStored view
+page_is_stored {D} view j f selected d s b n q c p v0 v1 is more same stays here others stored =
+    stored_step j f selected d s b n q c p (view v0) (view v1) is more same (λ rests. stays.rests j selected d rests) (λ followed. stays.followed j s.root followed) here others stored
+
+pub seal_is_stored : {D : Type 0} (view : D → View) → SealIsStored view
+seal_is_stored {D} view j f selected d s b n q c v0 v1 all stays becomes stored =
+    stored_sealed j f selected d s b n q c (view v0) (view v1) all (λ rests. stays.rests j selected d rests) (λ staged followed. becomes j s.reached c followed staged) stored
+
+pub flip_is_stored : {D : Type 0} (view : D → View) → FlipIsStored view
+flip_is_stored {D} view j f f' selected d s b q c v0 v1 flips stored = stored_flipped j f f' selected d s b q c (view v0) (view v1) (λ rests ready. flips j selected s.root d c rests ready) stored
+
+pub drop_is_stored : {D : Type 0} (view : D → View) → DropIsStored view
+drop_is_stored {D} view j f selected d saving phase v stored = stored_dropped j f selected d saving phase (view v) stored
+
+pub stored_holds_all : {D : Type 0} (view : D → View) → StoredHoldsAll view
+stored_holds_all {D} view j f selected d saving phase v stored = (settled j selected d f (view v) stored.rests, λ told c left. rests_all j f.slot f.reached selected d f.log c stored.image (stored.rests told c left))

@@ -7,3 +7,5 @@ pub mod Journals
 pub mod Files
 pub mod Saving
 pub mod Plans
+pub mod Made
+pub mod Laws

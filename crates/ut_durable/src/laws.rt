@@ -1,0 +1,30 @@
+//! What a store knows of its files, as laws that a program above may rest on.
+ghost use Rattle.ut_durable.specs.Laws.{AppendIsStored, SwitchIsStored, BeginIsStored, NextMayBeWritten, PageIsStored, SealIsStored, FlipIsStored, DropIsStored, StoredHoldsAll, OpenedIsStored, MadeIsStored, CapturedIsImage, ChainsArePlan, FreePagesAscend};
+
+use ut_outside::Disk;
+
+/// What is known goes on with each call and each phase of a savepoint.
+pub fn saving_laws<D: Disk>()
+    ensures append { AppendIsStored D.view }
+    ensures switch { SwitchIsStored D.view }
+    ensures begin { BeginIsStored D.view }
+    ensures next { NextMayBeWritten D.view }
+    ensures page { PageIsStored D.view }
+    ensures seal { SealIsStored D.view }
+    ensures flip { FlipIsStored D.view }
+    ensures drop { DropIsStored D.view }
+{}
+
+/// It holds at the beginning, and with it each crash leaves the whole journal.
+pub fn stored_laws<D: Disk>()
+    ensures opened { OpenedIsStored D.view }
+    ensures made { MadeIsStored D.view }
+    ensures holds { StoredHoldsAll D.view }
+{}
+
+/// What is captured and planned is the image of the journal.
+pub fn image_laws()
+    ensures captured { CapturedIsImage }
+    ensures planned { ChainsArePlan }
+    ensures free { FreePagesAscend }
+{}
