@@ -1,5 +1,6 @@
 pub mod BlockLemmas
 pub mod OrderLemmas
+pub mod WalkLemmas
 pub mod LayoutLemmas
 pub mod SpellingLemmas
 pub mod EntryLemmas

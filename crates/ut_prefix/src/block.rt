@@ -4,15 +4,16 @@
 //!        shared: u8, count: u8, byte[count]
 //!
 //! A further key is the first `shared` bytes of the key before it, and these.
-ghost use Rattle.std.specs.Prelude.{◌≡◌, ◌+◌, ◌<◌, ◌≤◌, [], slice_index, slice_index_or, IsTrue, false, drop, length};
+ghost use Rattle.std.specs.Prelude.{◌≡◌, ◌+◌, ◌<◌, ◌≤◌, ◌++◌, [], slice_index, slice_index_or, IsTrue, false, drop, length, OnOk};
 ghost use Rattle.std.specs.declared.cmp.Ordering.TheVariants.{Equal, Greater};
 ghost use Rattle.ut_key.specs.Keys.{key_cmp};
 ghost use Rattle.ut_prefix.specs.Lookup.{AreBelow};
 ghost use Rattle.ut_prefix.specs.Reading.{next_key, after_key, first_key, after_first, block_keys, CanDecode, IsBlock};
 
+use std::alloc::AllocError;
 use std::cmp::Ordering;
 use std::sync::ledger::Ledger;
-use ut_key::{Key, Steps, compare};
+use ut_key::{Key, KeyList, Steps, compare};
 
 /// How many keys a block has.
 pub(crate) const BLOCK: u32 = 16;
@@ -60,6 +61,22 @@ pub(crate) fn key_in_block(block: &[u8], i: u32) -> Key
         rest = read_next(&mut key, rest);
     }
     key
+}
+
+/// Adds the keys of a block. At a refusal some may have been added.
+pub(crate) fn push_block(block: &[u8], count: u32, keys: &mut KeyList) -> Result<(), AllocError>
+    requires some { 0 < count }
+    requires block { IsBlock count block.now }
+    ensures { OnOk result (keys.new ≡ keys.old ++ block_keys count block.now) }
+{
+    let (first, mut rest) = first_of(block);
+    let mut key = Key::from_slice(first);
+    keys.push(key.as_slice())?;
+    for _ in 1..count {
+        rest = read_next(&mut key, rest);
+        keys.push(key.as_slice())?;
+    }
+    Ok(())
 }
 
 /// The place of the first key of a block that isn't below `key`, and whether it is `key`.

@@ -1,5 +1,5 @@
 //! Dictionaries laid end to end.
-ghost use Rattle.std.specs.Prelude.{◌≡◌, [], ◌∷◌, ◌+◌, ◌*◌, ◌^◌, ◌<◌, ◌≤◌, ◌++◌, ◌↔◌, length, take, slice_get, slice_index_or, Contains, IsNone, IsTrue, IfSome, OnOk, OnErr};
+ghost use Rattle.std.specs.Prelude.{◌≡◌, [], ◌∷◌, ◌+◌, ◌*◌, ◌^◌, ◌<◌, ◌≤◌, ◌++◌, ◌↔◌, length, take, slice_get, slice_index_or, Contains, IsNone, IsTrue, IfOk, IfSome, OnOk, OnErr};
 ghost use Rattle.std.specs.Arc.{arc_value};
 ghost use Rattle.ut_prefix.specs.Chain.{chain_steps, end_to_end, ranges_between, shared_dicts, AddsRanges, IsChain, LacksAll};
 
@@ -63,6 +63,17 @@ fn find_in<L: Ledger>(dicts: &[Arc<PrefixDict>], key: &[u8], steps: &mut Steps<L
         }
     }
     None
+}
+
+/// The same dictionaries once more.
+fn share(alloc: Global, dicts: &[Arc<PrefixDict>]) -> Result<Vec<Arc<PrefixDict>>, AllocError>
+    ensures { IfOk result (λ shared. shared_dicts shared.items ≡ shared_dicts dicts.now) }
+{
+    let mut shared = Vec::with_capacity(alloc, dicts.len())?;
+    for dict in dicts {
+        shared.push(Arc::try_clone(dict)?)?;
+    }
+    Ok(shared)
 }
 
 /// Adds the range of codes from `from` up to and without `to`.
@@ -153,6 +164,17 @@ impl DictChain {
         self.dicts.push(dict)?;
         self.len = len;
         Ok(())
+    }
+
+    /// The same chain once more. Its dictionaries are shared, not copied.
+    pub fn again(&self, alloc: Global) -> Result<DictChain, AllocError>
+        ensures { IfOk result (λ chain. chain ≡ self.now) }
+    {
+        let dicts = share(alloc, self.dicts.as_slice())?;
+        Ok(DictChain {
+            dicts,
+            len: self.len,
+        })
     }
 
     /// Whether none of a dictionary's keys is in the chain.

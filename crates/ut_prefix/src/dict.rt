@@ -1,11 +1,12 @@
 //! A dictionary of ascending keys.
-ghost use Rattle.std.specs.Prelude.{◌≡◌, ◌≢◌, ℕ, List, [], ◌+◌, ◌^◌, ◌<◌, ◌≤◌, ◌++◌, ◌↔◌, length, slice_get, slice_index_or, Contains, IsNone, IfOk, IfSome, IfNone, OnOk, OnErr, take};
+ghost use Rattle.std.specs.Prelude.{◌≡◌, ◌≢◌, ℕ, List, [], ◌+◌, ◌/◌, ◌^◌, ◌<◌, ◌≤◌, ◌++◌, ◌↔◌, length, slice_get, slice_index_or, Contains, IsNone, IfOk, IfSome, IfNone, OnOk, OnErr, take};
 ghost use Rattle.std.specs.Int.{to_le_bytes, w32};
 ghost use Rattle.ut_key.specs.Keys.{IsAscending};
 ghost use Rattle.ut_prefix.specs.Spelling.{dict_bytes, IsDictionary, Spells, SpellsNone};
+ghost use Rattle.ut_prefix.specs.Reading.{keys_of, AreBlocks};
 ghost use Rattle.ut_prefix.specs.Lookup.{count_below, search_steps, IsSplit};
 
-use crate::block::{BLOCK, block_of, key_in_block};
+use crate::block::{BLOCK, block_of, key_in_block, push_block};
 use crate::parse::read_blocks;
 use crate::search::search;
 use crate::write::write_block;
@@ -56,6 +57,26 @@ fn read_count(bytes: &[u8]) -> Option<u32>
     if count < 1 << 31 { Some(count) } else { None }
 }
 
+/// Adds the keys of all blocks. At a refusal some may have been added.
+fn push_blocks(
+    bytes: &[u8],
+    starts: &[usize],
+    len: u32,
+    keys: &mut KeyList,
+) -> Result<(), AllocError>
+    requires count { length starts.now ≡ (len + 15) / 16 }
+    requires blocks { AreBlocks starts.now len bytes.now }
+    ensures { OnOk result (keys.new ≡ keys.old ++ keys_of starts.now len bytes.now) }
+{
+    let mut left = len;
+    for start in starts {
+        let count = left.min(BLOCK);
+        push_block(&bytes[*start..], count, keys)?;
+        left -= count;
+    }
+    Ok(())
+}
+
 impl PrefixDict {
     /// The dictionary of ascending keys.
     pub fn from_sorted(alloc: Global, keys: &KeyList) -> Result<Self, AllocError>
@@ -99,6 +120,16 @@ impl PrefixDict {
             (code / BLOCK) as usize,
         );
         key_in_block(block, code % BLOCK)
+    }
+
+    /// All keys, by one walk over the blocks.
+    pub fn keys(&self, alloc: Global) -> Result<KeyList, AllocError>
+        ensures { IfOk result (λ keys. keys ≡ self.now) }
+    {
+        let bytes = self.bytes.as_slice();
+        let mut keys = KeyList::with_capacity(alloc, self.len as usize, bytes.len())?;
+        push_blocks(bytes, self.starts.as_slice(), self.len, &mut keys)?;
+        Ok(keys)
     }
 
     /// Where a key stands.

@@ -92,6 +92,7 @@ fn compare_all<L: Ledger>(rt: &impl Abort, alloc: Global, blank: Blank) -> Resul
         let dict = Arc::new(alloc, dictionary(rt, alloc, keys)?)?;
         push_small(rt, &mut chain, dict, &mut steps)?;
     }
+    let chain = chain.again(alloc)?;
     assert_eq!(rt; chain.len(), 5);
     assert_eq!(rt; chain.find(&[9], &mut steps), Some(4));
     assert_eq!(rt; chain.find(&[5], &mut steps), None);
@@ -122,6 +123,9 @@ fn a_dictionary_is_spelled_and_read_back(rt: HostRuntime) -> Result<(), Fail> {
     assert_eq!(rt; bytes.as_slice(), spelled.as_slice());
     let read = PrefixDict::from_bytes(alloc, &bytes)?;
     assert_eq!(rt; read.map(|(dict, size)| (dict.len(), size)), Some((3, 13)));
+    let keys = dict.keys(alloc)?;
+    assert_eq!(rt; keys.len(), 3);
+    assert_eq!(rt; keys.key(1), b"abc".as_slice());
     let refused = [
         [3, 0, 0].as_slice(),
         &[1, 0, 0, 0],
