@@ -1,0 +1,2 @@
+pub mod Resorting
+pub mod Jobs
