@@ -1,0 +1,3 @@
+pub mod Command
+pub mod Plans
+pub mod Reading
