@@ -20,7 +20,7 @@ pub(crate) fn script_lines(alloc: Global) -> Result<Lines, AllocError>
 }
 
 /// Makes room for one reply more and reads the next line, or says why the run ends.
-pub(crate) fn next_line<S: Source, K: Taken>(
+pub(crate) fn next_line<S: Source<K>, K: Taken>(
     replies: &mut Replies,
     lines: &mut Lines,
     source: &mut S,

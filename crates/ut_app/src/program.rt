@@ -17,7 +17,7 @@ use ut_outside::{Disk, Hook, Sink, Source};
 /// Does what the words say: with `run` it opens the store of the disk, with `run --new` it makes one. Then each line of the
 /// source is read, answered and its reply written before the next line is read. No run of this kind starts a thread, or reaches
 /// the hook.
-pub fn top<S: Source, K: Sink<D>, D: Disk + Send, H: Hook + Sync>(
+pub fn top<S: Source<K>, K: Sink<D>, D: Disk + Send, H: Hook + Sync>(
     _rt: &(impl Threads + Sync),
     alloc: Global,
     words: &[&str],

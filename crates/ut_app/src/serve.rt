@@ -11,7 +11,7 @@ use std::alloc::Global;
 use ut_outside::{Disk, Sink, Source};
 
 /// Makes the store or opens it, and answers the lines of the source one after the other.
-pub(crate) fn serve<S: Source, K: Sink<D>, D: Disk>(
+pub(crate) fn serve<S: Source<K>, K: Sink<D>, D: Disk>(
     alloc: Global,
     start: Start,
     source: &mut S,
