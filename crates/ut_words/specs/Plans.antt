@@ -39,6 +39,15 @@ pub record IsPlan (matches : List Row) (plan : Plan) : Type 0 where
   pub seed : Says matches (codes "seed") plan.seed 0 2147483648
   pub size : Says matches (codes "size") plan.size 1 500
 
+-- each number is one that its option takes
+pub record IsInRange (plan : Plan) : Type 0 where
+  pub rows : (1 ≤ plan.rows) × (plan.rows ≤ 2147483648)
+  pub lines : (1 ≤ plan.lines) × (plan.lines ≤ 1048576)
+  pub l1 : (1 ≤ plan.l1) × (plan.l1 ≤ 1048576)
+  pub pieces : (1 ≤ plan.pieces) × (plan.pieces ≤ 64)
+  pub seed : plan.seed ≤ 2147483648
+  pub size : (1 ≤ plan.size) × (plan.size ≤ 500)
+
 -- The definition finds no fault in the words, and this is the plan that they say.
 pub record Takes (words : List Text) (plan : Plan) : Type 0 where
   pub modes : Bor (List (Bor Text))

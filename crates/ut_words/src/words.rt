@@ -1,7 +1,7 @@
 //! Reads the words.
 ghost use Rattle.std.specs.Prelude.{◌≡◌, ◌≤◌, map, IfOk, IsErrOf, codes};
 ghost use Rattle.clap.specs.Words.{found_of, first_value};
-ghost use Rattle.ut_words.specs.Plans.{Takes, Refuses, says_true};
+ghost use Rattle.ut_words.specs.Plans.{Takes, Refuses, IsInRange, says_true};
 ghost use Rattle.ut_words.specs.Reading.{HasNumber, IsNumber, mode_of};
 
 use crate::command::{L1, LINES, Limits, PIECES, ROWS, SEED, SIZE, command};
@@ -13,6 +13,7 @@ use std::alloc::Global;
 /// the command refuses them, a question for help included.
 pub fn plan_of<'a>(alloc: Global, words: &'a [&'a str]) -> Result<Plan, WordsError>
     ensures taken { IfOk result (λ plan. Takes (map (λ w. w.now) words.now) plan) }
+    ensures range { IfOk result IsInRange }
     ensures refused { IsErrOf result WordsError.Usage → Refuses (map (λ w. w.now) words.now) }
 {
     let matches = command(alloc)?.try_get_matches_from(words)?;
