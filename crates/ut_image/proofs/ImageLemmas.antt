@@ -1,5 +1,5 @@
 -- What is no directory, by the part that fails.
-use Rattle.std.proofs.Common.{◌≡◌, ℕ, ◌<◌, ◌^◌, List, [], ◌++◌, length, true, false, true≢false, IsTrue, refl, sym, ◌∙◌, ap, arith, subst}
+use Rattle.std.proofs.Common.{◌≡◌, ℕ, ◌<◌, ◌^◌, List, [], ◌++◌, length, false, true≢false, IsTrue, sym, ◌∙◌, ap, arith, subst}
 use Rattle.std.specs.Int.{w32, to_le_bytes}
 use Rattle.std.specs.List.{flat_map, list_all}
 use Rattle.std.proofs.lemmas.List.{append-nil}

@@ -1,5 +1,5 @@
 -- Bytes begin with the spelling of one row, part or table at most.
-use Rattle.std.proofs.Common.{◌≡◌, ℕ, ◌+◌, ◌<◌, ◌≤◌, ◌^◌, List, [], ◌∷◌, ◌++◌, length, Bool, true, false, IsTrue, refl, sym, ◌∙◌, ap, arith, append_assoc, true≢false, ltb-true, leb-true, nat_eq}
+use Rattle.std.proofs.Common.{◌≡◌, ℕ, ◌<◌, ◌≤◌, ◌^◌, List, [], ◌∷◌, ◌++◌, length, Bool, true, false, IsTrue, refl, sym, ◌∙◌, ap, arith, append_assoc, true≢false, ltb-true, leb-true, nat_eq}
 use Rattle.std.specs.Prelude.{◌&&◌, nat_le}
 use Rattle.std.specs.Int.{w32, w64, to_le_bytes, from_le_bytes}
 use Rattle.std.specs.List.{flat_map, list_all}
@@ -23,7 +23,7 @@ use Rattle.ut_plain.specs.declared.table.Table.{Table}
 use Rattle.ut_image.specs.declared.drawn.PartRef.{PartRef}
 use Rattle.ut_image.specs.declared.drawn.Drawn.{Drawn}
 use Rattle.ut_image.specs.Bytes.{cell_bytes, row_bytes, rows_bytes, mark_bytes, part_bytes, parts_bytes, head_bytes, drawn_bytes, image_bytes}
-use Rattle.ut_image.specs.Rules.{is_cell, are_cells, is_row, are_rows, is_u64, is_part, are_parts, is_head, is_drawn, AreDrawn, OneImage}
+use Rattle.ut_image.specs.Rules.{is_cell, are_cells, is_row, are_rows, is_u64, is_part, are_parts, is_head, is_drawn, OneImage}
 use Rattle.ut_image.proofs.MarkLemmas.{one_marks}
 
 pub one_u64 : (m n : ℕ) (x y : List ℕ) → m < 2 ^ 64 → n < 2 ^ 64 → to_le_bytes w64 m ++ x ≡ to_le_bytes w64 n ++ y → (m ≡ n) × (x ≡ y)

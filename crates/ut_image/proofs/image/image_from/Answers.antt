@@ -1,4 +1,4 @@
-use Rattle.std.proofs.Common.{◌≡◌, ◌<◌, ◌^◌, ℕ, List, [], length, rules, sym, ◌∙◌, ap, subst, arith, true≢false}
+use Rattle.std.proofs.Common.{◌<◌, ◌^◌, ℕ, List, length, sym, ◌∙◌, ap, subst, arith, true≢false}
 use Rattle.std.specs.Bool.{◌==◌}
 use Rattle.ut_image.specs.declared.drawn.Drawn.{Drawn}
 use Rattle.ut_image.specs.Rules.{drawn_differ, ids_of, AreOwnIds}

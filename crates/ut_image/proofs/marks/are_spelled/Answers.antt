@@ -1,4 +1,4 @@
-use Rattle.std.proofs.Common.{◌≡◌, ◌<◌, sym, ◌∙◌, ap, arith, get_or, length, refl, true≢false}
+use Rattle.std.proofs.Common.{◌<◌, sym, ◌∙◌, ap, arith, get_or, length, refl, true≢false}
 use Rattle.ut_image.specs.Bytes.{marks_len}
 use Rattle.ut_image.proofs.MarkLemmas.{byte-of, all_bytes}
 use Rattle.ut_image.proofs.marks.are_spelled.Goals as goal

@@ -1,6 +1,6 @@
-use Rattle.std.proofs.Common.{◌≡◌, ◌+◌, ◌*◌, ◌-◌, ◌≤◌, ◌++◌, length, map, take, drop, vec_len, vec_capacity}
+use Rattle.std.proofs.Common.{◌≡◌, ◌+◌, ◌*◌, ◌≤◌, ◌++◌, map, take, drop, vec_len, vec_capacity}
 use Rattle.std.specs.List.{range_with_len}
-use Rattle.ut_image.specs.Bytes.{mark_byte, marks_len}
+use Rattle.ut_image.specs.Bytes.{mark_byte}
 use Rattle.ut_image.proofs.marks.put_marks.Given as goal
 
 abbrev pub invariant-loop-k : goal.invariant-loop-k
