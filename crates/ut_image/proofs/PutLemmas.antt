@@ -22,9 +22,9 @@ pub put_more : {X : Type 0} (piece : X → List ℕ) (xs : List X) (i : ℕ) (x 
     → new ++ flat_map piece (drop (i + 1) xs) ≡ all
 put_more piece xs i x old new all here is h =
     ap (λ (l : List ℕ). l ++ flat_map piece (drop (i + 1) xs)) is
-        ∙ append_assoc old (piece x) (flat_map piece (drop (i + 1) xs))
-        ∙ ap (λ l. old ++ flat_map piece l) (sym here)
-        ∙ h
+    ∙ append_assoc old (piece x) (flat_map piece (drop (i + 1) xs))
+    ∙ ap (λ l. old ++ flat_map piece l) (sym here)
+    ∙ h
 
 pub length_more : {X : Type 0} (len : X → ℕ) (xs : List X) (i : ℕ) (x : X) (old new all : ℕ) → drop i xs ≡ x ∷ drop (i + 1) xs → new ≡ old + len x → old + sum_by len (drop i xs) ≡ all → new + sum_by len (drop (i + 1) xs) ≡ all
 length_more len xs i x old new all here is h =

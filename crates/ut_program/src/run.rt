@@ -14,7 +14,7 @@ use ut_app::{Status, top};
 use ut_outside::{Disk, NoHook, Sink, Source};
 
 /// Answers the script of the source over the store of the disk, as the process's words say, and gives what it exits with.
-pub fn program<S: Source, K: Sink<D>, D: Disk + Send>(
+pub fn program<S: Source<K>, K: Sink<D>, D: Disk + Send>(
     rt: &(impl AllocGlobal + Env + Eprint + Threads + Sync),
     source: &mut S,
     sink: &mut K,
@@ -33,7 +33,7 @@ pub fn program<S: Source, K: Sink<D>, D: Disk + Send>(
 }
 
 /// A run with the process's words.
-fn run<S: Source, K: Sink<D>, D: Disk + Send>(
+fn run<S: Source<K>, K: Sink<D>, D: Disk + Send>(
     rt: &(impl AllocGlobal + Env + Threads + Sync),
     source: &mut S,
     sink: &mut K,
@@ -51,7 +51,7 @@ fn run<S: Source, K: Sink<D>, D: Disk + Send>(
     }
 }
 
-fn run_words<S: Source, K: Sink<D>, D: Disk + Send>(
+fn run_words<S: Source<K>, K: Sink<D>, D: Disk + Send>(
     rt: &(impl Threads + Sync),
     alloc: Global,
     words: &[String],
@@ -71,7 +71,7 @@ fn run_words<S: Source, K: Sink<D>, D: Disk + Send>(
 }
 
 /// The words couldn't be had, and nothing is done.
-fn unasked<S: Source, K: Sink<D>, D: Disk>(
+fn unasked<S: Source<K>, K: Sink<D>, D: Disk>(
     status: Status,
     source: &mut S,
     sink: &mut K,
@@ -86,7 +86,7 @@ fn unasked<S: Source, K: Sink<D>, D: Disk>(
     status
 }
 
-fn run_texts<S: Source, K: Sink<D>, D: Disk + Send>(
+fn run_texts<S: Source<K>, K: Sink<D>, D: Disk + Send>(
     rt: &(impl Threads + Sync),
     alloc: Global,
     words: &[&str],
@@ -103,7 +103,7 @@ fn run_texts<S: Source, K: Sink<D>, D: Disk + Send>(
 }
 
 /// A run with these words.
-fn answer<S: Source, K: Sink<D>, D: Disk + Send>(
+fn answer<S: Source<K>, K: Sink<D>, D: Disk + Send>(
     rt: &(impl Threads + Sync),
     alloc: Global,
     words: &[&str],
