@@ -1,5 +1,0 @@
-pub mod MarkLemmas
-pub mod OneLemmas
-pub mod NoneLemmas
-pub mod ImageLemmas
-pub mod PutLemmas
