@@ -4,7 +4,8 @@ use crate::scripts::{LINES, script_line};
 use check_oracle::{Oracle, is_spelled};
 use std::alloc::{AllocError, Global};
 use ut_plain::{Parsed, Refusal, Reply, Statement};
-use ut_script::{parse_line, put_reply};
+use ut_reply::put_reply;
+use ut_script::parse_line;
 
 /// The number of the last session.
 const LAST_SESSION: u8 = 16;

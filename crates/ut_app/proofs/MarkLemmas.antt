@@ -4,7 +4,7 @@ use Rattle.std.proofs.lemmas.List.{length-append, length-replicate}
 use Rattle.ut_outside.specs.declared.ack.Ack.{Ack}
 use Rattle.ut_outside.specs.declared.faults.Failed as fails
 use Rattle.ut_plain.specs.Transcript.{Answer}
-use Rattle.ut_script.specs.Texts.{session_text, reply_body}
+use Rattle.ut_reply.specs.Texts.{session_text, reply_body}
 use Rattle.ut_app.specs.Writing.{answer_text, texts_of, WroteAll, WroteSome, Writes, AreMarked, AreMarkedBy, WroteAnswers, HasWritten, WroteFront, HasFront}
 
 pub texts-append : (xs ys : List Answer) → texts_of (xs ++ ys) ≡ texts_of xs ++ texts_of ys

@@ -20,7 +20,7 @@ use Rattle.ut_plain.specs.Refusals.{refusal}
 use Rattle.ut_plain.specs.declared.stage.PendingMerge.{PendingMerge}
 use Rattle.ut_plain.specs.Step.{merge_ended, step, step_by, effect_of, committed, committed_by, said_changed, said_alone, MayAnswer, Steps, LacksMemory, may_lack_memory, save_written, save_sealed, save_flipped, MayFault}
 use Rattle.ut_plain.specs.Transcript.{Answer, AnswersLine}
-use Rattle.ut_script.specs.Texts.{reply_text, is_small}
+use Rattle.ut_reply.specs.Texts.{reply_text, is_small}
 use Rattle.ut_script.specs.Statements.{needs_memory}
 use Rattle.ut_script.specs.Grammar.{MayLackMemory}
 use Rattle.ut_redo.specs.Appends.{Place}
@@ -129,19 +129,19 @@ long_answer p session st reply q (LacksMemory m e f) h = never (is_small reply) 
 
 -- ---- statements
 
-with_text : (p : Plain) (session : ℕ) (st : Statement) (reply : Reply) (q : Plain) (before after : View) (new : Logged) (text : List ℕ) → IsText session reply text → said_of reply ≡ saids.Reply
+with_text : {room : ℕ} → (p : Plain) (session : ℕ) (st : Statement) (reply : Reply) (q : Plain) (before after : View) (new : Logged) (text : List ℕ) → IsText room session reply text → said_of reply ≡ saids.Reply
     → MayAnswer p session st reply q → Runs new after q → Keeps before after q.journal (journal_len p.journal) → Outcome p (Good session st) before saids.Reply new after text
 with_text p session st reply q before after new text (Whole t) said may runs keeps =
     Replied (record { session = Some session; reply = reply }) q refl (record { reply = reply; is = refl; may = may }) runs keeps t
-with_text p session st reply q before after new text (Lacking long t) said may runs keeps =
+with_text p session st reply q before after new text (Lacking long _ t) said may runs keeps =
     let l = long_answer p session st reply q may long in
     Replied (record { session = Some session; reply = replies.Refused refusals.Memory }) q refl (record { reply = replies.Refused refusals.Memory; is = refl; may = LacksMemory l.may refl l.same }) runs keeps t
 
-lost_text : (p : Plain) (session : ℕ) (st : Statement) (before after : View) (new : Logged) (text : List ℕ) → IsText session replies.DiskFault text
+lost_text : {room : ℕ} → (p : Plain) (session : ℕ) (st : Statement) (before after : View) (new : Logged) (text : List ℕ) → IsText room session replies.DiskFault text
     → MayFault p session st → Keeps before after (step p session st).plain.journal (journal_len p.journal) → Outcome p (Good session st) before saids.Fault new after text
 lost_text p session st before after new text (Whole t) may keeps =
     Failed (record { session = Some session; reply = replies.DiskFault }) (step p session st).plain refl (record { session = session; st = st; is_line = refl; answered = refl; steps = refl; may = may }) keeps t
-lost_text p session st before after new text (Lacking long t) may keeps = cc
+lost_text p session st before after new text (Lacking long _ t) may keeps = cc
 
 is_reply : (reply : Reply) → (reply ≡ replies.DiskFault → ⊥) → said_of reply ≡ saids.Reply
 is_reply replies.Done h = refl
@@ -162,20 +162,20 @@ is_reply (replies.Shape a) h = refl
 is_reply (replies.Refused a) h = refl
 is_reply replies.DiskFault h = absurd (h refl)
 
-says_by : (p : Plain) (old : Logged) (before : View) (session : ℕ) (st : Statement) (reply : Reply) (new : Logged) (after : View) (text : List ℕ) → IsText session reply text
+says_by : (room : ℕ) (p : Plain) (old : Logged) (before : View) (session : ℕ) (st : Statement) (reply : Reply) (new : Logged) (after : View) (text : List ℕ) → IsText room session reply text
     → IsAnswered p before session st reply new after ⊎ IsLost p before session st reply new after → Outcome p (Good session st) before (said_of reply) new after text
-says_by p old before session st reply new after text is (inl a) =
+says_by room p old before session st reply new after text is (inl a) =
     let said = is_reply reply a.sound in
     subst (λ s. Outcome p (Good session st) before s new after text) (sym said) (with_text p session st reply a.plain before after new text is said a.may a.runs a.any_moment)
-says_by p old before session st reply new after text is (inr l) =
-    let fault : IsText session replies.DiskFault text = subst (λ (r : Reply). IsText session r text) l.fault is in
+says_by room p old before session st reply new after text is (inr l) =
+    let fault : IsText room session replies.DiskFault text = subst (λ (r : Reply). IsText room session r text) l.fault is in
     subst (λ (r : Reply). Outcome p (Good session st) before (said_of r) new after text) (sym l.fault) (lost_text p session st before after new text fault l.may l.any_moment)
 
-pub says_statement : (old : Logged) (before : View) (session : ℕ) (st : Statement) (reply : Reply) (new : Logged) (after : View) (text : List ℕ) (said : Said) → Serves old before session st reply new after → IsText session reply text → said ≡ said_of reply
+pub says_statement : {room : ℕ} → (old : Logged) (before : View) (session : ℕ) (st : Statement) (reply : Reply) (new : Logged) (after : View) (text : List ℕ) (said : Said) → Serves old before session st reply new after → IsText room session reply text → said ≡ said_of reply
     → Says old before (Good session st) said new after text
 says_statement old before session st reply new after text said serves is e = record {
   each = λ p runs.
-      subst (λ s. Outcome p (Good session st) before s new after text) (sym e) (says_by p old before session st reply new after text is (serves.each p runs));
+      subst (λ s. Outcome p (Good session st) before s new after text) (sym e) (says_by _ p old before session st reply new after text is (serves.each p runs));
 }
 
 -- ---- other lines

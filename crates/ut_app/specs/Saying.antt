@@ -13,7 +13,7 @@ use Rattle.ut_plain.specs.Plain.{Plain}
 use Rattle.ut_plain.specs.Spelled.{is_spelled}
 use Rattle.ut_plain.specs.Transcript.{Answer, AnswersLine, Faults}
 use Rattle.ut_store.specs.Standing.{suits_session}
-use Rattle.ut_script.specs.Texts.{reply_text, is_small}
+use Rattle.ut_reply.specs.Texts.{reply_text, reply_room, is_small}
 use Rattle.ut_logged.specs.Logged.{Logged}
 use Rattle.ut_logged.specs.Readings.{HoldsPrefix}
 use Rattle.ut_logged.specs.Runs.{Runs}
@@ -37,10 +37,10 @@ abbrev pub said_of : Reply → Said
 said_of replies.DiskFault = saids.Fault
 said_of _ = saids.Reply
 
--- the text of a reply, or that there was no memory for it
-pub data IsText (session : ℕ) (reply : Reply) (text : List ℕ) : Type 0 where
-  Whole : text ≡ reply_text (Some session) reply → IsText session reply text
-  Lacking : is_small reply ≡ false → text ≡ reply_text (Some session) (replies.Refused refusals.Memory) → IsText session reply text
+-- the text of a reply, or that there was no memory for it: it isn't a small one, and it may need more bytes than the buffer had room for
+pub data IsText (room session : ℕ) (reply : Reply) (text : List ℕ) : Type 0 where
+  Whole : text ≡ reply_text (Some session) reply → IsText room session reply text
+  Lacking : is_small reply ≡ false → room < reply_room reply → text ≡ reply_text (Some session) (replies.Refused refusals.Memory) → IsText room session reply text
 
 -- From now until then, a crash at any moment leaves all that was there, and no more than there is then.
 abbrev pub Keeps : View → View → Journal → ℕ → Type 0

@@ -2,7 +2,7 @@
 use Rattle.std.specs.Prelude.{ℕ, ◌+◌, ◌≡◌, List, [], ◌∷◌, ◌++◌, length, replicate, get_or, slice_get, flat_map, Option, None, Some, Result, MatchResult}
 use Rattle.ut_outside.specs.declared.ack.Ack.{Ack}
 use Rattle.ut_plain.specs.Transcript.{Answer}
-use Rattle.ut_script.specs.Texts.{reply_text}
+use Rattle.ut_reply.specs.Texts.{reply_text}
 
 -- the text of an answer, and of answers in order
 abbrev pub answer_text : Answer → List ℕ

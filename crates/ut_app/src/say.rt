@@ -5,14 +5,15 @@ ghost use Rattle.ut_plain.specs.Spelled.{is_spelled};
 ghost use Rattle.ut_store.specs.Standing.{suits_session};
 ghost use Rattle.ut_logged.specs.Runs.{Runs};
 ghost use Rattle.ut_script.specs.Grammar.{parsed};
-ghost use Rattle.ut_script.specs.Texts.{reply_text};
+ghost use Rattle.ut_reply.specs.Texts.{reply_text};
 ghost use Rattle.ut_app.specs.Saying.{Says, IsKnown, IsText, MayFault, said_of};
 
 use std::alloc::Global;
 use ut_logged::LoggedStore;
 use ut_outside::Disk;
 use ut_plain::{Parsed, Refusal, Reply, Statement};
-use ut_script::{parse_line, put_reply, put_small};
+use ut_reply::{put_reply, put_small};
+use ut_script::parse_line;
 
 /// What a line comes to: nothing, a reply, or the reply that the disk failed.
 #[derive(Clone, Copy, Debug, PartialEq, Eq)]
@@ -105,7 +106,7 @@ fn refuse(text: &mut Vec<u8>, session: Option<u8>, why: Refusal) -> Said
 fn put_text(text: &mut Vec<u8>, session: u8, reply: &Reply)
     requires empty { text.old.items ≡ [] }
     requires room { 96 ≤ vec_capacity text.old }
-    ensures text { IsText session reply.now text.new.items }
+    ensures text { IsText (vec_capacity text.old) session reply.now text.new.items }
     ensures room { 96 ≤ vec_capacity text.new }
 {
     match put_reply(text, Some(session), reply) {

@@ -1,5 +1,5 @@
 -- What the program comes to: a run of the top call, and the number that it exits with.
-use Rattle.std.specs.Prelude.{ℕ, ◌≡◌, ◌⊎◌, List, []}
+use Rattle.std.specs.Prelude.{ℕ, ◌≡◌, List, [], Option, None, Some}
 use Rattle.ut_outside.specs.Disk.{IsTold}
 use Rattle.ut_outside.specs.Faults.{Rose}
 use Rattle.ut_outside.specs.declared.ack.Ack.{Ack}
@@ -39,18 +39,29 @@ pub record Tops (words : List (List ℕ)) (before after : World) (status : Statu
   pub disk : status ≡ DiskFault → Rose before.disk.faults after.disk.faults
   pub complete : IsComplete (start_of words) before after status
 
--- The process's words couldn't be had, and nothing was done.
+-- these are the words, where they are told
+abbrev pub AreTold : Option (List (List ℕ)) → List (List ℕ) → Type 0
+AreTold None words = Unit {0}
+AreTold (Some told) words = words ≡ told
+
+-- the status of a program whose words can't be had
+abbrev pub IsUnasked : Status → Type 0
+IsUnasked Usage = Unit {0}
+IsUnasked Memory = Unit {0}
+IsUnasked _ = ⊥
+
+-- The words couldn't be had, and nothing was done.
 pub record HasNoWords (before after : World) (status : Status) : Type 0 where
   pub nothing : DidNothing before after 0 [] 0
-  pub says : (status ≡ Usage) ⊎ (status ≡ Memory)
+  pub says : IsUnasked status
 
--- The top call ran with some words, which only the system knows, or there were none to be had.
-pub data Ends (before after : World) (status : Status) : Type 0 where
-  Ran : (words : List (List ℕ)) → Tops words before after status → Ends before after status
-  Unasked : HasNoWords before after status → Ends before after status
+-- The top call ran with the words, whatever they are where they aren't told, or there were none to be had.
+pub data Ends (told : Option (List (List ℕ))) (before after : World) (status : Status) : Type 0 where
+  Ran : (words : List (List ℕ)) → AreTold told words → Tops words before after status → Ends told before after status
+  Unasked : HasNoWords before after status → Ends told before after status
 
 -- The program exits with the number of the status that its run ended with.
-pub record Exits (before after : World) (exit : ℕ) : Type 0 where
+pub record Exits (told : Option (List (List ℕ))) (before after : World) (exit : ℕ) : Type 0 where
   pub status : Status
-  pub ends : Ends before after status
+  pub ends : Ends told before after status
   pub number : exit ≡ exit_number status

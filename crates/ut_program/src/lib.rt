@@ -1,7 +1,11 @@
-//! The program over a runtime: its words, and what it exits with.
+//! The program over its words and a runtime, and what it exits with.
 #![tactic(auto)]
 
 mod run;
 mod status;
+#[cfg(test)]
+mod tests;
+mod words;
 
 pub use run::program;
+pub use words::{ProcessWords, Words};

@@ -1,56 +1,58 @@
-//! A run with the words that the process is called with.
-ghost use Rattle.std.specs.Prelude.{◌≡◌, ◌⊎◌, ⊤, map, MatchResult};
+//! A run with the words that the program is called with.
+ghost use Rattle.std.specs.Prelude.{◌≡◌, Some, map, string_bytes, IfOk, IfErr};
 ghost use Rattle.std.specs.Process.{exit_status};
 ghost use Rattle.ut_app.specs.World.{World};
-ghost use Rattle.ut_program.specs.Program.{Exits, Ends, Tops};
+ghost use Rattle.ut_program.specs.Program.{Exits, Ends, HasNoWords, Tops, IsUnasked};
 
 use crate::status::{exit_of, text_of};
+use crate::words::Words;
 use std::alloc::Global;
 use std::process::ExitCode;
-use std::rt::Env;
 use std::thread::Threads;
-use std::{env, io};
 use ut_app::{Status, top};
 use ut_outside::{Disk, NoHook, Sink, Source};
 
-/// Answers the script of the source over the store of the disk, as the process's words say, and gives what it exits with.
-pub fn program<S: Source<K>, K: Sink<D>, D: Disk + Send>(
-    rt: &(impl AllocGlobal + Env + Eprint + Threads + Sync),
+/// Answers the script of the source over the store of the disk, as the words say, and gives what the process exits with.
+pub fn program<W: Words, S: Source<K>, K: Sink<D>, D: Disk + Send>(
+    rt: &(impl AllocGlobal + Eprint + Threads + Sync),
+    words: &W,
     source: &mut S,
     sink: &mut K,
     disk: &mut D,
 ) -> ExitCode
-    ensures { Exits
+    ensures { Exits (W.told words.now)
         (record { source = S.left source.old; asks = S.asks source.old; reads = S.faults source.old; sink = K.held sink.old; marks = K.moments sink.old; writes = K.faults sink.old; disk = D.view disk.old })
         (record { source = S.left source.new; asks = S.asks source.new; reads = S.faults source.new; sink = K.held sink.new; marks = K.moments sink.new; writes = K.faults sink.new; disk = D.view disk.new })
         (exit_status result) }
 {
-    let status = run(rt, source, sink, disk);
+    let status = run(rt, words, source, sink, disk);
     if let Some(text) = text_of(status) {
         let _ = eprintln!(rt; "ut_app: {text}");
     }
     ExitCode::from(exit_of(status))
 }
 
-/// A run with the process's words.
-fn run<S: Source<K>, K: Sink<D>, D: Disk + Send>(
-    rt: &(impl AllocGlobal + Env + Threads + Sync),
+/// A run with the words.
+fn run<W: Words, S: Source<K>, K: Sink<D>, D: Disk + Send>(
+    rt: &(impl AllocGlobal + Threads + Sync),
+    words: &W,
     source: &mut S,
     sink: &mut K,
     disk: &mut D,
 ) -> Status
-    ensures { Ends
+    ensures { Ends (W.told words.now)
         (record { source = S.left source.old; asks = S.asks source.old; reads = S.faults source.old; sink = K.held sink.old; marks = K.moments sink.old; writes = K.faults sink.old; disk = D.view disk.old })
         (record { source = S.left source.new; asks = S.asks source.new; reads = S.faults source.new; sink = K.held sink.new; marks = K.moments sink.new; writes = K.faults sink.new; disk = D.view disk.new })
         result }
 {
     let alloc = rt.alloc();
-    match words_of(rt, alloc) {
-        Ok(words) => run_words(rt, alloc, &words, source, sink, disk),
+    match words.words(alloc) {
+        Ok(list) => run_words(rt, alloc, &list, source, sink, disk),
         Err(status) => unasked(status, source, sink, disk),
     }
 }
 
+/// A run with these words, if there is memory to hand them on.
 fn run_words<S: Source<K>, K: Sink<D>, D: Disk + Send>(
     rt: &(impl Threads + Sync),
     alloc: Global,
@@ -59,13 +61,13 @@ fn run_words<S: Source<K>, K: Sink<D>, D: Disk + Send>(
     sink: &mut K,
     disk: &mut D,
 ) -> Status
-    ensures { Ends
+    ensures { Ends (Some (map string_bytes words.now))
         (record { source = S.left source.old; asks = S.asks source.old; reads = S.faults source.old; sink = K.held sink.old; marks = K.moments sink.old; writes = K.faults sink.old; disk = D.view disk.old })
         (record { source = S.left source.new; asks = S.asks source.new; reads = S.faults source.new; sink = K.held sink.new; marks = K.moments sink.new; writes = K.faults sink.new; disk = D.view disk.new })
         result }
 {
     match texts_of(alloc, words) {
-        Ok(texts) => run_texts(rt, alloc, &texts, source, sink, disk),
+        Ok(texts) => answer(rt, alloc, &texts, source, sink, disk),
         Err(status) => unasked(status, source, sink, disk),
     }
 }
@@ -77,29 +79,13 @@ fn unasked<S: Source<K>, K: Sink<D>, D: Disk>(
     sink: &mut K,
     disk: &mut D,
 ) -> Status
-    requires says { (status ≡ Status.Usage) ⊎ (status ≡ Status.Memory) }
-    ensures { Ends
+    requires says { IsUnasked status }
+    ensures { HasNoWords
         (record { source = S.left source.old; asks = S.asks source.old; reads = S.faults source.old; sink = K.held sink.old; marks = K.moments sink.old; writes = K.faults sink.old; disk = D.view disk.old })
         (record { source = S.left source.new; asks = S.asks source.new; reads = S.faults source.new; sink = K.held sink.new; marks = K.moments sink.new; writes = K.faults sink.new; disk = D.view disk.new })
         result }
 {
     status
-}
-
-fn run_texts<S: Source<K>, K: Sink<D>, D: Disk + Send>(
-    rt: &(impl Threads + Sync),
-    alloc: Global,
-    words: &[&str],
-    source: &mut S,
-    sink: &mut K,
-    disk: &mut D,
-) -> Status
-    ensures { Ends
-        (record { source = S.left source.old; asks = S.asks source.old; reads = S.faults source.old; sink = K.held sink.old; marks = K.moments sink.old; writes = K.faults sink.old; disk = D.view disk.old })
-        (record { source = S.left source.new; asks = S.asks source.new; reads = S.faults source.new; sink = K.held sink.new; marks = K.moments sink.new; writes = K.faults sink.new; disk = D.view disk.new })
-        result }
-{
-    answer(rt, alloc, words, source, sink, disk)
 }
 
 /// A run with these words.
@@ -119,28 +105,10 @@ fn answer<S: Source<K>, K: Sink<D>, D: Disk + Send>(
     top(rt, alloc, words, source, sink, disk, &NoHook).status
 }
 
-/// The words that the process is called with, its name first.
-fn words_of<R: AllocGlobal + Env>(rt: &R, alloc: Global) -> Result<Vec<String>, Status>
-    ensures { MatchResult result (λ _. ⊤) (λ status. (status ≡ Status.Usage) ⊎ (status ≡ Status.Memory)) }
-{
-    let mut words = Vec::new(alloc);
-    for word in env::args(rt).map_err(status_of)? {
-        words.push(word).map_err(|_| Status::Memory)?;
-    }
-    Ok(words)
-}
-
-fn status_of(error: io::Error) -> Status
-    ensures { (result ≡ Status.Usage) ⊎ (result ≡ Status.Memory) }
-{
-    match error.kind() {
-        io::ErrorKind::OutOfMemory => Status::Memory,
-        _ => Status::Usage,
-    }
-}
-
+/// The words as texts, each in its place.
 fn texts_of(alloc: Global, words: &[String]) -> Result<Vec<&str>, Status>
-    ensures { MatchResult result (λ _. ⊤) (λ status. (status ≡ Status.Usage) ⊎ (status ≡ Status.Memory)) }
+    ensures all { IfOk result (λ texts. map (λ w. w.now) texts.items ≡ map string_bytes words.now) }
+    ensures says { IfErr result IsUnasked }
 {
     let mut texts = Vec::new(alloc);
     for word in words {

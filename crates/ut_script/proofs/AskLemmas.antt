@@ -1,5 +1,5 @@
 -- When a source is asked, and how many lines end in what is handed out.
-use Rattle.std.proofs.Common.{ℕ, suc, ◌≡◌, ◌≤◌, ◌<◌, ◌+◌, Bool, true, false, cond, List, [], ◌∷◌, ◌++◌, length, take, drop, refl, ap, ◌∙◌, sym, subst, arith, append_assoc, append-nil, Option, None, Some, Ok, Err}
+use Rattle.std.proofs.Common.{ℕ, suc, ◌≡◌, ◌≤◌, ◌+◌, Bool, true, false, cond, List, [], ◌∷◌, ◌++◌, length, take, drop, refl, ap, ◌∙◌, sym, subst, arith, append_assoc, append-nil, Option, None, Some, Ok, Err}
 use Rattle.std.proofs.lemmas.Grind.{common_steps}
 use Rattle.std.specs.Prelude.{nat_eq, nat_lt}
 use Rattle.std.specs.List.{AllByRecursion}
@@ -7,7 +7,7 @@ use Rattle.std.specs.Bool.{MatchBool}
 use Rattle.std.proofs.lemmas.List.{take-append-drop, take-append-le, take_all}
 use Rattle.ut_outside.specs.declared.ask.Ask.{Ask}
 use Rattle.ut_outside.specs.Streams.{NotesAsk, TakesBytes}
-use Rattle.ut_script.specs.Lines.{Reading, has_no_feed, ended_lines, IsNeeded, AsksMore, AsksFew, StepsLine}
+use Rattle.ut_script.specs.Lines.{Reading, has_no_feed, ended_lines, IsNeeded, AsksFew, StepsLine}
 use Rattle.ut_script.specs.LineSteps.{EndsLine, Fills, ReadsLine}
 use Rattle.ut_script.proofs.LineLemmas.{has_no_feed-append}
 

@@ -10,7 +10,6 @@ pub mod NamedLemmas
 pub mod LineLemmas
 pub mod AskLemmas
 pub mod PieceLemmas
-pub mod RoomLemmas
 pub mod Examples
 pub mod NumberLaws
 pub mod ValueLaws

@@ -8,7 +8,7 @@ use Rattle.ut_value.specs.Text.{is_text}
 use Rattle.ut_value.specs.declared.value.Value.{Value}
 use Rattle.ut_value.specs.declared.value.Value.TheVariants.{Int, Text}
 use Rattle.ut_script.specs.Literals.{number_of, within, int_of, unquoted, checked_text, text_of, value_of}
-use Rattle.ut_script.specs.Texts.{quoted, value_text}
+use Rattle.ut_reply.specs.Texts.{quoted, value_text}
 use Rattle.ut_script.specs.Spellings.{FitsValue, SpellsValues}
 use Rattle.ut_script.proofs.NumberLaws.{number_of-decimal, number_of-is, first_digit}
 

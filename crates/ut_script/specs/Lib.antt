@@ -6,5 +6,4 @@ pub mod Statements
 pub mod Grammar
 pub mod Lines
 pub mod LineSteps
-pub mod Texts
 pub mod Spellings

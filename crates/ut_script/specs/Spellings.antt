@@ -4,7 +4,7 @@ use Rattle.ut_value.specs.Text.{is_text}
 use Rattle.ut_value.specs.declared.value.Value.{Value}
 use Rattle.ut_value.specs.declared.value.Value.TheVariants.{Int, Text}
 use Rattle.ut_script.specs.Literals.{value_of}
-use Rattle.ut_script.specs.Texts.{value_text}
+use Rattle.ut_reply.specs.Texts.{value_text}
 
 -- an INT in the range of an i64, or a text that keeps the rule of texts
 abbrev pub FitsValue : Value → Type 0

@@ -1,4 +1,4 @@
-use Rattle.std.proofs.Common.{List, [], ◌≡◌, ◌∙◌, ℕ, ap, sym, take, drop, length, arith}
+use Rattle.std.proofs.Common.{[], ◌≡◌, ◌∙◌, ap, sym, take, drop, length, arith}
 use Rattle.std.proofs.lemmas.List.{drop_all, length-take-le}
 use Rattle.ut_script.specs.Lines.{Reading}
 use Rattle.ut_script.proofs.AskLemmas.{fills_taken, block_front}

@@ -1,0 +1,11 @@
+//! The texts of replies.
+#![tactic(auto)]
+
+mod numbers;
+mod reply;
+mod room;
+#[cfg(test)]
+mod tests;
+mod values;
+
+pub use reply::{put_reply, put_small};

@@ -1,0 +1,141 @@
+//! The texts of values, rows and groups, put where there is room for them.
+ghost use Rattle.std.specs.Prelude.{◌≡◌, ◌≤◌, ◌+◌, ◌*◌, ◌++◌, ◌∷◌, length, vec_len, vec_capacity, flat_map, sum_by, decimal};
+ghost use Rattle.ut_reply.specs.Texts.{quoted, value_text, more_text, tuple_text, rows_text, group_text, groups_text, value_room, tuple_room};
+
+use crate::numbers::{add, add_number};
+use ut_plain::Group;
+use ut_value::{Seq, Value};
+
+const QUOTE: u8 = b'\'';
+
+/// The number of rows, and each row on a line of its own.
+pub fn add_rows(out: &mut Vec<u8>, tuples: &[Seq<Value>])
+    requires room { vec_len out.old + (sum_by (λ t. tuple_room t + 1) tuples.now + 25) ≤ vec_capacity out.old }
+    ensures text { out.new.items ≡ out.old.items ++ rows_text tuples.now }
+    ensures len { vec_len out.new ≤ vec_len out.old + (sum_by (λ t. tuple_room t + 1) tuples.now + 25) }
+    ensures capacity { vec_capacity out.old ≤ vec_capacity out.new }
+{
+    add(out, b"rows ");
+    add_number(out, tuples.len());
+    add_tuples(out, tuples);
+}
+
+/// The number of groups, and each group on a line of its own.
+pub fn add_groups(out: &mut Vec<u8>, groups: &[Group])
+    requires room { vec_len out.old + (sum_by (λ g. value_room g.key + 42) groups.now + 27) ≤ vec_capacity out.old }
+    ensures text { out.new.items ≡ out.old.items ++ groups_text groups.now }
+    ensures len { vec_len out.new ≤ vec_len out.old + (sum_by (λ g. value_room g.key + 42) groups.now + 27) }
+    ensures capacity { vec_capacity out.old ≤ vec_capacity out.new }
+{
+    add(out, b"groups ");
+    add_number(out, groups.len());
+    add_each_group(out, groups);
+}
+
+fn add_tuples(out: &mut Vec<u8>, tuples: &[Seq<Value>])
+    requires room { vec_len out.old + sum_by (λ t. tuple_room t + 1) tuples.now ≤ vec_capacity out.old }
+    ensures text { out.new.items ≡ out.old.items ++ flat_map (λ t. 10 ∷ tuple_text t) tuples.now }
+    ensures len { vec_len out.new ≤ vec_len out.old + sum_by (λ t. tuple_room t + 1) tuples.now }
+    ensures capacity { vec_capacity out.old ≤ vec_capacity out.new }
+{
+    for tuple in tuples {
+        add(out, b"\n");
+        add_tuple(out, tuple.as_slice());
+    }
+}
+
+fn add_each_group(out: &mut Vec<u8>, groups: &[Group])
+    requires room { vec_len out.old + sum_by (λ g. value_room g.key + 42) groups.now ≤ vec_capacity out.old }
+    ensures text { out.new.items ≡ out.old.items ++ flat_map (λ g. 10 ∷ group_text g) groups.now }
+    ensures len { vec_len out.new ≤ vec_len out.old + sum_by (λ g. value_room g.key + 42) groups.now }
+    ensures capacity { vec_capacity out.old ≤ vec_capacity out.new }
+{
+    for group in groups {
+        add_group(out, group);
+    }
+}
+
+fn add_group(out: &mut Vec<u8>, group: &Group)
+    requires room { vec_len out.old + (value_room group.now.key + 42) ≤ vec_capacity out.old }
+    ensures text { out.new.items ≡ out.old.items ++ 10 ∷ group_text group.now }
+    ensures len { vec_len out.new ≤ vec_len out.old + (value_room group.now.key + 42) }
+    ensures capacity { vec_capacity out.old ≤ vec_capacity out.new }
+{
+    add(out, b"\n");
+    add_value(out, &group.key);
+    add(out, b" ");
+    add_number(out, group.sum);
+}
+
+fn add_tuple(out: &mut Vec<u8>, values: &[Value])
+    requires room { vec_len out.old + tuple_room values.now ≤ vec_capacity out.old }
+    ensures text { out.new.items ≡ out.old.items ++ tuple_text values.now }
+    ensures len { vec_len out.new ≤ vec_len out.old + tuple_room values.now }
+    ensures capacity { vec_capacity out.old ≤ vec_capacity out.new }
+{
+    match values {
+        [] => {}
+        [first, others @ ..] => {
+            add_value(out, first);
+            add_more(out, others);
+        }
+    }
+}
+
+/// The values behind the first, each behind a space.
+fn add_more(out: &mut Vec<u8>, values: &[Value])
+    requires room { vec_len out.old + tuple_room values.now ≤ vec_capacity out.old }
+    ensures text { out.new.items ≡ out.old.items ++ more_text values.now }
+    ensures len { vec_len out.new ≤ vec_len out.old + tuple_room values.now }
+    ensures capacity { vec_capacity out.old ≤ vec_capacity out.new }
+{
+    for value in values {
+        add(out, b" ");
+        add_value(out, value);
+    }
+}
+
+/// A number in decimal, or a text in quotes.
+pub fn add_value(out: &mut Vec<u8>, value: &Value)
+    requires room { vec_len out.old + value_room value.now ≤ vec_capacity out.old }
+    ensures text { out.new.items ≡ out.old.items ++ value_text value.now }
+    ensures len { vec_len out.new ≤ vec_len out.old + value_room value.now }
+    ensures capacity { vec_capacity out.old ≤ vec_capacity out.new }
+{
+    match value {
+        Value::Int(number) => add_number(out, *number),
+        Value::Text(text) => {
+            add(out, b"'");
+            add_quoted(out, text.as_slice());
+            add(out, b"'");
+        }
+    }
+}
+
+/// Bytes with each quote doubled.
+fn add_quoted(out: &mut Vec<u8>, bytes: &[u8])
+    requires room { vec_len out.old + 2 * length bytes.now ≤ vec_capacity out.old }
+    ensures text { out.new.items ≡ out.old.items ++ quoted bytes.now }
+    ensures len { vec_len out.new ≤ vec_len out.old + 2 * length bytes.now }
+    ensures capacity { vec_capacity out.old ≤ vec_capacity out.new }
+{
+    for b in bytes {
+        if *b == QUOTE {
+            out.push_reserved(QUOTE);
+        }
+        out.push_reserved(*b);
+    }
+}
+
+/// The rows of each part.
+pub fn add_parts(out: &mut Vec<u8>, parts: &[u32])
+    requires room { vec_len out.old + 11 * length parts.now ≤ vec_capacity out.old }
+    ensures text { out.new.items ≡ out.old.items ++ flat_map (λ n. 32 ∷ decimal n) parts.now }
+    ensures len { vec_len out.new ≤ vec_len out.old + 11 * length parts.now }
+    ensures capacity { vec_capacity out.old ≤ vec_capacity out.new }
+{
+    for rows in parts {
+        add(out, b" ");
+        add_number(out, *rows);
+    }
+}
