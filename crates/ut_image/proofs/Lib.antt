@@ -1,0 +1,5 @@
+pub mod MarkLemmas
+pub mod OneLemmas
+pub mod NoneLemmas
+pub mod ImageLemmas
+pub mod PutLemmas

@@ -1,0 +1,20 @@
+//! The directory of a savepoint's image as bytes, both ways.
+#![tactic(auto)]
+
+mod drawn;
+mod fields;
+mod image;
+mod laws;
+mod length;
+mod marks;
+mod put;
+mod read;
+mod tables;
+#[cfg(test)]
+mod tests;
+mod write;
+
+pub use drawn::{Drawn, PartRef};
+pub use image::image_from;
+pub use laws::one_image;
+pub use write::{image_front, image_row, image_rows, image_start, image_table};
