@@ -14,17 +14,17 @@ use Rattle.ut_plain.specs.Capture.{is_live, captured_place, captured_rows, captu
 
 -- ---- elements of lists
 
-first_in : {X : Type 0} (x y : X) (xs : List X) → x ≡ y → Contains (x ∷ xs) y
+pub first_in : {X : Type 0} (x y : X) (xs : List X) → x ≡ y → Contains (x ∷ xs) y
 first_in x y xs is = (0, omega arith, is)
 
-later_in : {X : Type 0} (x y : X) (xs : List X) → Contains xs y → Contains (x ∷ xs) y
+pub later_in : {X : Type 0} (x y : X) (xs : List X) → Contains xs y → Contains (x ∷ xs) y
 later_in x y xs is = (suc is.0, omega (arith, is.1), is.2)
 
-in_tail : {X : Type 0} (x y : X) (xs : List X) → Contains (x ∷ xs) y → (x ≡ y) ⊎ Contains xs y
+pub in_tail : {X : Type 0} (x y : X) (xs : List X) → Contains (x ∷ xs) y → (x ≡ y) ⊎ Contains xs y
 in_tail x y xs (zero, lt, is) = inl is
 in_tail x y xs (suc i, lt, is) = inr (i, omega (arith, lt), is)
 
-in_filter : {X : Type 0} (test : X → Bool) (xs : List X) (x : X) → Contains (filter test xs) x → Contains xs x × (test x ≡ true)
+pub in_filter : {X : Type 0} (test : X → Bool) (xs : List X) (x : X) → Contains (filter test xs) x → Contains xs x × (test x ≡ true)
 in_filter test [] x (i, lt, is) = absurd (omega (arith, lt))
 in_filter test (y ∷ xs) x has = split (test y) refl (λ rest. in_filter test xs x rest) has
   where
@@ -35,7 +35,7 @@ in_filter test (y ∷ xs) x has = split (test y) refl (λ rest. in_filter test x
         (in_tail y x (filter test xs) has)
     split false is more has = let found = more has in (later_in y x xs found.0, found.1)
 
-to_filter : {X : Type 0} (test : X → Bool) (xs : List X) (x : X) → Contains xs x → test x ≡ true → Contains (filter test xs) x
+pub to_filter : {X : Type 0} (test : X → Bool) (xs : List X) (x : X) → Contains xs x → test x ≡ true → Contains (filter test xs) x
 to_filter test [] x (i, lt, is) passes = absurd (omega (arith, lt))
 to_filter test (y ∷ xs) x has passes = ⊎_elim
     (λ same. subst (λ (b : Bool). Contains (cond b (y ∷ filter test xs) (filter test xs)) x) (sym (ap test same ∙ passes)) (first_in y x (filter test xs) same))
@@ -46,14 +46,14 @@ to_filter test (y ∷ xs) x has passes = ⊎_elim
     keep true is = later_in y x (filter test xs) is
     keep false is = is
 
-in_map : {X Y : Type 0} (f : X → Y) (xs : List X) (y : Y) → Contains (map f xs) y → (x : X) × Contains xs x × (f x ≡ y)
+pub in_map : {X Y : Type 0} (f : X → Y) (xs : List X) (y : Y) → Contains (map f xs) y → (x : X) × Contains xs x × (f x ≡ y)
 in_map f [] y (i, lt, is) = absurd (omega (arith, lt))
 in_map f (x ∷ xs) y has = ⊎_elim
     (λ same. (x, first_in x x xs refl, same))
     (λ rest. let more = in_map f xs y rest in (more.0, later_in x more.0 xs more.1, more.2))
     (in_tail (f x) y (map f xs) has)
 
-to_map : {X Y : Type 0} (f : X → Y) (xs : List X) (x : X) → Contains xs x → Contains (map f xs) (f x)
+pub to_map : {X Y : Type 0} (f : X → Y) (xs : List X) (x : X) → Contains xs x → Contains (map f xs) (f x)
 to_map f [] x (i, lt, is) = absurd (omega (arith, lt))
 to_map f (y ∷ xs) x has = ⊎_elim
     (λ same. first_in (f y) (f x) (map f xs) (ap f same))

@@ -3,8 +3,10 @@
 
 mod fates;
 mod keeping;
+mod place;
 mod visibility;
 
 pub use fates::{Fate, Fates};
 pub use keeping::keeps;
+pub use place::Place;
 pub use visibility::{Stamp, is_taken, sees};

@@ -1,0 +1,14 @@
+pub mod ListLemmas
+pub mod TableLemmas
+pub mod SwitchLemmas
+pub mod KeptLemmas
+pub mod EndLemmas
+pub mod BeginLemmas
+pub mod OrderLemmas
+pub mod ResortLemmas
+pub mod PermutedLemmas
+pub mod StageLemmas
+pub mod StagingLemmas
+pub mod MovedLemmas
+pub mod FlagLemmas
+pub mod CreatedLemmas
