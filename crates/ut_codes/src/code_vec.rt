@@ -108,6 +108,18 @@ impl CodeVec {
         }
     }
 
+    /// All codes in order.
+    pub fn codes(&self, alloc: Global) -> Result<Vec<u32>, AllocError>
+        ensures codes { IfOk result (λ v. v.items ≡ self.now.codes) }
+        ensures below { AllBelow self.now.reach self.now.codes }
+    {
+        match &self.shape {
+            Shape::Packed(vector) => packed_codes(alloc, vector),
+            Shape::Runs(vector) => run_codes(alloc, vector),
+            Shape::Sparse(vector) => vector.codes(alloc),
+        }
+    }
+
     /// Appends the places, ascending, whose code stands in one of the ranges.
     pub fn places_in(&self, ranges: &[(u32, u32)], out: &mut Vec<u32>) -> Result<(), AllocError>
         ensures ok { OnOk result (out.new.items ≡ out.old.items ++ places_where (is_in ranges.now) self.now.codes) }
@@ -164,6 +176,24 @@ impl CodeVec {
         }
         Ok(Some((CodeVec { shape, reach }, 1 + count)))
     }
+}
+
+/// All codes of a packed vector.
+fn packed_codes(alloc: Global, vector: &Packed) -> Result<Vec<u32>, AllocError>
+    ensures { IfOk result (λ v. v.items ≡ vector.now.codes) }
+{
+    let mut codes = Vec::new(alloc);
+    vector.codes_of(&mut codes)?;
+    Ok(codes)
+}
+
+/// All codes of a vector of runs.
+fn run_codes(alloc: Global, vector: &Runs) -> Result<Vec<u32>, AllocError>
+    ensures { IfOk result (λ v. v.items ≡ vector.now.codes) }
+{
+    let mut codes = Vec::new(alloc);
+    vector.codes_of(&mut codes)?;
+    Ok(codes)
 }
 
 /// The byte that stands for the form.

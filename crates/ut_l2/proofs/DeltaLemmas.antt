@@ -26,6 +26,11 @@ module _ (ids : List ℕ) (cols : List (List (List ℕ))) where
   pub row-get : (i : ℕ) → i < length ids → get_or (rows_of ids cols) i no_row ≡ row_at ids cols i
   row-get i lt = get_or-map-range_with_len (row_at ids cols) 0 (length ids) i i no_row lt (omega arith)
 
+  pub rows-wide : All (λ row. length row.keys ≡ length cols) (rows_of ids cols)
+  rows-wide i d lt =
+      let li : i < length ids = omega (arith, lt, rows-length) in
+      ap (λ (r : KeyRow). length r.keys) (get_or-any (rows_of ids cols) i d no_row lt ∙ row-get i li) ∙ length-map cols (λ c. get_or c i [])
+
   pub cells-column : IsDelta ids cols → (j : ℕ) → j < length cols → get_or cols j [] ≡ cells_at j (rows_of ids cols)
   cells-column is j lt =
       let n = is.equal j lt in

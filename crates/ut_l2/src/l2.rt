@@ -143,6 +143,7 @@ impl L2 {
     pub fn len(&self) -> u32
         ensures len { result ≡ length self.now.rows }
         ensures few { length self.now.rows ≤ 2 ^ 31 }
+        ensures wide { All (λ row. length row.keys ≡ self.now.width) self.now.rows }
     {
         self.ids.as_slice().len() as u32
     }

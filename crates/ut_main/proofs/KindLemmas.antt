@@ -19,10 +19,10 @@ use Rattle.ut_main.proofs.MainLemmas.{length-with_own, get-with_own}
 pub kind-at : (columns : List Column) (j : ℕ) (c : Column) → j < length columns → (get_or columns j c).kind ≡ kind_at j columns
 kind-at columns j c lt = sym (get_or-map (λ (x : Column). x.kind) columns j c Int lt)
 
-keys-in : (kind : Kind) (keys : List (List ℕ)) → AreKeys kind keys → (key : List ℕ) → In key keys → IsTrue (is_key kind key)
+pub keys-in : (kind : Kind) (keys : List (List ℕ)) → AreKeys kind keys → (key : List ℕ) → In key keys → IsTrue (is_key kind key)
 keys-in kind keys h key there = let r = in-get keys key there in subst (λ (k : List ℕ). IsTrue (is_key kind k)) (sym r.2) (h r.0 [] r.1)
 
-keys-from : (kind : Kind) (keys : List (List ℕ)) → ((key : List ℕ) → In key keys → IsTrue (is_key kind key)) → AreKeys kind keys
+pub keys-from : (kind : Kind) (keys : List (List ℕ)) → ((key : List ℕ) → In key keys → IsTrue (is_key kind key)) → AreKeys kind keys
 keys-from kind keys h = λ i d lt. h (get_or keys i d) (subst (λ (k : List ℕ). In k keys) (get_or_default keys i [] d lt) (in-at keys i lt))
 
 in-either : (key : List ℕ) (xs ys : List (List ℕ)) → In key (xs ++ ys) → In key xs ⊎ In key ys

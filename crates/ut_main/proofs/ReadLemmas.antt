@@ -1,5 +1,5 @@
 -- What a column's bytes are read as: its own dictionary and its codes, and no other.
-use Rattle.std.proofs.Common.{◌≡◌, inl, inr, ℕ, ◌+◌, ◌^◌, ◌<◌, ◌≤◌, Bool, true, false, not, nat_eq, ◌||◌, IsTrue, List, [], ◌∷◌, ◌++◌, length, map, get_or, replicate, refl, sym, ◌∙◌, ap, subst, arith, true≢false}
+use Rattle.std.proofs.Common.{◌≡◌, inl, inr, ℕ, ◌+◌, ◌^◌, ◌<◌, ◌≤◌, Bool, true, false, not, nat_eq, nat_lt, ◌||◌, IsTrue, List, [], ◌∷◌, ◌++◌, length, map, get_or, replicate, refl, sym, ◌∙◌, ap, subst, arith, true≢false}
 use Rattle.std.proofs.lemmas.Bool.{and_parts, and_from, or_cases, eqb-true, eq-eqb, leb-true}
 use Rattle.std.proofs.lemmas.List.{append_assoc, length-append, length-map, get_or-append-add, get_or-replicate}
 use Rattle.std.specs.List.{list_any}
@@ -28,7 +28,7 @@ use Rattle.ut_main.proofs.UniqueLemmas.{dict-one, codes-one}
 -- ---- kinds
 
 key-short : (kind : Kind) (key : List ℕ) → IsTrue (is_key kind key) → length key ≤ 255
-key-short Int key h = let e = eqb-true (length key) 8 h in omega (arith, e)
+key-short Int key h = let e = eqb-true (length key) 8 (and_parts (nat_eq (length key) 8) (list_all (λ b. nat_lt b 256) key) h).0 in omega (arith, e)
 key-short Text key h = leb-true (length key) 255 (and_parts (nat_le (length key) 255) (list_all is_text_byte key) h).0
 
 -- new keys of a kind are a dictionary

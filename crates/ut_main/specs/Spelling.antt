@@ -1,6 +1,6 @@
 -- The bytes of a part: the number of its rows, their ids, and for each column its own dictionary and its code vector.
-use Rattle.std.specs.Prelude.{◌≡◌, ℕ, suc, ◌+◌, ◌<◌, ◌≤◌, All, Bool, IsTrue, nat_eq, List, [], ◌∷◌, ◌++◌, length, map, get_or}
-use Rattle.std.specs.List.{flat_map}
+use Rattle.std.specs.Prelude.{◌≡◌, ℕ, suc, ◌+◌, ◌<◌, ◌≤◌, All, Bool, ◌&&◌, IsTrue, nat_eq, nat_lt, List, [], ◌∷◌, ◌++◌, length, map, get_or}
+use Rattle.std.specs.List.{flat_map, list_all}
 use Rattle.ut_bits.specs.Words.{word_bytes}
 use Rattle.ut_codes.specs.Forms.{code_bytes}
 use Rattle.ut_l2.specs.KeyRows.{KeyRow, cells_at}
@@ -43,7 +43,7 @@ AreIds ids = All (λ id. (1 ≤ id) × (id ≤ 2147483648)) ids
 
 -- whether bytes are a key of a kind: eight for a number, else a text
 abbrev pub is_key : Kind → List ℕ → Bool
-is_key Int key = nat_eq (length key) 8
+is_key Int key = nat_eq (length key) 8 && list_all (λ b. nat_lt b 256) key
 is_key Text key = is_text key
 
 -- all of these are keys of a kind

@@ -91,3 +91,5 @@ pub record IsBuilt (job : JobValue) (main : MainValue) (olds : List Old) : Type 
   pub main_is : main ≡ main_of job
   pub places : IsPermutation (kept_olds job) olds
   pub rows : map (row_of job) olds ≡ new_rows job
+  -- only a re-sorting merge moves rows past one another
+  pub in_place : job.head.kind ≢ Resort → olds ≡ kept_olds job

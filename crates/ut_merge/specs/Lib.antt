@@ -1,2 +1,6 @@
 pub mod Resorting
 pub mod Jobs
+pub mod Places
+pub mod Columns
+pub mod Uniting
+pub mod NewRows

@@ -1,13 +1,14 @@
 //! What was built of a job.
-ghost use Rattle.std.specs.Prelude.{◌≡◌, ◌+◌, ◌≤◌, [], length, map, vec_len, vec_capacity};
+ghost use Rattle.std.specs.Prelude.{◌≡◌, ◌≢◌, ◌+◌, ◌≤◌, [], length, map, vec_len, vec_capacity};
 ghost use Rattle.std.specs.List.Sorted.{IsPermutation};
-ghost use Rattle.ut_merge.specs.Jobs.{kept_olds, main_of, new_rows, row_of};
+ghost use Rattle.ut_merge.specs.Jobs.{kept_olds, main_of, new_rows, row_of, IsBuilt};
 
 use crate::job::Job;
 use crate::old::Old;
 use std::marker::Model;
 use ut_main::Main;
 use ut_stamps::Stamp;
+use ut_value::MergeKind;
 
 /// What was built of a job. As a value it is the job that it was built of.
 #[derive(Drop)]
@@ -40,6 +41,21 @@ pub struct Parts {
 }
 
 impl Built {
+    /// What was built of a job.
+    pub(crate) fn of(job: Job, main: Main, olds: Vec<Old>, stamps: Vec<Stamp>) -> Self
+        requires built { IsBuilt job main olds.items }
+        requires empty { stamps.items ≡ [] }
+        requires room { vec_len stamps + length olds.items ≤ vec_capacity stamps }
+        ensures { result ≡ job }
+    {
+        Built {
+            job,
+            main,
+            olds,
+            stamps,
+        }
+    }
+
     pub fn number(&self) -> u32
         ensures { result ≡ self.now.head.number }
     {
@@ -51,6 +67,7 @@ impl Built {
         ensures main { result.main ≡ main_of self }
         ensures olds { IsPermutation (kept_olds self) result.olds.items }
         ensures rows { map (row_of self) result.olds.items ≡ new_rows self }
+        ensures in_place { self.head.kind ≢ MergeKind.Resort → result.olds.items ≡ kept_olds self }
         ensures empty { result.stamps.items ≡ [] }
         ensures room { vec_len result.stamps + length result.olds.items ≤ vec_capacity result.stamps }
     {

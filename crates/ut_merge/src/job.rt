@@ -1,7 +1,9 @@
 //! A merge that was begun.
-ghost use Rattle.std.specs.Prelude.{◌≡◌, IfOk};
+ghost use Rattle.std.specs.Prelude.{◌≡◌, ◌≤◌, length, IfOk};
 ghost use Rattle.std.specs.Arc.{arc_value};
-ghost use Rattle.ut_merge.specs.Jobs.{job_value, IsJob};
+ghost use Rattle.ut_plain.specs.Merges.{staying};
+ghost use Rattle.ut_merge.specs.Columns.{main_before};
+ghost use Rattle.ut_merge.specs.Jobs.{job_value, stay_of, IsJob};
 
 use crate::keep::Keep;
 use std::alloc::{AllocError, Global};
@@ -80,5 +82,46 @@ impl Job {
         ensures { result ≡ self.now.head.kind }
     {
         self.head.kind
+    }
+
+    /// Main before the merge.
+    pub(crate) fn main(&self) -> &Main
+        ensures { result.now ≡ main_before self.now }
+    {
+        &self.main
+    }
+
+    /// The closed stage.
+    pub(crate) fn closed(&self) -> &L2
+        ensures { result.now ≡ record { width = self.now.width; rows = self.now.closed } }
+    {
+        &self.closed
+    }
+
+    pub(crate) fn keep(&self) -> &Keep
+        ensures { result.now ≡ self.now.keep }
+    {
+        &self.keep
+    }
+
+    /// How many parts stay as they are.
+    pub(crate) fn stay(&self) -> u8
+        ensures stay { result ≡ stay_of self.now }
+        ensures few { length self.now.parts ≤ 8 }
+        ensures job { IsJob self.now }
+    {
+        staying(self.head.kind, self.main.parts())
+    }
+}
+
+/// How many of so many parts a merge leaves as they are.
+fn staying(kind: MergeKind, parts: u8) -> u8
+    ensures { result ≡ staying kind parts }
+{
+    match kind {
+        MergeKind::Classic => 0,
+        MergeKind::Resort => 0,
+        MergeKind::Partial => { if parts < 2 { parts } else { parts - 1 } }
+        MergeKind::Extend => parts,
     }
 }

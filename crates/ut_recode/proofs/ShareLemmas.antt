@@ -1,10 +1,12 @@
 -- Shares of a list.
-use Rattle.std.proofs.Common.{◌≡◌, ℕ, suc, ◌+◌, ◌-◌, ◌*◌, ◌/◌, ◌<◌, ◌≤◌, List, [], ◌∷◌, ◌++◌, length, take, drop, get_or, sym, ◌∙◌, ap, subst, arith, Option, Some, None, unwrap_or, Result, Ok, Err, IfOk}
-use Rattle.std.proofs.lemmas.List.{length-drop, take_more, take_all, take-append-drop, drop-drop, take-take, drop-take, map-append, get_or-drop}
+use Rattle.std.proofs.Common.{◌≡◌, ℕ, suc, ◌+◌, ◌-◌, ◌*◌, ◌/◌, ◌<◌, ◌≤◌, List, [], ◌∷◌, ◌++◌, length, map, take, drop, get_or, sym, ◌∙◌, ap, subst, arith, Option, Some, None, unwrap_or, Result, Ok, Err, IfOk}
+use Rattle.std.proofs.lemmas.List.{length-drop, take_more, take_all, take-append-drop, drop-drop, take-take, drop-take, map-append, get_or-drop, get_or_append_left, get_or-append_right, length-append}
 use Rattle.std.proofs.lemmas.Nat.{le-div}
 use Rattle.std.proofs.Math.Nat.{mul-div_cancel_left, div-mul-le_self, zero-div, zero-mul}
 use Rattle.ut_bits.specs.Bits.{AllBelow}
-use Rattle.ut_recode.specs.Recode.{HaveEntries, IsBelow}
+use Rattle.std.specs.List.{range_with_len}
+use Rattle.std.proofs.lemmas.List.FromFn.{length-map-range_with_len, get_or-map-range_with_len}
+use Rattle.ut_recode.specs.Recode.{with_staying, HaveEntries, IsBelow}
 use Rattle.ut_own.specs.Own.{recoded}
 use Rattle.ut_recode.specs.Spans.{span}
 
@@ -83,3 +85,15 @@ pub below_then : {T E : Type 0} (items : T → List ℕ) (r : Result T E) (entri
     → IfOk r (λ v. items v ≡ recoded entries codes) → IfOk r (λ v. AllBelow reach (items v))
 below_then items (Ok v) entries reach codes h e = subst (λ (l : List ℕ). AllBelow reach l) (sym e) (AllBelow-recoded entries reach codes h)
 below_then items (Err x) entries reach codes h e = e
+
+-- ---- codes that stay, and those behind them
+
+pub stays_at : (first code : ℕ) (entries : List (Option ℕ)) → code < first → get_or (with_staying first entries) code None ≡ Some code
+stays_at first code entries lt =
+    get_or_append_left (map Some (range_with_len 0 first)) entries None code (omega (arith, lt, length-map-range_with_len Some 0 first)) ∙ get_or-map-range_with_len Some 0 first code code None lt (omega arith)
+
+pub behind_at : (first code : ℕ) (entries : List (Option ℕ)) → first ≤ code → get_or (with_staying first entries) code None ≡ get_or entries (code - first) None
+behind_at first code entries le = get_or-append_right (map Some (range_with_len 0 first)) entries first code None (length-map-range_with_len Some 0 first) le
+
+pub length_with_staying : (first : ℕ) (entries : List (Option ℕ)) → length (with_staying first entries) ≡ first + length entries
+length_with_staying first entries = length-append (map Some (range_with_len 0 first)) entries ∙ ap (λ n. n + length entries) (length-map-range_with_len Some 0 first)

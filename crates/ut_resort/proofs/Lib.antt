@@ -1,4 +1,4 @@
 pub mod OrderLemmas
-mod SortLemmas
+pub mod SortLemmas
 mod PackLemmas
 pub mod ResortLaws

@@ -1,0 +1,12 @@
+pub mod KeptLemmas
+pub mod LayoutLemmas
+pub mod UniteLemmas
+pub mod OwnLemmas
+pub mod CountLemmas
+pub mod ResortLemmas
+pub mod MovedLemmas
+pub mod SeekLemmas
+pub mod ArrangeLemmas
+pub mod CodingLemmas
+pub mod GatherLemmas
+pub mod BuildLemmas

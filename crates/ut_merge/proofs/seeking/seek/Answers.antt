@@ -1,0 +1,21 @@
+use Rattle.std.proofs.Common.{◌∙◌, ◌+◌, ◌<◌, ◌++◌, [], ◌∷◌, List, ℕ, false, not, ◌&&◌, length, get_or, sym, ap, subst, arith}
+use Rattle.std.proofs.lemmas.List.{length-append}
+use Rattle.ut_own.specs.Own.{holds}
+use Rattle.ut_prefix.specs.Chain.{end_to_end}
+use Rattle.ut_merge.specs.Uniting.{IsFound}
+use Rattle.ut_merge.proofs.SeekLemmas.{found-more, new_flags-more}
+use Rattle.ut_merge.proofs.seeking.seek.Goals as goal
+
+pub loop-code-preserved : goal.loop-code-preserved
+loop-code-preserved g c =
+    let stay = end_to_end c.args.chain.now in
+    let keys = c.args.closed.now in
+    let flags = c.args.used.now in
+    let i = c.loop-code.code in
+    let lt : i < length keys = omega (arith, c.loop-code-test.true, c.len-code-end.ensures) in
+    let is_new = c.look-seen.ensures.new ∙ ap (λ (k : List ℕ). get_or flags i false && not (holds stay k)) c.bytes.ensures.key in
+    let seen = subst (λ (k : List ℕ). IsFound stay k (get_or flags i false) c.look-seen.result.code) c.bytes.ensures.key c.look-seen.ensures.found in (
+      c.in_ok-push.ensures.items ∙ (λ k. c.loop-code.invariant.0 k ++ is_new k ∷ []) ∙ sym (new_flags-more stay keys flags i lt c.requires.flags),
+      ap length c.in_ok-push-2.ensures.items ∙ length-append c.loop-code.found.items (c.look-seen.result.code ∷ []) ∙ ap (λ n. n + 1) c.loop-code.invariant.1,
+      found-more stay keys flags c.loop-code.found.items c.push-in-loop-code.new.self.items i c.look-seen.result.code lt c.loop-code.invariant.1 c.loop-code.invariant.2 seen c.in_ok-push-2.ensures.items,
+    )
