@@ -15,7 +15,7 @@ use Rattle.ut_plain.specs.Tables.{fits_columns}
 use Rattle.ut_plain.proofs.BoolLemmas.{and_left, and_right}
 use Rattle.ut_scan.specs.declared.place.Found.{Found}
 use Rattle.ut_exact.specs.Places.{StagedRow}
-use Rattle.ut_table.specs.Staged.{Staged, row_at}
+use Rattle.ut_staged.specs.Staged.{Staged, row_at}
 use Rattle.ut_ops.specs.Fit.{is_row, values_in, cell}
 
 kind_at : List Column → ℕ → Option Kind

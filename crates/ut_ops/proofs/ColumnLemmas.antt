@@ -18,7 +18,7 @@ use Rattle.ut_plain.proofs.ListLemmas.{found_below, position_below}
 use Rattle.ut_scan.specs.declared.place.Found.{Found}
 use Rattle.ut_exact.specs.Places.{StagedRow}
 use Rattle.ut_exact.specs.Scan.{stored_in}
-use Rattle.ut_table.specs.Staged.{Staged, row_at}
+use Rattle.ut_staged.specs.Staged.{Staged, row_at}
 use Rattle.ut_table.specs.Finds.{rows_at}
 use Rattle.ut_ops.specs.Fit.{Fit, is_row, values_in, values_at, cell}
 use Rattle.ut_ops.proofs.CellLemmas.{is_cell}

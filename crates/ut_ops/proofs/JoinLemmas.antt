@@ -13,7 +13,7 @@ use Rattle.ut_plain.specs.Condition.{value_in}
 use Rattle.ut_plain.specs.Query.{same_value, joined}
 use Rattle.ut_scan.specs.declared.place.Found.{Found}
 use Rattle.ut_exact.specs.Scan.{stored_in}
-use Rattle.ut_table.specs.Staged.{Staged, row_at}
+use Rattle.ut_staged.specs.Staged.{Staged, row_at}
 use Rattle.ut_table.specs.Finds.{rows_at}
 use Rattle.ut_ops.specs.ValueOrder.{equal_values}
 use Rattle.ut_ops.specs.Fit.{Fit, is_row, cell, values_at}

@@ -22,7 +22,7 @@ use Rattle.ut_plain.specs.Condition.{value_in}
 use Rattle.ut_plain.specs.Query.{number_of, total, with_key, distinct, same_value, with_value, column_values, groups}
 use Rattle.ut_scan.specs.declared.place.Found.{Found}
 use Rattle.ut_exact.specs.Scan.{stored_in}
-use Rattle.ut_table.specs.Staged.{Staged, row_at}
+use Rattle.ut_staged.specs.Staged.{Staged, row_at}
 use Rattle.ut_table.specs.Finds.{rows_at}
 use Rattle.ut_ops.specs.ValueOrder.{value_cmp_total, equal_values}
 use Rattle.ut_ops.specs.Fit.{Fit, cell}

@@ -8,7 +8,7 @@ use Rattle.ut_value.specs.KeyBytes.{is_value}
 use Rattle.ut_plain.specs.Tables.{fits_columns}
 use Rattle.ut_scan.specs.declared.place.Found.{Found}
 use Rattle.ut_exact.specs.Places.{StagedRow}
-use Rattle.ut_table.specs.Staged.{Staged, row_at}
+use Rattle.ut_staged.specs.Staged.{Staged, row_at}
 
 -- whether a row is there, with one value for each column, of its kind and under its rule
 abbrev pub is_row : List Column → Option StagedRow → Bool

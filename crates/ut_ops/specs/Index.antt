@@ -7,7 +7,7 @@ use Rattle.std.specs.BTreeMap.{BTreeMap, get}
 use Rattle.ut_value.specs.declared.value.Value.{Value}
 use Rattle.ut_value.specs.KeyOrder.{value_cmp}
 use Rattle.ut_scan.specs.declared.place.Found.{Found}
-use Rattle.ut_table.specs.Staged.{Staged}
+use Rattle.ut_staged.specs.Staged.{Staged}
 use Rattle.ut_ops.specs.Fit.{Fit, cell, values_at}
 
 -- the rows that a map lists under a value

@@ -6,7 +6,7 @@ use Rattle.ut_value.specs.KeyOrder.{value_cmp}
 use Rattle.ut_plain.specs.Query.{number_of}
 use Rattle.ut_plain.specs.declared.reply.Group as group
 use Rattle.ut_scan.specs.declared.place.Found.{Found}
-use Rattle.ut_table.specs.Staged.{Staged}
+use Rattle.ut_staged.specs.Staged.{Staged}
 use Rattle.ut_ops.specs.Fit.{cell}
 
 -- the sum of a key so far

@@ -2,7 +2,7 @@
 ghost use Rattle.std.specs.Prelude.{◌≡◌, ◌<◌, ℕ, length, map, option_map, IfOk, IfSome, IsTrue};
 ghost use Rattle.std.specs.Ordering.{is_lt, is_gt};
 ghost use Rattle.ut_plain.specs.Query.{column_values, best, best_from};
-ghost use Rattle.ut_table.specs.Staged.{row_at};
+ghost use Rattle.ut_staged.specs.Staged.{row_at};
 ghost use Rattle.ut_table.specs.Finds.{rows_at};
 ghost use Rattle.ut_ops.specs.Fit.{is_row, Fit, cell};
 

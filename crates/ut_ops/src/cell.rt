@@ -2,11 +2,12 @@
 ghost use Rattle.std.specs.Prelude.{◌≡◌, ◌<◌, ◌≤◌, length, slice_get, option_map, Some, IsTrue, IfOk};
 ghost use Rattle.ut_value.specs.declared.value.Column.{Column};
 ghost use Rattle.ut_value.specs.KeyOrder.{value_cmp};
-ghost use Rattle.ut_table.specs.Staged.{row_at};
+ghost use Rattle.ut_staged.specs.Staged.{row_at};
 ghost use Rattle.ut_ops.specs.Fit.{is_row, cell, values_at};
 
 use std::alloc::{AllocError, Global};
 use std::cmp::Ordering;
+use ut_key::Key;
 use ut_scan::Found;
 use ut_table::Table;
 use ut_value::{Kind, Seq, Value, int_of};
@@ -39,7 +40,7 @@ pub(crate) fn number_at(table: &Table, hit: Found, column: usize) -> i64
     requires column { option_map (λ (c : Column). c.kind) (slice_get table.now.stages.columns column) ≡ Some Kind.Int }
     ensures { cell table.now.stages column hit ≡ Value.Int result }
 {
-    let mut room = [0; 8];
+    let mut room = Key::new();
     int_of(table.key(hit.place, column, &mut room)).unwrap_or(0)
 }
 
@@ -50,8 +51,8 @@ pub(crate) fn compare_at(table: &Table, first: Found, second: Found, column: usi
     requires column { column < length table.now.stages.columns }
     ensures { result ≡ value_cmp (cell table.now.stages column first) (cell table.now.stages column second) }
 {
-    let mut room = [0; 8];
-    let mut other_room = [0; 8];
+    let mut room = Key::new();
+    let mut other_room = Key::new();
     let key = table.key(first.place, column, &mut room);
     key.cmp(&table.key(second.place, column, &mut other_room))
 }

@@ -3,7 +3,7 @@ ghost use Rattle.std.specs.Prelude.{◌≡◌, ◌<◌, ℕ, length, map, IfOk, 
 ghost use Rattle.std.specs.List.{filter_map};
 ghost use Rattle.ut_plain.specs.Tables.{column_of};
 ghost use Rattle.ut_plain.specs.Query.{picked};
-ghost use Rattle.ut_table.specs.Staged.{row_at};
+ghost use Rattle.ut_staged.specs.Staged.{row_at};
 ghost use Rattle.ut_table.specs.Finds.{rows_at};
 ghost use Rattle.ut_ops.specs.Fit.{is_row, Fit, cell, values_at};
 

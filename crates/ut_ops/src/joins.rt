@@ -5,7 +5,7 @@ ghost use Rattle.std.specs.Ordering.{is_eq};
 ghost use Rattle.ut_value.specs.declared.value.Value.{Value};
 ghost use Rattle.ut_value.specs.KeyOrder.{value_cmp};
 ghost use Rattle.ut_plain.specs.Query.{joined};
-ghost use Rattle.ut_table.specs.Staged.{row_at};
+ghost use Rattle.ut_staged.specs.Staged.{row_at};
 ghost use Rattle.ut_table.specs.Finds.{rows_at};
 ghost use Rattle.ut_ops.specs.Fit.{is_row, Fit, cell, values_at};
 ghost use Rattle.ut_ops.specs.Index.{listed, IsIndex, AreFit, beside};

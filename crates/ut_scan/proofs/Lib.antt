@@ -1,2 +1,5 @@
+pub mod CodeLemmas
 pub mod FindLemmas
+pub mod MainLemmas
 pub mod PickLemmas
+pub mod RangeLemmas

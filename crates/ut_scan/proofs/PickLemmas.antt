@@ -57,20 +57,14 @@ pub meets-Eq : (key cell : List ℕ) → meets Eq key cell ≡ key_eq key cell
 meets-Eq key cell = is_eq-slice_cmp cell key ∙ nat_list_eq_equiv.symm cell key
 
 -- the comparisons but one, and that one
-shuffle : (b m a s : Bool) → ((b && (m && a)) && s) ≡ (m && ((s && b) && a))
-shuffle true true true true = refl
-shuffle true true true false = refl
-shuffle true true false true = refl
-shuffle true true false false = refl
-shuffle true false a true = refl
-shuffle true false a false = refl
-shuffle false true a true = refl
-shuffle false true a false = refl
-shuffle false false a true = refl
-shuffle false false a false = refl
+shuffle : (b m a s : Bool) → ((b && (m && a)) && s) ≡ (m && ((b && a) && s))
+shuffle true true a s = refl
+shuffle true false a s = refl
+shuffle false true a s = refl
+shuffle false false a s = refl
 
 pub passes-around : (preds : List ColumnPred) (k : ℕ) (p : ColumnPred) (row : KeyRow) (s : Bool) → k < length preds
-    → let q = get_or preds k p in (passes preds row && s) ≡ (meets q.op q.key (key_at q.column row) && ((s && passes (take k preds) row) && passes (drop (suc k) preds) row))
+    → let q = get_or preds k p in (passes preds row && s) ≡ (meets q.op q.key (key_at q.column row) && ((passes (take k preds) row && passes (drop (suc k) preds) row) && s))
 passes-around preds k p row s lt =
     let q = get_or preds k p in
     let t = λ (r : ColumnPred). meets r.op r.key (key_at r.column row) in

@@ -8,7 +8,7 @@ use Rattle.ut_stamps.specs.Stamps.{sees}
 use Rattle.ut_l2.specs.KeyRows.{KeyRow, key_at, no_row}
 use Rattle.ut_scan.specs.declared.place.ColumnPred.{ColumnPred}
 use Rattle.ut_scan.specs.declared.place.Found.{Found}
-use Rattle.ut_scan.specs.declared.place.Place.{Place}
+use Rattle.ut_stamps.specs.declared.place.Place.{Place}
 use Rattle.ut_scan.specs.StampLists.{no_stamp}
 
 -- the row at place i meets a comparison

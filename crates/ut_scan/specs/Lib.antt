@@ -1,3 +1,4 @@
+pub mod Coded
 pub mod Finds
 pub mod Probes
 pub mod StageRows

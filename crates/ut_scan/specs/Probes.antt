@@ -5,12 +5,24 @@ use Rattle.ut_stamps.specs.Stamps.{sees}
 use Rattle.ut_l2.specs.KeyRows.{KeyRow, no_row}
 use Rattle.ut_scan.specs.declared.place.ColumnPred.{ColumnPred}
 use Rattle.ut_scan.specs.declared.place.Found.{Found}
-use Rattle.ut_scan.specs.declared.place.Place.{Place}
-use Rattle.ut_scan.specs.declared.place.Place.TheVariants.{L2}
+use Rattle.ut_stamps.specs.declared.place.Place.{Place}
+use Rattle.ut_stamps.specs.declared.place.Place.TheVariants.{L2, Closed}
+use Rattle.ut_scan.specs.declared.probe.DeltaStage.{DeltaStage}
+use Rattle.ut_scan.specs.declared.probe.DeltaStage.TheVariants.{L2 as in_l2, Closed as in_closed}
 use Rattle.ut_scan.specs.declared.probe.Probe.{Probe}
 use Rattle.ut_scan.specs.declared.probe.Viewer.{Viewer}
 use Rattle.ut_scan.specs.Finds.{all_places, found_at, found_in, is_hit, meets_at, passes}
+use Rattle.ut_scan.specs.StageRows.{found_in_parts}
 use Rattle.ut_scan.specs.StampLists.{no_stamp}
+
+-- a place of L2 or of the closed stage
+abbrev pub place_in : DeltaStage → ℕ → Place
+place_in in_l2 = L2
+place_in in_closed = Closed
+
+-- whether the viewer sees the row at place i
+abbrev pub is_seen : Viewer → List Stamp → ℕ → Bool
+is_seen v stamps i = sees v.fates.now v.snapshot v.own (get_or stamps i no_stamp)
 
 -- the viewer sees the row at place i, and it meets each comparison
 abbrev pub hits : Viewer → List ColumnPred → List KeyRow → List Stamp → ℕ → Bool
@@ -20,20 +32,24 @@ hits v preds rows stamps i = is_hit v.fates.now v.snapshot v.own preds rows stam
 abbrev pub found_for : Viewer → List ColumnPred → (ℕ → Place) → List KeyRow → List Stamp → List Found
 found_for v preds place rows stamps = found_in v.fates.now v.snapshot v.own preds place rows stamps
 
--- the row at place i is seen, and meets the comparisons that are left
+-- the same of all parts of main
+abbrev pub found_in_main : Viewer → List ColumnPred → List (List KeyRow) → List (List Stamp) → List Found
+found_in_main v preds parts stamps = found_in_parts v.fates.now v.snapshot v.own preds parts stamps
+
+-- the row at place i meets the comparisons that are left, and is seen
 abbrev pub finds : Probe → ℕ → Bool
 finds p i =
-    (sees p.viewer.now.fates.now p.viewer.now.snapshot p.viewer.now.own (get_or p.stamps.now i no_stamp)
-    && passes p.before.now (get_or p.l2.now.rows i no_row))
-    && passes p.after.now (get_or p.l2.now.rows i no_row)
+    (passes p.before.now (get_or p.l2.now.rows i no_row)
+    && passes p.after.now (get_or p.l2.now.rows i no_row))
+    && is_seen p.viewer.now p.stamps.now i
 
 -- the rows at those places that a probe finds
 abbrev pub found_by : Probe → List ℕ → List Found
-found_by p places = map (found_at L2 p.l2.now.rows) (filter (finds p) places)
+found_by p places = map (found_at (place_in p.stage) p.l2.now.rows) (filter (finds p) places)
 
 -- the rows that meet a comparison and that a probe finds
 abbrev pub found_with : ColumnPred → Probe → List Found
-found_with pred p = map (found_at L2 p.l2.now.rows) (filter (λ i. meets_at pred p.l2.now.rows i && finds p i) (all_places p.l2.now.rows))
+found_with pred p = map (found_at (place_in p.stage) p.l2.now.rows) (filter (λ i. meets_at pred p.l2.now.rows i && finds p i) (all_places p.l2.now.rows))
 
 -- a row is a hit where it meets comparison k and the probe finds it
 abbrev pub IsRest : Viewer → List ColumnPred → ℕ → List KeyRow → List Stamp → Probe → Type 0

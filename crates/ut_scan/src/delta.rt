@@ -1,35 +1,39 @@
-//! A scan of rows in columns: candidates by one comparison's places or codes, tested by place for the others.
+//! A scan of L2 or of the closed stage: candidates by one comparison's places or codes, tested by
+//! place for the others.
 ghost use Rattle.std.specs.Prelude.{◌≡◌, ◌<◌, ◌^◌, ◌++◌, ◌&&◌, [], false, length, map, filter, slice_index_or, MatchOption, All, IfOk, OnOk};
 ghost use Rattle.ut_key.specs.Keys.{meets};
 ghost use Rattle.ut_unsorted.specs.FirstSeen.{first_seen};
 ghost use Rattle.ut_l2.specs.KeyRows.{cells_at};
 ghost use Rattle.ut_scan.specs.Finds.{all_places};
-ghost use Rattle.ut_scan.specs.Probes.{finds, found_by, found_for, found_with};
+ghost use Rattle.ut_scan.specs.Probes.{finds, found_by, found_for, found_with, place_in};
 
-use crate::place::{ColumnPred, Found, Place};
-use crate::probe::{Probe, Viewer};
+use crate::place::{ColumnPred, Found};
+use crate::probe::{DeltaStage, Probe, Viewer};
 use std::alloc::{AllocError, Global};
 use ut_key::Cmp;
 use ut_l2::L2;
 use ut_stamps::Stamp;
 use ut_unsorted::UnsortedDict;
 
-/// Appends the seen rows of an L2 that meet each comparison.
+/// Appends the seen rows of the stage that meet each comparison.
 pub fn scan_delta(
     alloc: Global,
     viewer: &Viewer<'_>,
     preds: &[ColumnPred],
+    stage: DeltaStage,
     l2: &L2,
     stamps: &[Stamp],
     out: &mut Vec<Found>,
 ) -> Result<(), AllocError>
     requires stamped { length stamps.now ≡ length l2.now.rows }
     requires columns { All (λ p. p.column < l2.now.width) preds.now }
-    ensures { OnOk result (out.new.items ≡ out.old.items ++ found_for viewer.now preds.now Place.L2 l2.now.rows stamps.now) }
+    ensures { OnOk result (out.new.items ≡ out.old.items
+        ++ found_for viewer.now preds.now (place_in stage) l2.now.rows stamps.now) }
 {
-    let Some(k) = leading(preds) else {
+    let Some(k) = leading(l2, preds) else {
         let probe = Probe {
             viewer,
+            stage,
             l2,
             stamps,
             before: preds,
@@ -38,7 +42,7 @@ pub fn scan_delta(
         return scan_all(&probe, out);
     };
     let pred = &preds[k];
-    let probe = Probe::around(viewer, l2, stamps, preds, k);
+    let probe = Probe::around(viewer, stage, l2, stamps, preds, k);
     match pred.op {
         Cmp::Eq => scan_equal(&probe, pred, out),
         _ => {
@@ -48,16 +52,28 @@ pub fn scan_delta(
     }
 }
 
-/// The comparison that picks the candidates: an equality if there is one.
-fn leading(preds: &[ColumnPred]) -> Option<usize>
+/// The comparison that picks the candidates: of the equalities the one with the fewest places, and
+/// where there is none the first.
+fn leading(l2: &L2, preds: &[ColumnPred]) -> Option<usize>
+    requires { All (λ p. p.column < l2.now.width) preds.now }
     ensures { MatchOption result (preds.now ≡ []) (λ k. k < length preds.now) }
 {
-    for (k, pred) in preds.iter().enumerate() {
+    if preds.is_empty() {
+        return None;
+    }
+    let mut best = 0;
+    let mut fewest = usize::MAX;
+    for k in 0..preds.len() {
+        let pred = &preds[k];
         if let Cmp::Eq = pred.op {
-            return Some(k);
+            let count = l2.places(pred.column, pred.key.as_slice()).len();
+            if count < fewest {
+                best = k;
+                fewest = count;
+            }
         }
     }
-    if preds.is_empty() { None } else { Some(0) }
+    Some(best)
 }
 
 /// Which codes have a key that meets the comparison.
@@ -75,7 +91,8 @@ fn marks(alloc: Global, dict: &UnsortedDict, pred: &ColumnPred) -> Result<Vec<bo
 
 /// Appends the rows that a probe finds.
 fn scan_all(probe: &Probe<'_>, out: &mut Vec<Found>) -> Result<(), AllocError>
-    ensures { OnOk result (out.new.items ≡ out.old.items ++ found_by probe.now (all_places probe.now.l2.now.rows)) }
+    ensures { OnOk result (out.new.items ≡ out.old.items
+        ++ found_by probe.now (all_places probe.now.l2.now.rows)) }
 {
     for i in 0..probe.l2.len() {
         if probe.finds(i) {

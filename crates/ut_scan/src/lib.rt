@@ -1,7 +1,9 @@
 //! The places of a table's seen rows that meet comparisons, over its stages and their stamps.
 #![tactic(auto)]
 
+mod coded;
 mod delta;
+mod parts;
 mod place;
 mod probe;
 mod rows;
@@ -13,3 +15,6 @@ pub use place::{ColumnPred, Found, Place};
 pub use stages::Stages;
 pub use stamp_table::StampTable;
 pub use table::scan;
+
+#[cfg(test)]
+mod tests;

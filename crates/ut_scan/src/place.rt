@@ -1,13 +1,7 @@
 //! What a scan is asked for, and what it answers.
 
 use ut_key::{Cmp, Key};
-
-/// Where a row stands: its stage, and its place there.
-#[derive(Clone, Copy, Debug, PartialEq, Eq)]
-pub enum Place {
-    L1(u32),
-    L2(u32),
-}
+pub use ut_stamps::Place;
 
 /// A row that was found.
 #[derive(Clone, Copy, Debug, PartialEq, Eq)]

@@ -1,4 +1,4 @@
-//! The test of a row in columns.
+//! The test of a row of L2 or of the closed stage.
 ghost use Rattle.std.specs.Prelude.{◌≡◌, ◌<◌, length, get_or, All};
 ghost use Rattle.ut_stamps.specs.Stamps.{sees as sees_stamp};
 ghost use Rattle.ut_l2.specs.KeyRows.{no_row};
@@ -24,10 +24,32 @@ impl Viewer<'_> {
     }
 }
 
-/// What a row must still meet: to be seen, and the comparisons before and after the one that picked it.
+/// A stage in columns that a merge has not yet reached.
+#[derive(Clone, Copy)]
+pub enum DeltaStage {
+    L2,
+    Closed,
+}
+
+impl DeltaStage {
+    ghost use Rattle.ut_scan.specs.Probes.{place_in};
+
+    fn place(self, i: u32) -> Place
+        ensures { result ≡ place_in self i }
+    {
+        match self {
+            DeltaStage::L2 => Place::L2(i),
+            DeltaStage::Closed => Place::Closed(i),
+        }
+    }
+}
+
+/// What a row must still meet: the comparisons before and after the one that picked it, and to be
+/// seen.
 #[derive(Drop)]
 pub struct Probe<'a> {
     pub viewer: &'a Viewer<'a>,
+    pub stage: DeltaStage,
     pub l2: &'a L2,
     pub stamps: &'a [Stamp],
     pub before: &'a [ColumnPred],
@@ -38,11 +60,12 @@ pub struct Probe<'a> {
 }
 
 impl<'a> Probe<'a> {
-    ghost use Rattle.ut_scan.specs.Probes.{finds, IsRest};
+    ghost use Rattle.ut_scan.specs.Probes.{finds, place_in, IsRest};
 
     /// What is left to meet where comparison k has picked the candidates.
     pub fn around(
         viewer: &'a Viewer<'a>,
+        stage: DeltaStage,
         l2: &'a L2,
         stamps: &'a [Stamp],
         preds: &'a [ColumnPred],
@@ -51,6 +74,7 @@ impl<'a> Probe<'a> {
         requires index { k < length preds.now }
         requires stamped { length stamps.now ≡ length l2.now.rows }
         requires columns { All (λ p. p.column < l2.now.width) preds.now }
+        ensures stage { result.stage ≡ stage }
         ensures rows { result.l2.now ≡ l2.now }
         ensures rest { IsRest viewer.now preds.now k l2.now.rows stamps.now result }
     {
@@ -58,6 +82,7 @@ impl<'a> Probe<'a> {
         let (_, after) = preds.split_at(k + 1);
         Probe {
             viewer,
+            stage,
             l2,
             stamps,
             before,
@@ -70,19 +95,19 @@ impl<'a> Probe<'a> {
         requires { i < length self.now.l2.now.rows }
         ensures { result ≡ finds self.now i }
     {
-        self.viewer.sees(&self.stamps[i as usize])
-            && passes_at(self.l2, self.before, i)
+        passes_at(self.l2, self.before, i)
             && passes_at(self.l2, self.after, i)
+            && self.viewer.sees(&self.stamps[i as usize])
     }
 
     /// The row at a place.
     pub fn found(&self, i: u32) -> Found
         requires { i < length self.now.l2.now.rows }
-        ensures { result ≡ found_at Place.L2 self.now.l2.now.rows i }
+        ensures { result ≡ found_at (place_in self.now.stage) self.now.l2.now.rows i }
     {
         Found {
             id: self.l2.row_id(i),
-            place: Place::L2(i),
+            place: self.stage.place(i),
         }
     }
 }

@@ -1,11 +1,14 @@
 //! The scan of a table.
-ghost use Rattle.std.specs.Prelude.{◌≡◌, ◌<◌, All, IfOk};
+ghost use Rattle.std.specs.Prelude.{◌≡◌, ◌+◌, ◌<◌, ◌≤◌, ◌++◌, All, IfOk, OnOk};
 ghost use Rattle.std.specs.List.Sorted.{IsPermutation, IsNonDecreasingBy};
-ghost use Rattle.ut_scan.specs.StageRows.{asked_for, AreStamped};
+ghost use Rattle.ut_scan.specs.Probes.{found_for};
+ghost use Rattle.ut_scan.specs.StageRows.{asked_for, rows_in, scan_steps, AreStamped};
+ghost use Rattle.ut_scan.specs.StampLists.{if_closed};
 
 use crate::delta::scan_delta;
-use crate::place::{ColumnPred, Found};
-use crate::probe::Viewer;
+use crate::parts::scan_parts;
+use crate::place::{ColumnPred, Found, Place};
+use crate::probe::{DeltaStage, Viewer};
 use crate::rows::scan_rows;
 use crate::stages::Stages;
 use std::alloc::{AllocError, Global};
@@ -25,9 +28,10 @@ pub fn scan<L: Ledger>(
 ) -> Result<Vec<Found>, AllocError>
     requires stamped { AreStamped stages.now }
     requires columns { All (λ p. p.column < stages.now.l2.now.width) preds.now }
-    ensures rows { IfOk result (λ found. IsPermutation (asked_for fates.now snapshot own preds.now stages.now) found.items) }
+    ensures rows { IfOk result (λ found.
+        IsPermutation (asked_for fates.now snapshot own preds.now stages.now) found.items) }
     ensures ascending { IfOk result (λ found. IsNonDecreasingBy (λ f. f.id) found.items) }
-    ensures steps { steps.new ≡ steps.old }
+    ensures steps { steps.new ≤ steps.old + scan_steps stages.now.main.now preds.now }
 {
     let viewer = Viewer {
         fates,
@@ -39,6 +43,7 @@ pub fn scan<L: Ledger>(
         alloc,
         &viewer,
         preds,
+        DeltaStage::L2,
         stages.l2,
         stages.stamps.l2(),
         &mut found,
@@ -50,8 +55,42 @@ pub fn scan<L: Ledger>(
         stages.stamps.l1(),
         &mut found,
     )?;
+    scan_closed(alloc, &viewer, preds, stages, &mut found)?;
+    scan_parts(
+        alloc,
+        &viewer,
+        preds,
+        stages.main,
+        stages.stamps,
+        &mut found,
+        steps,
+    )?;
     order_by_id(found.as_mut_slice());
     Ok(found)
+}
+
+/// Appends the seen rows of the closed stage that meet each comparison, if there is such a stage.
+fn scan_closed(
+    alloc: Global,
+    viewer: &Viewer<'_>,
+    preds: &[ColumnPred],
+    stages: &Stages<'_>,
+    out: &mut Vec<Found>,
+) -> Result<(), AllocError>
+    requires stamped { AreStamped stages.now }
+    requires columns { All (λ p. p.column < stages.now.l2.now.width) preds.now }
+    ensures { let rows = if_closed (rows_in stages.now).closed in
+        let stamps = if_closed stages.now.stamps.now.closed in
+        OnOk result (out.new.items ≡ out.old.items
+        ++ found_for viewer.now preds.now Place.Closed rows stamps) }
+{
+    let Some(l2) = stages.closed else {
+        return Ok(());
+    };
+    let Some(stamps) = stages.stamps.closed() else {
+        return Ok(());
+    };
+    scan_delta(alloc, viewer, preds, DeltaStage::Closed, l2, stamps, out)
 }
 
 /// Orders rows by their ids.

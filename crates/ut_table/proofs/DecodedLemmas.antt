@@ -1,11 +1,11 @@
 -- The values that keys stand for are those whose keys they are.
-use Rattle.std.proofs.Common.{◌≡◌, ℕ, zero, suc, ◌+◌, ◌-◌, ◌<◌, ◌≤◌, ◌^◌, Bool, true, false, cond, List, [], ◌∷◌, length, map, get_or, All, IsTrue, Some, nat_lt, refl, sym, ◌∙◌, ap, arith, ltb-true, true≢false}
+use Rattle.std.proofs.Common.{◌≡◌, ℕ, zero, suc, ◌+◌, ◌-◌, ◌<◌, ◌^◌, Bool, true, false, cond, List, [], ◌∷◌, length, map, get_or, All, IsTrue, Some, nat_lt, refl, sym, ◌∙◌, ap, subst, arith, ltb-true, true≢false}
 use Rattle.std.specs.Prelude.{ℤ, pos, negsuc, slice_get}
 use Rattle.std.specs.List.{list_all}
 use Rattle.std.proofs.lemmas.Bool.{ltb-false}
 use Rattle.std.proofs.lemmas.List.{get_or-map}
 use Rattle.std.proofs.lemmas.Option.{slice_get_within, get_or_from_slice_get}
-use Rattle.std.proofs.lemmas.List.Elements.{All-head, All-tail}
+use Rattle.std.proofs.lemmas.List.Elements.{All-head, All-tail, All-map, All-weaker}
 use Rattle.std.proofs.lemmas.Nat.{from_be_bytes-to_be_bytes_8}
 use Rattle.ut_value.specs.declared.value.Kind.{Kind}
 use Rattle.ut_value.specs.declared.value.Kind.TheVariants as kinds
@@ -17,9 +17,12 @@ use Rattle.ut_value.specs.KeyBytes.{sign_flipped, is_int, key_of, is_of_kind, is
 use Rattle.ut_plain.specs.Tables.{fits_columns}
 use Rattle.ut_plain.proofs.BoolLemmas.{and_left, and_right}
 use Rattle.ut_l2.specs.KeyRows.{KeyRow, keyed, key_at, no_row}
-use Rattle.ut_l2.specs.Delta.{Delta}
 use Rattle.ut_table.specs.Decoded.{sign_restored, decoded, decoded_keys, decoded_row}
-use Rattle.ut_table.specs.Kept.{IsRow, HoldsRow, decoded_rows}
+use Rattle.ut_table.specs.Kept.{IsRow, IsHeld}
+use Rattle.ut_table.specs.Contents.{decoded_rows}
+use Rattle.ut_table.specs.declared.standing.Standing.{Standing}
+use Rattle.ut_table.specs.declared.standing.Standing.TheVariants as standings
+use Rattle.ut_table.specs.Standing.{values_held, Stands}
 
 flipped_below : (x : ℤ) → IsTrue (is_int x) → sign_flipped x < 2 ^ 64
 flipped_below (pos n) h = omega (arith, ltb-true n (2 ^ 63) h)
@@ -83,14 +86,35 @@ decoded-at (d ∷ cs) (k ∷ ks) (suc j) c f h e lt =
     decoded-at cs ks j c (and_right (is_of_kind d.kind (decoded d.kind k)) (fits_columns cs (decoded_keys cs ks)) f) (and_right (is_value (decoded d.kind k)) (list_all is_value (decoded_keys cs ks)) h) rest (omega (arith, lt))
 
 -- a value of a row that is held by its keys
-pub held-at : (columns : List Column) (l2 : Delta) (i j : ℕ) (c : Column) → HoldsRow columns l2 i → j < length columns → IsAt j c columns (get_or l2.rows i no_row).keys
-held-at columns l2 i j c h lt = decoded-at columns (get_or l2.rows i no_row).keys j c h.row.fits h.row.kept (ap (λ (r : KeyRow). r.keys) h.keys) lt
+pub held-value : (columns : List Column) (row : KeyRow) (j : ℕ) (c : Column) → IsHeld columns row → j < length columns → IsAt j c columns row.keys
+held-value columns row j c h lt = decoded-at columns row.keys j c h.fit.fits h.fit.kept (ap (λ (r : KeyRow). r.keys) h.keys) lt
 
-pub held-length : (columns : List Column) (l2 : Delta) (i n : ℕ) → HoldsRow columns l2 i → length columns ≤ n → length (decoded_keys columns (get_or l2.rows i no_row).keys) ≤ n
-held-length columns l2 i n h le = omega (arith, le, fits-length columns (decoded_keys columns (get_or l2.rows i no_row).keys) h.row.fits)
+pub held-width : (columns : List Column) (row : KeyRow) → IsHeld columns row → length (decoded_keys columns row.keys) ≡ length columns
+held-width columns row h = fits-length columns (decoded_keys columns row.keys) h.fit.fits
 
 -- the key of a value of such a row
-pub held-key : (columns : List Column) (l2 : Delta) (i j : ℕ) (v : Value) → HoldsRow columns l2 i → slice_get (decoded_keys columns (get_or l2.rows i no_row).keys) j ≡ Some v → key_at j (get_or l2.rows i no_row) ≡ key_of v
-held-key columns l2 i j v h e =
-    let vs = decoded_keys columns (get_or l2.rows i no_row).keys in
+pub held-key : (columns : List Column) (row : KeyRow) (j : ℕ) (v : Value) → IsHeld columns row → slice_get (decoded_keys columns row.keys) j ≡ Some v → key_at j row ≡ key_of v
+held-key columns row j v h e =
+    let vs = decoded_keys columns row.keys in
     ap (key_at j) (sym h.keys) ∙ get_or-map key_of vs j v [] (slice_get_within vs j v e) ∙ ap key_of (get_or_from_slice_get vs j v v e)
+
+-- a row that fits is held by its keys
+pub IsHeld-keyed : (columns : List Column) (row : Row) → IsRow columns row → IsHeld columns (keyed row)
+IsHeld-keyed columns row h =
+    let same = decoded_row-keyed columns row h in
+    record { fit = subst (IsRow columns) (sym same) h; keys = ap keyed same }
+
+pub All-keyed : (columns : List Column) (rows : List Row) → All (IsRow columns) rows → All (IsHeld columns) (map keyed rows)
+All-keyed columns rows h = All-map (IsHeld columns) keyed rows (All-weaker (IsRow columns) (λ r. IsHeld columns (keyed r)) (IsHeld-keyed columns) rows h)
+
+-- rows of keys come back from the rows that they stand for
+pub keyed-decoded : (columns : List Column) (rows : List KeyRow) → All (IsHeld columns) rows → map keyed (decoded_rows columns rows) ≡ rows
+keyed-decoded columns [] h = refl
+keyed-decoded columns (row ∷ rows) h = λ i. (All-head (IsHeld columns) row rows h).keys i ∷ keyed-decoded columns rows (All-tail (IsHeld columns) row rows h) i
+
+-- ---- a row as its stage holds it
+
+pub stands-length : (columns : List Column) (standing : Standing) → Stands columns standing → length (values_held columns standing) ≡ length columns
+stands-length columns (standings.Row row) h = fits-length columns row.now.values h.fits
+stands-length columns (standings.Delta l2 i) h = held-width columns (get_or l2.now.rows i no_row) h.held
+stands-length columns (standings.Part part i) h = held-width columns (get_or part.now.rows i no_row) h.held

@@ -5,11 +5,11 @@ use Rattle.ut_plain.specs.declared.table.Stored.{Stored}
 use Rattle.ut_plain.specs.Condition.{meets}
 use Rattle.ut_stamps.specs.declared.fates.Fate.{Fate}
 use Rattle.ut_stamps.specs.Stamps.{sees}
-use Rattle.ut_scan.specs.declared.place.Place.{Place}
+use Rattle.ut_stamps.specs.declared.place.Place.{Place}
 use Rattle.ut_scan.specs.declared.place.Found.{Found}
 use Rattle.ut_exact.specs.Places.{StagedRow}
 use Rattle.ut_exact.specs.Scan.{IsScan, stored_in}
-use Rattle.ut_table.specs.Staged.{Staged, row_at}
+use Rattle.ut_staged.specs.Staged.{Staged, row_at}
 
 -- no two places hold a seen row of one id
 pub record SeenOnce (s : Staged) (fates : List Fate) (snapshot : ℕ) (own : Option ℕ) : Type 0 where

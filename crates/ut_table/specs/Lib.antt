@@ -1,5 +1,11 @@
-pub mod Staged
 pub mod Finds
 pub mod Decoded
+pub mod Contents
 pub mod Kept
+pub mod Standing
+pub mod Pending
+pub mod Places
+pub mod Flags
+pub mod Lent
 pub mod Compiled
+pub mod Numbered

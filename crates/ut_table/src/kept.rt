@@ -20,8 +20,8 @@ pub fn rows_keep_rules(rows: &[Row])
 /// Stamps of so many rows of the second stage that a transaction begins. Takes no memory.
 pub fn begin_all(stamps: &mut StampTable, n: u32, t: u64)
     requires { n ≤ stamps.old.l2.room }
-    ensures l1 { stamps.new.l1 ≡ stamps.old.l1 }
     ensures l2 { stamps.new.l2.items ≡ stamps.old.l2.items ++ replicate n (record { begin = t; end = None }) }
+    ensures others { stamps.new ≡ record stamps.old { l2 = stamps.new.l2 } }
 {
     for _ in 0..n {
         stamps.push_l2(Stamp {

@@ -2,10 +2,18 @@
 #![tactic(auto)]
 
 mod compiled;
+mod flags;
 mod kept;
+mod merging;
+mod pending;
+mod reading;
+mod scanning;
+mod shared;
+mod sizes;
+mod standing;
 mod table;
-#[cfg(test)]
-mod tests;
-mod values;
 
 pub use table::Table;
+
+#[cfg(test)]
+mod tests;

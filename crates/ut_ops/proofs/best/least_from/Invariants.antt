@@ -1,7 +1,7 @@
 use Rattle.std.proofs.Common.{◌≡◌, drop, map, IsTrue}
 use Rattle.std.specs.Ordering.{is_lt}
 use Rattle.ut_plain.specs.Query.{best_from}
-use Rattle.ut_table.specs.Staged.{row_at}
+use Rattle.ut_staged.specs.Staged.{row_at}
 use Rattle.ut_ops.specs.Fit.{cell, is_row}
 use Rattle.ut_ops.proofs.best.least_from.Given as goal
 

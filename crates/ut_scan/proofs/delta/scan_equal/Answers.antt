@@ -3,9 +3,8 @@ use Rattle.std.proofs.lemmas.List.{length-map}
 use Rattle.ut_key.specs.Keys.{meets}
 use Rattle.ut_unsorted.specs.FirstSeen.{key_eq}
 use Rattle.ut_l2.specs.KeyRows.{cells_at, key_at, no_row}
-use Rattle.ut_scan.specs.declared.place.Place.TheVariants.{L2}
 use Rattle.ut_scan.specs.Finds.{found_at, meets_at}
-use Rattle.ut_scan.specs.Probes.{finds}
+use Rattle.ut_scan.specs.Probes.{finds, place_in}
 use Rattle.ut_scan.proofs.PickLemmas.{picked-cells, meets-Eq, places-within}
 use Rattle.ut_scan.proofs.delta.scan_equal.Goals as goal
 
@@ -28,6 +27,6 @@ returns c =
     ap (λ op. meets op pred.key (key_at pred.column (get_or rows i no_row)) && rest i) c.requires.equality
     ∙ ap (λ b. b && rest i) (meets-Eq pred.key (key_at pred.column (get_or rows i no_row)))
     ∙ ap (λ k. key_eq k (key_at pred.column (get_or rows i no_row)) && rest i) (sym c.as_slice.ensures.bytes) in
-    subst (λ l. OnOk c.scan_places.result (c.scan_places.new.out.items ≡ c.args.out.now.items ++ map (found_at L2 rows) l))
+    subst (λ l. OnOk c.scan_places.result (c.scan_places.new.out.items ≡ c.args.out.now.items ++ map (found_at (place_in c.args.probe.now.stage) rows) l))
     (ap (filter rest) c.places-places.ensures ∙ picked-cells test rest rows pred.column (key_eq key) tells)
     c.scan_places.ensures

@@ -3,9 +3,8 @@ use Rattle.std.proofs.lemmas.List.{length-map, get_or-map}
 use Rattle.ut_key.specs.Keys.{meets}
 use Rattle.ut_unsorted.specs.FirstSeen.{first_seen}
 use Rattle.ut_l2.specs.KeyRows.{cells_at, key_at, no_row}
-use Rattle.ut_scan.specs.declared.place.Place.TheVariants.{L2}
 use Rattle.ut_scan.specs.Finds.{found_at, meets_at}
-use Rattle.ut_scan.specs.Probes.{finds}
+use Rattle.ut_scan.specs.Probes.{finds, place_in}
 use Rattle.ut_scan.proofs.FindLemmas.{one-found, none-found}
 use Rattle.ut_scan.proofs.PickLemmas.{marked}
 use Rattle.ut_scan.proofs.delta.scan_marked.Goals as goal
@@ -16,7 +15,7 @@ loop-i-preserved c =
     let rows = c.args.probe.now.l2.now.rows in
     let pred = c.args.pred.now in
     let rest = finds c.args.probe.now in
-    let found = found_at L2 rows in
+    let found = found_at (place_in c.args.probe.now.stage) rows in
     let test = λ (i : ℕ). meets_at pred rows i && rest i in
     let i = c.loop-i.i in
     let codes = c.codes-codes.result.now in

@@ -3,7 +3,7 @@ use Rattle.std.proofs.lemmas.List.{get_or-map}
 use Rattle.ut_stamps.specs.Stamps.{sees}
 use Rattle.ut_l2.specs.KeyRows.{keyed, no_row, KeyRow}
 use Rattle.ut_scan.specs.declared.place.Found.{Found}
-use Rattle.ut_scan.specs.declared.place.Place.TheVariants.{L1}
+use Rattle.ut_stamps.specs.declared.place.Place.TheVariants.{L1}
 use Rattle.ut_scan.specs.Finds.{passes, found_at, is_hit}
 use Rattle.ut_scan.specs.StampLists.{no_stamp}
 use Rattle.ut_scan.proofs.FindLemmas.{one-found, none-found}

@@ -1,7 +1,7 @@
 use Rattle.std.proofs.Common.{◌≡◌, ◌++◌, map, filter}
 use Rattle.std.specs.List.{range_with_len}
 use Rattle.ut_l2.specs.KeyRows.{keyed}
-use Rattle.ut_scan.specs.declared.place.Place.TheVariants.{L1}
+use Rattle.ut_stamps.specs.declared.place.Place.TheVariants.{L1}
 use Rattle.ut_scan.specs.Finds.{found_at, is_hit}
 use Rattle.ut_scan.proofs.rows.scan_rows.Given as goal
 

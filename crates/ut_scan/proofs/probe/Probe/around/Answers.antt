@@ -15,5 +15,5 @@ returns-clause-rest c = λ pred i.
     let m = meets_at (get_or preds c.args.k pred) rows i in
     let e : suc c.args.k ≡ c.args.k + 1 = omega arith in
     passes-around preds c.args.k pred row s c.requires.index
-    ∙ ap (λ l. m && ((s && passes l row) && passes (drop (suc c.args.k) preds) row)) (sym c.split_at.ensures.front)
-    ∙ ap (λ l. m && ((s && passes c.split_at.result.0.now row) && passes l row)) (ap (λ n. drop n preds) e ∙ sym c.split_at-2.ensures.back)
+    ∙ ap (λ l. m && ((passes l row && passes (drop (suc c.args.k) preds) row) && s)) (sym c.split_at.ensures.front)
+    ∙ ap (λ l. m && ((passes c.split_at.result.0.now row && passes l row) && s)) (ap (λ n. drop n preds) e ∙ sym c.split_at-2.ensures.back)

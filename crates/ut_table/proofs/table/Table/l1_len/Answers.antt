@@ -1,5 +1,5 @@
 use Rattle.std.proofs.Common.{◌∙◌, ap}
-use Rattle.ut_table.specs.Staged.{TableValue}
+use Rattle.ut_table.specs.Contents.{TableValue}
 use Rattle.ut_table.proofs.ReadLemmas.{l1-count, few-staged}
 use Rattle.ut_table.proofs.table.Table.l1_len.Goals as goal
 

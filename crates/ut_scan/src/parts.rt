@@ -1,0 +1,213 @@
+//! A scan of main's parts, by codes.
+ghost use Rattle.std.specs.Prelude.{◌≡◌, ℕ, ◌+◌, ◌<◌, ◌≤◌, ◌++◌, false, length, filter, All, IsTrue, OnOk};
+ghost use Rattle.ut_bits.specs.Places.{is_in as is_in_ranges};
+ghost use Rattle.ut_scan.specs.Coded.{code_at, codes_in, held_places, is_held, is_held_at, seen_at};
+ghost use Rattle.ut_scan.specs.Finds.{all_places, found_at};
+ghost use Rattle.ut_scan.specs.Probes.{found_in_main, is_seen};
+ghost use Rattle.ut_scan.specs.StageRows.{scan_steps, AreStampedParts};
+
+use crate::coded::{CodedPred, below, coded_preds};
+use crate::place::{ColumnPred, Found, Place};
+use crate::probe::Viewer;
+use crate::stamp_table::StampTable;
+use std::alloc::{AllocError, Global};
+use std::sync::ledger::Ledger;
+use ut_bits::is_in;
+use ut_codes::CodeVec;
+use ut_key::{CodeRange, Steps};
+use ut_main::{Main, Part};
+use ut_stamps::Stamp;
+
+/// A part of main with its number and its stamps, and what its rows must meet.
+#[derive(Drop)]
+pub struct PartProbe<'a> {
+    pub viewer: &'a Viewer<'a>,
+    pub coded: &'a [CodedPred],
+    pub number: u8,
+    pub part: &'a Part,
+    pub stamps: &'a [Stamp],
+    ghost stamped: { length stamps.now ≡ length part.now.rows },
+    ghost columns: { All (λ c. c.column < length part.now.before) coded.now },
+}
+
+/// Appends the seen rows of main that meet each comparison.
+pub fn scan_parts<L: Ledger>(
+    alloc: Global,
+    viewer: &Viewer<'_>,
+    preds: &[ColumnPred],
+    main: &Main,
+    stamps: &StampTable,
+    out: &mut Vec<Found>,
+    steps: &mut Steps<L>,
+) -> Result<(), AllocError>
+    requires columns { All (λ p. p.column < main.now.width) preds.now }
+    requires stamped { AreStampedParts main.now.parts stamps.now.parts }
+    ensures rows { OnOk result (out.new.items ≡ out.old.items
+        ++ found_in_main viewer.now preds.now main.now.parts stamps.now.parts) }
+    ensures cost { steps.new ≤ steps.old + scan_steps main.now preds.now }
+{
+    if main.parts() == 0 {
+        return Ok(());
+    }
+    let coded = coded_preds(alloc, main, preds, steps)?;
+    let mut places = Vec::new(alloc);
+    for number in 0..main.parts() {
+        let part = main.part(number);
+        let stamps = stamps.part(number);
+        scan_part(
+            viewer,
+            coded.as_slice(),
+            number,
+            part,
+            stamps,
+            &mut places,
+            out,
+        )?;
+    }
+    Ok(())
+}
+
+/// Appends the part's seen rows that meet each comparison. The places are those of an earlier part.
+fn scan_part(
+    viewer: &Viewer<'_>,
+    coded: &[CodedPred],
+    number: u8,
+    part: &Part,
+    stamps: &[Stamp],
+    places: &mut Vec<u32>,
+    out: &mut Vec<Found>,
+) -> Result<(), AllocError>
+    requires stamped { length stamps.now ≡ length part.now.rows }
+    requires columns { All (λ c. c.column < length part.now.before) coded.now }
+    ensures { let held = held_places coded.now part.now in
+        OnOk result (out.new.items ≡ out.old.items
+        ++ seen_at viewer.now number part.now.rows stamps.now held) }
+{
+    let probe = PartProbe {
+        viewer,
+        coded,
+        number,
+        part,
+        stamps,
+    };
+    if coded.is_empty() {
+        return probe.append_all(out);
+    }
+    probe.pick(places)?;
+    probe.append_places(places.as_slice(), out)
+}
+
+impl PartProbe<'_> {
+    /// Finds the places whose codes meet each comparison.
+    fn pick(&self, places: &mut Vec<u32>) -> Result<(), AllocError>
+        requires { 0 < length self.now.coded.now }
+        ensures { OnOk result (
+            places.new.items ≡ held_places self.now.coded.now self.now.part.now) }
+    {
+        places.clear();
+        if self.is_out() {
+            return Ok(());
+        }
+        let first = &self.coded[0];
+        self.codes(first).places_in(self.ranges(first), places)?;
+        for k in 1..self.coded.len() {
+            let pred = &self.coded[k];
+            keep(self.codes(pred), self.ranges(pred), places);
+        }
+        Ok(())
+    }
+
+    /// Whether no code of the part meets one of the comparisons.
+    fn is_out(&self) -> bool
+        ensures { let part = self.now.part.now in let coded = self.now.coded.now in
+            IsTrue result → (i : ℕ) → i < length part.rows → is_held coded part i ≡ false }
+    {
+        for pred in self.coded {
+            if self.ranges(pred).is_empty() {
+                return true;
+            }
+        }
+        false
+    }
+
+    /// The codes of a comparison's column.
+    fn codes(&self, pred: &CodedPred) -> &CodeVec
+        requires { pred.now.column < length self.now.part.now.before }
+        ensures { result.now ≡ codes_in self.now.part.now pred.now.column }
+    {
+        self.part.codes(pred.column)
+    }
+
+    /// Those of a comparison's ranges that the part's codes may stand in: none of the keys that
+    /// only later parts have.
+    fn ranges<'p>(&self, pred: &'p CodedPred) -> &'p [CodeRange]
+        requires { pred.now.column < length self.now.part.now.before }
+        ensures { let part = self.now.part.now in let column = pred.now.column in
+            (i : ℕ) → i < length part.rows
+            → is_in_ranges result.now (code_at part i column)
+            ≡ is_in_ranges pred.now.ranges.items (code_at part i column) }
+    {
+        below(pred.ranges.as_slice(), self.codes(pred).reach())
+    }
+
+    /// Appends all rows that are seen.
+    fn append_all(&self, out: &mut Vec<Found>) -> Result<(), AllocError>
+        ensures { let p = self.now in let rows = p.part.now.rows in
+            OnOk result (out.new.items ≡ out.old.items
+            ++ seen_at p.viewer.now p.number rows p.stamps.now (all_places rows)) }
+    {
+        for i in 0..self.part.len() {
+            if self.sees(i) {
+                out.push(self.found(i))?;
+            }
+        }
+        Ok(())
+    }
+
+    /// Appends the rows at the places that are seen.
+    fn append_places(&self, places: &[u32], out: &mut Vec<Found>) -> Result<(), AllocError>
+        requires { All (λ i. i < length self.now.part.now.rows) places.now }
+        ensures { let p = self.now in OnOk result (out.new.items ≡ out.old.items
+            ++ seen_at p.viewer.now p.number p.part.now.rows p.stamps.now places.now) }
+    {
+        for place in places {
+            let i = *place;
+            if self.sees(i) {
+                out.push(self.found(i))?;
+            }
+        }
+        Ok(())
+    }
+
+    fn sees(&self, i: u32) -> bool
+        requires { i < length self.now.part.now.rows }
+        ensures { result ≡ is_seen self.now.viewer.now self.now.stamps.now i }
+    {
+        self.viewer.sees(&self.stamps[i as usize])
+    }
+
+    /// The row at a place.
+    fn found(&self, i: u32) -> Found
+        requires { i < length self.now.part.now.rows }
+        ensures { result ≡ found_at (Place.Main self.now.number) self.now.part.now.rows i }
+    {
+        Found {
+            id: self.part.row_id(i),
+            place: Place::Main(self.number, i),
+        }
+    }
+}
+
+/// Keeps the places whose code stands in one of the ranges.
+fn keep(codes: &CodeVec, ranges: &[CodeRange], places: &mut Vec<u32>)
+    ensures { places.new.items ≡ filter (is_held_at codes.now.codes ranges.now) places.old.items }
+{
+    places.retain(|place| is_held(codes, ranges, *place));
+}
+
+/// Whether there is such a place, and its code stands in one of the ranges.
+fn is_held(codes: &CodeVec, ranges: &[CodeRange], i: u32) -> bool
+    ensures { result ≡ is_held_at codes.now.codes ranges.now i }
+{
+    i < codes.len() && is_in(codes.get(i), ranges)
+}

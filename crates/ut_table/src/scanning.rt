@@ -1,0 +1,44 @@
+//! The scan of a table.
+ghost use Rattle.std.specs.Prelude.{◌≡◌, IsTrue, IfOk};
+ghost use Rattle.ut_plain.specs.Names.{preds_known};
+ghost use Rattle.ut_plain.specs.Kinds.{preds_fit};
+ghost use Rattle.ut_table.specs.Finds.{SeenOnce, Finds};
+
+use crate::compiled::{compiled, counted_scan, preds_keep_rules};
+use crate::table::Table;
+use std::alloc::{AllocError, Global};
+use std::marker::Brand;
+use std::sync::ledger::Blank;
+use ut_plain::Pred;
+use ut_scan::{Found, Stages};
+use ut_stamps::Fates;
+
+impl Table {
+    /// The seen rows that meet each comparison, by ascending id.
+    pub fn scan(
+        &self,
+        alloc: Global,
+        fates: &Fates,
+        snapshot: u32,
+        own: Option<u64>,
+        preds: &[Pred],
+    ) -> Result<Vec<Found>, AllocError>
+        requires known { IsTrue (preds_known preds.now self.now.stages.columns) }
+        requires fit { IsTrue (preds_fit self.now.stages.columns preds.now) }
+        requires once { SeenOnce self.now.stages fates.now snapshot own }
+        ensures { IfOk result (λ found. Finds self.now.stages fates.now snapshot own preds.now found.items) }
+    {
+        preds_keep_rules(preds);
+        let compiled = compiled(alloc, self.columns.as_slice(), preds)?;
+        let stages = self.stages();
+        counted_scan::<Brand>(
+            alloc,
+            &stages,
+            fates,
+            snapshot,
+            own,
+            compiled.as_slice(),
+            Blank::new(1),
+        )
+    }
+}
