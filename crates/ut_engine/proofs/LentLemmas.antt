@@ -4,9 +4,9 @@ use Rattle.ut_outside.specs.Disk.{View}
 use Rattle.ut_plain.specs.declared.statement.Statement.{Statement}
 use Rattle.ut_plain.specs.declared.reply.Reply.{Reply}
 use Rattle.ut_plain.specs.Plain.{Plain, new_store, no_savepoint}
-use Rattle.ut_logged.specs.Logged.{Logged}
-use Rattle.ut_logged.specs.Runs.{Runs, IsNew, Opens}
-use Rattle.ut_logged.specs.Serves.{Serves, IsAnswered, IsLost}
+use Rattle.ut_engine.specs.Logged.{Logged}
+use Rattle.ut_engine.specs.Runs.{Runs, IsNew, Opens}
+use Rattle.ut_engine.specs.Serves.{Serves, IsAnswered, IsLost}
 
 pub goes_on : (old new : Logged) (before after : View) (session : ℕ) (st : Statement) (reply : Reply) (p : Plain) → Runs old before p → Serves old before session st reply new after → new.down ≡ false → (q : Plain) × Runs new after q
 goes_on old new before after session st reply p runs serves up = by_case (serves.each p runs)

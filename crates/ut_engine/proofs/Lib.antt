@@ -1,3 +1,9 @@
+pub mod JournalLemmas
+pub mod ReplyLemmas
+pub mod RunsLemmas
+pub mod FileLemmas
+pub mod RowsLemmas
 pub mod LentLemmas
 pub mod StagingLemmas
-pub mod ReadingLemmas
+pub mod TableLemmas
+pub mod MergingLemmas

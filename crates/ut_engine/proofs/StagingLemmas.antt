@@ -18,18 +18,18 @@ use Rattle.ut_plain.specs.declared.stage.PendingMerge.{PendingMerge}
 use Rattle.ut_plain.specs.Refusals.{state_why, merge_why, save_why, unless, or_else, refusal}
 use Rattle.ut_plain.specs.Step.{step, step_by, may_lack_memory, writes_savepoint, MayFault, MayAnswer, Steps, LacksMemory}
 use Rattle.ut_plain.specs.View as views
-use Rattle.ut_logged.specs.Logged.{Logged}
-use Rattle.ut_logged.specs.Readings.{HoldsPrefix}
-use Rattle.ut_logged.specs.Runs.{Runs}
-use Rattle.ut_logged.specs.Serves.{Serves, IsAnswered, IsLost}
-use Rattle.ut_logged.proofs.RunsLemmas.{holds_all}
+use Rattle.ut_engine.specs.Logged.{Logged}
+use Rattle.ut_engine.specs.Files.{HoldsPrefix}
+use Rattle.ut_engine.specs.Runs.{Runs}
+use Rattle.ut_engine.specs.Serves.{Serves, IsAnswered, IsLost}
+use Rattle.ut_engine.proofs.RunsLemmas.{holds_all}
 use Rattle.ut_engine.specs.declared.error.L1Error.{L1Error}
 use Rattle.ut_engine.specs.declared.error.L1Error.TheVariants as errors
 use Rattle.ut_engine.specs.Staging.{merge_reply, shape_reply, is_merge_reply, is_shape_reply, table_meant, may_tell}
 
 -- ---- what the plain store answers
 
-or_none : (a : Option Refusal) → or_else a None ≡ a
+pub or_none : (a : Option Refusal) → or_else a None ≡ a
 or_none None = refl
 or_none (Some why) = refl
 

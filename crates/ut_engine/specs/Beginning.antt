@@ -6,12 +6,12 @@ use Rattle.ut_outside.specs.Faults.{Rose}
 use Rattle.ut_outside.specs.Run.{Always, LeavesOnly, ReadsOnly}
 use Rattle.ut_pages.specs.Layout.{IsMade}
 use Rattle.ut_plain.specs.Journal.{Journal}
-use Rattle.ut_logged.specs.declared.error.OpenError.{OpenError}
-use Rattle.ut_logged.specs.declared.error.OpenError.TheVariants as errors
-use Rattle.ut_logged.specs.Logged.{Logged}
-use Rattle.ut_logged.specs.Readings.{HoldsJournal}
-use Rattle.ut_logged.specs.Opening.{MayOnlyRead}
-use Rattle.ut_logged.specs.Runs.{IsNew, Opens, NotMadeOrEmpty}
+use Rattle.ut_engine.specs.declared.error.OpenError.{OpenError}
+use Rattle.ut_engine.specs.declared.error.OpenError.TheVariants as errors
+use Rattle.ut_engine.specs.Logged.{Logged}
+use Rattle.ut_engine.specs.Files.{HoldsJournal}
+use Rattle.ut_engine.specs.Opening.{MayOnlyRead}
+use Rattle.ut_engine.specs.Runs.{IsNew, Opens, NotMadeOrEmpty}
 use Rattle.ut_engine.specs.declared.unopened.Unopened.{Unopened}
 use Rattle.ut_engine.specs.Lent.{Lent}
 

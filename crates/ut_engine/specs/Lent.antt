@@ -1,6 +1,6 @@
 -- A store and the disk that it is lent.
 use base.Fml.{GName}
-use Rattle.ut_logged.specs.Logged.{Logged}
+use Rattle.ut_engine.specs.Logged.{Logged}
 
 pub record Lent (D : Type 0) : Type 0 where
   -- what the disk is now

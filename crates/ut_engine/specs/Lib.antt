@@ -1,4 +1,11 @@
+pub mod Files
+pub mod Logged
+pub mod Opening
+pub mod Runs
+pub mod Serves
+pub mod Handing
 pub mod Lent
 pub mod Beginning
-pub mod Reading
+pub mod Tables
 pub mod Staging
+pub mod Merging

@@ -1,5 +1,5 @@
 -- What the operator asks of the stages of a table, and which answer tells which reply.
-use Rattle.std.specs.Prelude.{ℕ, Bool, true, false, not, List, [], Option, None, Some, Result, Ok, Err}
+use Rattle.std.specs.Prelude.{ℕ, Bool, true, false, not, List, Option, None, Some, Result, Ok, Err}
 use Rattle.ut_plain.specs.declared.statement.Statement.{Statement}
 use Rattle.ut_plain.specs.declared.statement.Statement.TheVariants as statements
 use Rattle.ut_plain.specs.declared.reply.Shape.{Shape}

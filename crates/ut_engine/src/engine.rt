@@ -1,16 +1,14 @@
 //! The store and the disk that it is lent.
 ghost use Rattle.std.specs.Prelude.{◌≡◌, ◌<◌, ◌≤◌, ◌^◌, false, IsTrue};
-ghost use Rattle.ut_plain.specs.Plain.{Plain};
 ghost use Rattle.ut_plain.specs.Spelled.{is_spelled};
 ghost use Rattle.ut_store.specs.Standing.{suits_session};
-ghost use Rattle.ut_logged.specs.Runs.{Runs};
-ghost use Rattle.ut_logged.specs.Serves.{Serves};
+ghost use Rattle.ut_engine.specs.Serves.{Serves};
 ghost use Rattle.ut_engine.specs.Beginning.{disk_left, loan_left, store_or_cause, Makes, Reopens};
 
+use crate::logged::LoggedStore;
 use crate::unopened::Unopened;
 use std::alloc::Global;
 use std::marker::Model;
-use ut_logged::LoggedStore;
 use ut_outside::Disk;
 use ut_plain::{Reply, Statement};
 
@@ -24,7 +22,7 @@ pub struct Engine<'d, D: Disk> {
 impl<'d, D: Disk> Model for Engine<'d, D> {
     ghost use Rattle.std.specs.Prelude.{◌≡◌, false};
     ghost use Rattle.ut_plain.specs.Plain.{Plain};
-    ghost use Rattle.ut_logged.specs.Runs.{Runs};
+    ghost use Rattle.ut_engine.specs.Runs.{Runs};
     ghost use Rattle.ut_engine.specs.Lent.{Lent};
 
     ghost Value = { Lent D };
@@ -59,14 +57,6 @@ impl<'d, D: Disk> Engine<'d, D> {
             Ok(store) => Ok(Engine { disk, store }),
             Err(cause) => Err(Unopened { cause, disk }),
         }
-    }
-
-    /// The store over its disk, that of the call which made or opened it.
-    pub fn over(disk: &'d mut D, store: LoggedStore) -> Engine<'d, D>
-        requires runs { store.down ≡ false → (p : Plain) × Runs store (D.view disk.old) p }
-        ensures { result ≡ record { disk = disk.old; loan = disk.entry.ghost_name; store = store } }
-    {
-        Engine { disk, store }
     }
 
     /// Answers a statement of a session: a change only once its entry is on the disk. A commit and an abort take no memory.

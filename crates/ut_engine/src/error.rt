@@ -1,9 +1,69 @@
-//! Why no row was moved from a first stage to a second.
+//! Why a store could not be made or opened, why no row was moved from a first stage to a second, and why no merge began.
 ghost use Rattle.std.specs.Prelude.{◌≡◌};
-ghost use Rattle.ut_engine.specs.declared.error.L1Error.TheVariants.{Memory};
+ghost use Rattle.ut_engine.specs.Opening.{of_redo, of_restart};
+ghost use Rattle.ut_engine.specs.declared.error.OpenError.TheVariants.{Disk as DiskFault, Memory};
+ghost use Rattle.ut_engine.specs.declared.error.L1Error.TheVariants.{Memory as L1Memory};
+ghost use Rattle.ut_engine.specs.declared.error.BeginError.TheVariants.{Memory as BeginMemory};
 
 use std::alloc::AllocError;
 use thiserror::Error;
+use ut_outside::Failed;
+use ut_redo::RedoError;
+use ut_restart::RestartError;
+
+/// Why a store could not be made or opened.
+#[derive(Clone, Copy, Debug, PartialEq, Eq, Error)]
+pub enum OpenError {
+    #[error("the store is made")]
+    Made,
+    #[error("there is no store")]
+    NotMade,
+    #[error("the store is damaged")]
+    Damaged,
+    #[error("the disk failed")]
+    Disk,
+    #[error("out of memory")]
+    Memory,
+}
+
+impl From<Failed> for OpenError {
+    ghost from_gives = { λ _ e. e ≡ DiskFault };
+
+    fn from(_: Failed) -> Self {
+        OpenError::Disk
+    }
+}
+
+impl From<AllocError> for OpenError {
+    ghost from_gives = { λ _ e. e ≡ Memory };
+
+    fn from(_: AllocError) -> Self {
+        OpenError::Memory
+    }
+}
+
+impl From<RedoError> for OpenError {
+    ghost from_gives = { λ x e. e ≡ of_redo x };
+
+    fn from(error: RedoError) -> Self {
+        match error {
+            RedoError::Damaged => OpenError::Damaged,
+            RedoError::Disk => OpenError::Disk,
+            RedoError::Memory => OpenError::Memory,
+        }
+    }
+}
+
+impl From<RestartError> for OpenError {
+    ghost from_gives = { λ x e. e ≡ of_restart x };
+
+    fn from(error: RestartError) -> Self {
+        match error {
+            RestartError::Damaged => OpenError::Damaged,
+            RestartError::Memory => OpenError::Memory,
+        }
+    }
+}
 
 /// Why no row was moved from a first stage to a second.
 #[derive(Clone, Copy, Debug, PartialEq, Eq, Error)]
@@ -15,9 +75,32 @@ pub enum L1Error {
 }
 
 impl From<AllocError> for L1Error {
-    ghost from_gives = { λ _ e. e ≡ Memory };
+    ghost from_gives = { λ _ e. e ≡ L1Memory };
 
     fn from(_: AllocError) -> Self {
         L1Error::Memory
+    }
+}
+
+/// Why no merge into main began. `Busy` has the number of the merge that is pending.
+#[derive(Clone, Copy, Debug, PartialEq, Eq, Error)]
+pub enum BeginError {
+    #[error("there is no such table")]
+    Name,
+    #[error("merge {0} has not ended")]
+    Busy(u32),
+    #[error("there is no room for a merge")]
+    Full,
+    #[error("out of memory")]
+    Memory,
+    #[error("the disk failed")]
+    Disk,
+}
+
+impl From<AllocError> for BeginError {
+    ghost from_gives = { λ _ e. e ≡ BeginMemory };
+
+    fn from(_: AllocError) -> Self {
+        BeginError::Memory
     }
 }

@@ -1,8 +1,10 @@
-//! A store that serves over a disk which it is lent.
+//! The store behind its redo log, over a disk which it is lent: made, opened, and never ahead of its files.
 #![tactic(auto)]
 
 mod engine;
 mod error;
+mod logged;
+mod merges;
 mod readers;
 mod stages;
 #[cfg(test)]
@@ -10,5 +12,5 @@ mod tests;
 mod unopened;
 
 pub use engine::{Engine, engine_is_sent};
-pub use error::L1Error;
+pub use error::{BeginError, L1Error, OpenError};
 pub use unopened::Unopened;

@@ -2,7 +2,7 @@
 ghost use Rattle.std.specs.Prelude.{◌≡◌, ◌<◌, false, IfOk, is_some, length};
 ghost use Rattle.ut_plain.specs.Names.{has_table};
 ghost use Rattle.ut_store.specs.Listed.{Lists};
-ghost use Rattle.ut_engine.specs.Reading.{IsTableCount, IsTableName, IsL1Length, IsL2Length};
+ghost use Rattle.ut_engine.specs.Tables.{IsTableCount, IsTableName, IsL1Length, IsL2Length};
 
 use crate::engine::Engine;
 use std::alloc::{AllocError, Global};

@@ -4,7 +4,7 @@ ghost use Rattle.ut_plain.specs.declared.statement.Statement.TheVariants as stat
 ghost use Rattle.ut_plain.specs.Names.{has_table};
 ghost use Rattle.ut_plain.specs.Spelled.{is_spelled};
 ghost use Rattle.ut_value.specs.Text.{is_name};
-ghost use Rattle.ut_logged.specs.Serves.{Serves};
+ghost use Rattle.ut_engine.specs.Serves.{Serves};
 ghost use Rattle.ut_engine.specs.Staging.{merge_reply, shape_reply, is_merge_reply, is_shape_reply, table_meant, may_tell};
 
 use crate::engine::Engine;
@@ -15,7 +15,7 @@ use ut_plain::{Refusal, Reply, Shape, Statement};
 use ut_value::Name;
 
 /// The operator's session, which never has a transaction.
-const OPERATOR: u8 = 0;
+pub(crate) const OPERATOR: u8 = 0;
 
 impl<'d, D: Disk> Engine<'d, D> {
     /// Moves the first n rows of a table's first stage to its second, or all where there are fewer, and says how many it moved.
@@ -63,7 +63,7 @@ impl<'d, D: Disk> Engine<'d, D> {
 }
 
 // A copy of a name, which keeps the rule of names.
-fn copied(alloc: Global, name: &Name) -> Result<Name, AllocError>
+pub(crate) fn copied(alloc: Global, name: &Name) -> Result<Name, AllocError>
     ensures copy { IfOk result (λ copy. copy ≡ name.now) }
     ensures rule { IsTrue (is_name name.now) }
 {

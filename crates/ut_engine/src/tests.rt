@@ -4,14 +4,13 @@ ghost use Rattle.ut_outside.specs.Faults.{Rose};
 ghost use Rattle.ut_value.specs.Text.{is_name};
 ghost use Rattle.ut_plain.specs.Spelled.{is_spelled};
 
-use crate::{Engine, L1Error};
+use crate::{BeginError, Engine, L1Error, OpenError};
 use std::alloc::{AllocError, Global};
 use std::process::Abort;
 use std::test::Fail;
-use ut_logged::OpenError;
 use ut_outside::{Disk, MemDisk, Which};
 use ut_plain::{Reply, Statement};
-use ut_value::{Column, Kind, Name, Seq, Value, is_name};
+use ut_value::{Column, Kind, MergeKind, Name, Seq, Value, is_name};
 
 /// Ids enough.
 const IDS: u32 = 100;
@@ -145,6 +144,50 @@ fn a_store_is_made_and_opened_again(rt: HostRuntime) -> Result<(), Fail> {
     let disk = engine.release();
     let engine = opened(alloc, disk)?;
     check(&rt, alloc, &engine, 2, 0)?;
+    Ok(())
+}
+
+/// A merge of a table begins, and has a number.
+fn begins(
+    rt: &impl Abort,
+    alloc: Global,
+    engine: &mut Engine<'_, MemDisk>,
+    table: &Name,
+) -> Result<u32, BeginError> {
+    assert!(rt; !engine.down());
+    let job = engine.merge_begin(alloc, table, MergeKind::Resort)?;
+    assert_eq!(rt; job.kind(), MergeKind::Resort);
+    Ok(job.number())
+}
+
+#[test]
+fn a_merge_begins_and_hands_out_its_job(rt: HostRuntime) -> Result<(), Fail> {
+    let alloc = rt.alloc();
+    let mut disk = MemDisk::of(alloc, &[], &[], &[])?;
+    let mut engine = made(alloc, &mut disk)?;
+    fill(&rt, alloc, &mut engine)?;
+    merge(&rt, alloc, &mut engine)?;
+    let table = name(&rt, alloc, b"T")?;
+    let other = name(&rt, alloc, b"t")?;
+    assert_eq!(rt;
+        begins(&rt, alloc, &mut engine, &other),
+        Err(BeginError::Name)
+    );
+    assert!(rt; engine.pending().is_none());
+    assert_eq!(rt; begins(&rt, alloc, &mut engine, &table), Ok(1));
+    assert_eq!(rt;
+        begins(&rt, alloc, &mut engine, &table),
+        Err(BeginError::Busy(1))
+    );
+    assert_eq!(rt;
+        begins(&rt, alloc, &mut engine, &other),
+        Err(BeginError::Name)
+    );
+    assert!(rt; !engine.down());
+    assert!(rt; matches!(engine.merge_again(alloc)?, Some(job) if job.number() == 1));
+    assert!(rt; matches!(engine.pending(), Some(head) if head.number == 1 && head.table == 0));
+    assert_eq!(rt; engine.merges(), 1);
+    assert_eq!(rt; engine.journal_len(), 4);
     Ok(())
 }
 

@@ -1,5 +1,5 @@
 //! What is left where no store could be made or opened.
-use ut_logged::OpenError;
+use crate::error::OpenError;
 use ut_outside::Disk;
 
 /// Why a store could not be made or opened, and the disk, which is handed back.

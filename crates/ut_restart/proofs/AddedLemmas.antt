@@ -10,7 +10,7 @@ use Rattle.ut_plain.specs.Rows.{Rows, with_op}
 use Rattle.ut_plain.specs.Stages.{Stages, with_stages, entered, placed}
 use Rattle.ut_plain.proofs.RowLaws.{get-with_op, op_at-other}
 use Rattle.ut_exact.proofs.FateLemmas.{other_number}
-use Rattle.ut_store.proofs.ListLemmas.{Last, Before, in_pushed, get-pushed_last, get-appended}
+use Rattle.ut_staged.proofs.ListLemmas.{Last, Before, in_pushed, get-pushed_last, get-appended}
 use Rattle.ut_restart.specs.declared.slots.Slot.{Slot}
 use Rattle.ut_restart.specs.Slots.{Places, IsSet, IsSound, Keeps, stored_of, row_in, stages_from, empty_stages}
 use Rattle.ut_restart.proofs.StageLemmas.{stages_from-append}

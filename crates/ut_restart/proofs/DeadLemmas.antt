@@ -13,7 +13,7 @@ use Rattle.ut_plain.specs.Stages.{Stages, no_stages, with_stages}
 use Rattle.ut_plain.specs.Restart.{with_dead}
 use Rattle.ut_plain.proofs.RowLaws.{get-with_op, op_at-other}
 use Rattle.ut_exact.proofs.FateLemmas.{other_number}
-use Rattle.ut_store.proofs.ListLemmas.{get-set_same, get-set_other, get-within}
+use Rattle.ut_staged.proofs.ListLemmas.{get-set_same, get-set_other, get-within}
 use Rattle.ut_restart.specs.declared.slots.Slot.{Slot}
 use Rattle.ut_restart.specs.Slots.{Places, IsSet, IsSound, Keeps, row_in, stages_from, empty_stages}
 use Rattle.ut_restart.proofs.StageLemmas.{buried-set, dead-stages, dead-empty}

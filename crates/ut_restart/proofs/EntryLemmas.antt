@@ -10,7 +10,7 @@ use Rattle.ut_plain.specs.Rows.{Rows, can_apply_all, next_after}
 use Rattle.ut_plain.specs.Stages.{Stages, no_stages}
 use Rattle.ut_plain.proofs.BoolLemmas.{and_both}
 use Rattle.ut_plain.proofs.TableLemmas.{fits_table-more}
-use Rattle.ut_store.proofs.ListLemmas.{InPushed, Last, Before, in_pushed}
+use Rattle.ut_staged.proofs.ListLemmas.{InPushed, Last, Before, in_pushed}
 use Rattle.ut_restart.specs.declared.slots.Slot.{Slot}
 use Rattle.ut_restart.specs.declared.slots.Slots.{Slots}
 use Rattle.ut_restart.specs.declared.replay.Replay.{Replay}

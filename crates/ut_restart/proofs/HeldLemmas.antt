@@ -9,11 +9,11 @@ use Rattle.ut_stamps.specs.declared.visibility.Stamp.{Stamp}
 use Rattle.ut_exact.specs.Places.{StagedRow, is_dead, stamped_in, AreHeld, Pushed}
 use Rattle.ut_exact.proofs.PlaceLemmas.{AreHeld-pushed, AreHeld-dead}
 use Rattle.ut_exact.proofs.FateLemmas.{other_number}
-use Rattle.ut_scan.specs.declared.place.Place.{Place}
-use Rattle.ut_scan.specs.declared.place.Place.TheVariants.{L1, L2}
-use Rattle.ut_table.specs.Staged.{Staged, entered_l1}
-use Rattle.ut_store.specs.Held.{place_at}
-use Rattle.ut_store.proofs.StageLemmas.{pushed_l1}
+use Rattle.ut_stamps.specs.declared.place.Place.{Place}
+use Rattle.ut_stamps.specs.declared.place.Place.TheVariants.{L1, L2, Closed, Main}
+use Rattle.ut_staged.specs.Staged.{Staged, entered_l1}
+use Rattle.ut_staged.specs.Tables.{place_at}
+use Rattle.ut_staged.proofs.StageLemmas.{pushed_l1}
 use Rattle.ut_restart.specs.declared.slots.Slot.{Slot}
 use Rattle.ut_restart.specs.Slots.{Places, IsSound, stored_of, row_in}
 use Rattle.ut_restart.specs.Standing.{staged_row, stamp_of, staged_at, entered_in, staged_from, no_staged}
@@ -81,6 +81,8 @@ nobody : (tables : List Table) (n : ℕ) (p : Place) (row : StagedRow) → place
 nobody [] n p row h = cc
 nobody (t ∷ tables) zero (L1 i) row h = cc
 nobody (t ∷ tables) zero (L2 i) row h = cc
+nobody (t ∷ tables) zero (Closed i) row h = cc
+nobody (t ∷ tables) zero (Main k i) row h = cc
 nobody (t ∷ tables) (suc n) p row h = nobody tables n p row h
 
 AreHeld-none : (gone : Stamp → Type 0) (tables : List Table) → AreHeld (place_at (no_staged tables)) gone (λ id. None)

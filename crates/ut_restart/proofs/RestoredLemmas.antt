@@ -28,10 +28,11 @@ use Rattle.std.specs.Option.{option_and_then}
 use Rattle.ut_exact.specs.Dropped.{kept_at}
 use Rattle.ut_exact.specs.Gone.{IsGone}
 use Rattle.ut_exact.specs.Places.{dead_number, AreHeld}
-use Rattle.ut_table.specs.Staged.{no_rows}
+use Rattle.ut_staged.specs.Staged.{Staged, no_rows, stages_of}
+use Rattle.ut_staged.specs.Tables.{place_at}
 use Rattle.ut_txn.specs.Seats.{Seat, AreEmpty, number_at}
-use Rattle.ut_store.specs.Held.{Held, place_at}
-use Rattle.ut_store.specs.Stands.{AreSeats, AreRows, stages_of, opened_snapshot, snapshot_of}
+use Rattle.ut_store.specs.Held.{Held}
+use Rattle.ut_store.specs.Stands.{AreSeats, AreRows, AreMerging, merge_at, opened_snapshot, snapshot_of}
 use Rattle.ut_store.specs.Standing.{Reopened, journal_of}
 use Rattle.ut_plain.specs.View.{own_ops}
 use Rattle.ut_value.specs.declared.entry.Entry.TheVariants.{Txn}
@@ -42,7 +43,7 @@ use Rattle.ut_restart.specs.Slots.{place_in}
 use Rattle.ut_restart.specs.Replayed.{Replayed}
 use Rattle.ut_restart.specs.Standing.{no_staged, Rebuilt}
 use Rattle.ut_restart.proofs.DeadLemmas.{fits-below}
-use Rattle.ut_restart.proofs.StandLemmas.{stages-are, columns-are}
+use Rattle.ut_restart.proofs.StandLemmas.{stages-are, columns-are, no-merges}
 use Rattle.ut_restart.proofs.HeldLemmas.{before_all, AreHeld-sound}
 
 -- ---- what a restored store begins with
@@ -175,6 +176,8 @@ module _ (es : List Entry) (limit : ℕ) (r : Replay) (e : Held) (few : length e
     started = subst (λ fs. dead_number < length fs) (sym fates_are) (omega arith);
     stages = read.agrees.rows.staged ∙ sym (stages-are r.tables.items r.slots.list.items) ∙ sym (ap (map stages_of) built.is.has_rows);
     columns = ap (map (λ s. s.columns)) built.is.has_rows ∙ columns-are r.tables.items r.slots.list.items ∙ sym (ap (map (λ (t : Table). t.columns)) built.is.has_tables);
+    merging = subst (λ o. AreMerging o (map (λ (s : Staged). s.merge) e.staged)) (sym built.is.no_merge)
+        (subst (λ staged. AreMerging None (map (λ (s : Staged). s.merge) staged)) (sym built.is.has_rows) (no-merges r.tables.items r.slots.list.items));
   }
 
   pub reopened : Reopened es limit e
@@ -185,9 +188,11 @@ module _ (es : List Entry) (limit : ℕ) (r : Replay) (e : Held) (few : length e
       counts = record {
         tables = built.is.has_tables ∙ read.agrees.tables;
         commits = built.is.has_commits ∙ read.agrees.commits;
+        merges = built.is.has_merges ∙ read.agrees.merges;
         entries = omega (arith, built.is.has_entries, read.count);
         next_id = built.is.has_next ∙ next_is;
         rows_limit = built.is.has_limit;
+        pending = built.is.no_merge;
       };
       seats = seats-empty e.seats built.is.seats;
       rows = rows image_pages;

@@ -9,7 +9,7 @@ use Rattle.ut_plain.specs.declared.stage.Placed.{Placed}
 use Rattle.ut_plain.specs.Stages.{Stages, no_stages, stages_at, with_stages, entered}
 use Rattle.ut_plain.specs.Restart.{buried, with_dead}
 use Rattle.ut_plain.proofs.BoolLemmas.{and_right, and_both}
-use Rattle.ut_store.proofs.ListLemmas.{get-set_same, get-set_other, set-again}
+use Rattle.ut_staged.proofs.ListLemmas.{get-set_same, get-set_other, set-again}
 use Rattle.ut_restart.specs.declared.slots.Slot.{Slot}
 use Rattle.ut_restart.specs.Slots.{placed_of, entered_at, stages_from, empty_stages}
 

@@ -1,13 +1,14 @@
 -- Rows that enter the first stages of their tables.
-use Rattle.std.proofs.Common.{ℕ, zero, suc, ◌+◌, ◌<◌, ◌≤◌, ◌≡◌, Bool, true, false, List, [], ◌∷◌, ◌++◌, length, map, Some, refl, sym, ap, ◌∙◌, arith, slice_get, slice_set, get_or, length-append, length-set, IsTrue}
+use Rattle.std.proofs.Common.{ℕ, zero, suc, ◌+◌, ◌<◌, ◌≤◌, ◌≡◌, Bool, true, false, List, [], ◌∷◌, ◌++◌, length, map, Some, refl, sym, ap, ◌∙◌, arith, slice_get, slice_set, get_or, length-append, length-set, Option, None, IsTrue}
 use Rattle.std.proofs.lemmas.List.{length-map, map-append, map-set}
 use Rattle.ut_value.specs.declared.value.Value.{Value}
 use Rattle.ut_plain.specs.declared.table.Table.{Table}
+use Rattle.ut_plain.specs.declared.stage.PendingMerge.{PendingMerge}
 use Rattle.ut_plain.specs.Tables.{columns_at, fits_table, fits_columns}
 use Rattle.ut_plain.specs.Stages.{no_stages, stages_at, entered}
-use Rattle.ut_table.specs.Staged.{Staged, TableValue, no_rows, count_of, entered_l1}
-use Rattle.ut_store.specs.Stands.{stages_of}
-use Rattle.ut_store.specs.Stands as stands
+use Rattle.ut_staged.specs.Staged as stands
+use Rattle.ut_staged.specs.Staged.{Staged, no_rows, count_of, entered_l1, stages_of}
+use Rattle.ut_table.specs.Contents.{TableValue}
 use Rattle.ut_restart.specs.declared.slots.Slot.{Slot}
 use Rattle.ut_restart.specs.Slots.{placed_of, entered_at, stages_from, empty_stages}
 use Rattle.ut_restart.specs.Standing.{staged_row, staged_at, entered_in, staged_from, no_staged, shown, CanEnter, AreFitting}
@@ -135,3 +136,29 @@ columns-none (t ∷ tables) = ap (λ cs. t.columns ∷ cs) (columns-none tables)
 
 pub columns-are : (tables : List Table) (xs : List Slot) → map (λ (s : Staged). s.columns) (staged_from (no_staged tables) xs) ≡ map (λ (t : Table). t.columns) tables
 columns-are tables xs = columns-staged_from (no_staged tables) xs ∙ columns-none tables
+
+-- ---- no table is being merged
+
+none-there : {X : Type 0} (x : X) → None ≡ Some x → ⊥
+none-there x h = cc
+
+-- no table of the list has a merge
+abbrev pub HasNoMerge : List Staged → Type 0
+HasNoMerge staged = (n : ℕ) (merge : Option PendingMerge) → slice_get (map (λ (s : Staged). s.merge) staged) n ≡ Some merge → merge ≡ None
+
+merges-entered : (staged : List Staged) (n : ℕ) (x : Slot) → map (λ (s : Staged). s.merge) (slice_set staged n (entered_l1 (staged_row x) (staged_at staged n))) ≡ map (λ (s : Staged). s.merge) staged
+merges-entered [] n x = refl
+merges-entered (s ∷ staged) zero x = refl
+merges-entered (s ∷ staged) (suc n) x = ap (λ ms. s.merge ∷ ms) (merges-entered staged n x)
+
+merges-staged_from : (staged : List Staged) (xs : List Slot) → map (λ (s : Staged). s.merge) (staged_from staged xs) ≡ map (λ (s : Staged). s.merge) staged
+merges-staged_from staged [] = refl
+merges-staged_from staged (x ∷ xs) = merges-staged_from (entered_in staged x) xs ∙ merges-entered staged x.table x
+
+merges-none : (tables : List Table) → HasNoMerge (no_staged tables)
+merges-none [] n merge h = absurd (none-there merge h)
+merges-none (t ∷ tables) zero merge h = cc
+merges-none (t ∷ tables) (suc n) merge h = merges-none tables n merge h
+
+pub no-merges : (tables : List Table) (xs : List Slot) → HasNoMerge (staged_from (no_staged tables) xs)
+no-merges tables xs n merge h = merges-none tables n merge (ap (λ ms. slice_get ms n) (sym (merges-staged_from (no_staged tables) xs)) ∙ h)

@@ -5,7 +5,8 @@ use Rattle.ut_plain.specs.declared.table.Table.{Table}
 use Rattle.ut_plain.specs.Tables.{columns_at, fits_table, fits_columns}
 use Rattle.ut_stamps.specs.declared.visibility.Stamp.{Stamp}
 use Rattle.ut_exact.specs.Places.{StagedRow, dead_number}
-use Rattle.ut_table.specs.Staged.{Staged, TableValue, no_rows, count_of, stamped_row, entered_l1}
+use Rattle.ut_staged.specs.Staged.{Staged, no_rows, count_of, stamped_row, entered_l1}
+use Rattle.ut_table.specs.Contents.{TableValue}
 use Rattle.ut_store.specs.Held.{Held}
 use Rattle.ut_store.specs.Standing.{Restored}
 use Rattle.ut_restart.specs.declared.slots.Slot.{Slot}
@@ -55,4 +56,4 @@ pub record AreFitting (tables : List Table) (slots : List Slot) : Type 0 where
 
 -- the store has what the entries came to
 pub record Rebuilt (r : Replay) (rows_limit : ℕ) (e : Held) : Type 0 where
-  pub is : Restored r.tables.items (staged_from (no_staged r.tables.items) r.slots.list.items) (max r.slots.next (length r.slots.list.items + 1)) rows_limit r.commits r.entries e
+  pub is : Restored r.tables.items (staged_from (no_staged r.tables.items) r.slots.list.items) (max r.slots.next (length r.slots.list.items + 1)) rows_limit r.commits r.merges r.entries e

@@ -42,7 +42,7 @@ fn rebuild(alloc: Global, replay: Replay, rows_limit: u32) -> Result<Store, Allo
         tables,
         slots,
         commits,
-        merges: _,
+        merges,
         entries,
     } = replay;
     let Slots {
@@ -53,5 +53,7 @@ fn rebuild(alloc: Global, replay: Replay, rows_limit: u32) -> Result<Store, Allo
     let load = list.len() as u32;
     let next_id = if next <= load { load + 1 } else { next };
     let stages = with_rows(alloc, &tables, list)?;
-    Store::restored(alloc, tables, stages, next_id, rows_limit, commits, entries)
+    Store::restored(
+        alloc, tables, stages, next_id, rows_limit, commits, merges, entries,
+    )
 }

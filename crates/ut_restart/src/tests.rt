@@ -48,6 +48,11 @@ fn a_log_is_a_store(rt: HostRuntime) -> Result<(), RestartError> {
     let store = reopen(alloc, entries, 100)?;
     assert_eq!(rt; store.entries(), 7);
     assert_eq!(rt; store.commits(), 4);
+    assert_eq!(rt; store.merges(), 2);
+    assert!(rt;
+        store.pending().is_none(),
+        "a merge that has not ended is lost"
+    );
     Ok(())
 }
 

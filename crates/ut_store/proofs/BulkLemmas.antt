@@ -23,15 +23,15 @@ use Rattle.ut_plain.proofs.ListLemmas.{list_all_take, list_all_drop}
 use Rattle.ut_plain.proofs.TableLemmas.{there, are_values-fit}
 use Rattle.ut_plain.proofs.MadeLemmas.{inserts_of-inserts}
 use Rattle.ut_exact.proofs.FreeLemmas.{inserts_fit}
-use Rattle.ut_table.specs.Staged.{Staged, begun_row, entered_l2}
+use Rattle.ut_staged.specs.Staged.{Staged, begun_row, entered_l2}
 use Rattle.ut_store.specs.declared.turn.Turn.TheVariants.{Answered}
 use Rattle.ut_store.specs.Held.{Held}
 use Rattle.ut_store.specs.Answers.{Answers}
-use Rattle.ut_store.specs.Staging.{new_rows}
+use Rattle.ut_staged.specs.Staging.{new_rows}
 use Rattle.ut_store.specs.Changes.{has_ids_for, numbered, inserts_all, op_fits, op_ends, ends_of, MayChange, AreReady, IsWork}
 use Rattle.ut_store.proofs.ReadLemmas.{reads}
 use Rattle.ut_store.proofs.FinishLemmas.{answers_refused}
-use Rattle.ut_store.proofs.StagingLemmas.{staging-bulk}
+use Rattle.ut_staged.proofs.StagingLemmas.{staging-bulk}
 use Rattle.ut_store.proofs.KindLemmas.{early_tests, TableAt, table_at}
 use Rattle.ut_store.proofs.UpdateLemmas.{ids_from, no_ids}
 

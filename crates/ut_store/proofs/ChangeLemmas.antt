@@ -27,12 +27,12 @@ use Rattle.ut_exact.proofs.ExactLemmas.{IsExact-start, IsExact-commit}
 use Rattle.ut_exact.proofs.OwnLemmas.{IsOwn-start}
 use Rattle.ut_exact.proofs.SessionLemmas.{AreOpen-changed, AreOpen-alone, AreOpen-closed, AreOpen-renumbered}
 use Rattle.ut_exact.proofs.WorkLemmas.{working-applied, other-applied}
-use Rattle.ut_table.specs.Staged.{Staged}
+use Rattle.ut_staged.specs.Staged.{Staged}
 use Rattle.ut_txn.specs.declared.opened.Opened.{Opened}
 use Rattle.ut_txn.specs.Seats.{Seat, opened_at, payload_at, number_at, SeatSet, SeatsStay}
 use Rattle.ut_store.specs.declared.turn.Turn.TheVariants.{Answered, Append}
-use Rattle.ut_store.specs.Held.{Held, place_at}
-use Rattle.ut_store.specs.Stands.{StandsFor, AreCounts}
+use Rattle.ut_store.specs.Held.{Held}
+use Rattle.ut_store.specs.Stands.{StandsFor, AreCounts, AreMerging}
 use Rattle.ut_store.specs.Answers.{Answer, Answers}
 use Rattle.ut_store.specs.Allowed.{IsRefused}
 use Rattle.ut_plain.proofs.MainLemmas.{same-with_inserts}
@@ -40,9 +40,10 @@ use Rattle.ut_exact.specs.Gone.{IsGone}
 use Rattle.ut_exact.proofs.GoneLemmas.{gone-started, gone-ended, gone-alone, gone-changed, gone-closed}
 use Rattle.ut_exact.proofs.PlaceLemmas.{AreHeld-gone}
 use Rattle.ut_exact.proofs.DroppedLemmas.{AreDropped-gone, AreDropped-same, AreDropped-applied}
-use Rattle.ut_store.specs.Staging.{Staging}
+use Rattle.ut_staged.specs.Staging.{Staging}
 use Rattle.ut_store.proofs.SeatLemmas.{AreSeats-set, numbers-set, seats-stay, numbers-stay}
 use Rattle.ut_store.proofs.StandsLemmas.{answer_by, IsOpenOn, By, open_on, number_is, no_payload, dead_set, dead_pushed, renumbered}
+use Rattle.ut_staged.specs.Tables.{place_at}
 
 -- a statement that makes these operations and changes so many rows
 pub record Makes (e : Held) (session : ℕ) (st : Statement) (os : List Op) (rows : ℕ) : Type 0 where
@@ -83,7 +84,7 @@ changed_inside e staged seats frame session st o os rows some small spelled h is
         let changed_sessions = AreOpen-changed e.fates s.rows.held held p.sessions (number_at e.seats) p.journal p.opening session t new inside own refl
         (subst (λ n. IsOwn e.fates held n (t.ops ++ os)) (sym number) w.own) others s.rows.transactions in
         answer_by e _ session st (Answered (replies.Changed rows None)) p (changed_by p session st (Some t) os rows) spelled (h.is p s) s (changed_is e p session st (Some t) os rows s makes own) refl
-        (record { tables = s.counts.tables; commits = s.counts.commits; entries = s.counts.entries; next_id = ap (λ n. n + inserts_of os) s.counts.next_id; rows_limit = s.counts.rows_limit })
+        (record { tables = s.counts.tables; commits = s.counts.commits; merges = s.counts.merges; entries = s.counts.entries; next_id = ap (λ n. n + inserts_of os) s.counts.next_id; rows_limit = s.counts.rows_limit; pending = s.counts.pending })
         (AreSeats-set e.seats seats p.sessions session (Some o) (payload_at seats session) (Some new) some small s.plain.seats (ap Some look)
         (bytes t.ops (s.seats.payloads session small ∙ ap (λ x. spelling (entries.Txn (own_ops x))) own)) set s.seats)
         (record {
@@ -100,6 +101,7 @@ changed_inside e staged seats frame session st o os rows some small spelled h is
           started = s.rows.started;
           stages = ap (λ x. with_inserts (is_bulk st) x os) s.rows.stages ∙ sym staging.stages;
           columns = staging.columns ∙ s.rows.columns;
+          merging = subst (AreMerging e.pending) (sym staging.merges) s.rows.merging;
         })
         refl
       where
@@ -113,15 +115,17 @@ changed_inside e staged seats frame session st o os rows some small spelled h is
 
 -- one entry of operations more
 counts-txn : (e : Held) (p q : Plain) (os : List Op) (new : Held) → q.journal ≡ appended p.journal (entries.Txn os) → new.tables ≡ e.tables → new.commits ≡ e.commits + 1 → new.entries ≡ e.entries + 1 → new.next_id ≡ q.next_id → new.rows_limit ≡ q.rows_limit
-    → AreCounts e p → AreCounts new q
-counts-txn e p q os new journal tables commits entries_are next limit c =
+    → new.merges ≡ e.merges → new.pending ≡ e.pending → q.pending ≡ p.pending → AreCounts e p → AreCounts new q
+counts-txn e p q os new journal tables commits entries_are next limit merges pending was c =
     let now = ap current journal ∙ current-appended p.journal (entries.Txn os) in
     record {
       tables = tables ∙ c.tables ∙ sym (ap (λ (x : State). x.tables) now);
       commits = commits ∙ ap (λ n. n + 1) c.commits ∙ sym (ap (λ (x : State). x.commits) now);
       entries = entries_are ∙ ap (λ n. n + 1) c.entries ∙ sym (ap journal_len journal ∙ journal_len-appended p.journal (entries.Txn os));
+      merges = merges ∙ c.merges ∙ sym (ap (λ (x : State). x.merges) now);
       next_id = next;
       rows_limit = limit;
+      pending = pending ∙ c.pending ∙ sym was;
     }
 
 -- ---- alone
@@ -171,7 +175,7 @@ changed_alone e staged seats frame session st op rest rows small spelled h close
         let q = changed_by p session st None (op ∷ rest) (suc rows) in
         answer_by e _ session st (Append (replies.Changed (suc rows) (Some (e.commits + 1)))) p q spelled (h.is p s) s (changed_is e p session st None (op ∷ rest) (suc rows) s makes (closed_on p s))
         (ap (λ c. replies.Changed (suc rows) (Some (c + 1))) s.counts.commits)
-        (counts-txn e p q.plain (op ∷ rest) _ refl refl refl refl (ap (λ m. m + inserts_of (op ∷ rest)) s.counts.next_id) s.counts.rows_limit s.counts)
+        (counts-txn e p q.plain (op ∷ rest) _ refl refl refl refl (ap (λ m. m + inserts_of (op ∷ rest)) s.counts.next_id) s.counts.rows_limit refl refl refl s.counts)
         (seats-stay e.seats seats p.sessions stay s.seats)
         (record {
           held = held;
@@ -189,6 +193,7 @@ changed_alone e staged seats frame session st op rest rows small spelled h close
           started = omega (arith, s.rows.started, length-set fates n (Committed (e.entries + 1)), length-append e.fates (Running ∷ []));
           stages = ap (λ x. with_inserts (is_bulk st) x (op ∷ rest)) s.rows.stages ∙ sym staging.stages;
           columns = staging.columns ∙ s.rows.columns;
+          merging = subst (AreMerging e.pending) (sym staging.merges) s.rows.merging;
         })
         (entry, refl, spells)
 
@@ -213,7 +218,7 @@ committed_something e seats frame session o some small h is has frame_is set = r
         let ended = AreOpen-closed e.fates (Committed (e.entries + 1)) s.rows.held p.sessions (number_at e.seats) p.journal (appended p.journal entry) p.opening session t inside own refl (omega (arith, journal_len-appended p.journal entry)) s.rows.transactions in
         answer_by e _ session Commit (Append (replies.Committed (e.commits + 1))) p q refl (h.is p s) s (ap (committed p session) own ∙ ap (committed_by p session) are)
         (ap (λ c. replies.Committed (c + 1)) s.counts.commits)
-        (counts-txn e p q.plain (op ∷ rest) _ refl refl refl refl s.counts.next_id s.counts.rows_limit s.counts)
+        (counts-txn e p q.plain (op ∷ rest) _ refl refl refl refl s.counts.next_id s.counts.rows_limit refl refl refl s.counts)
         (AreSeats-set e.seats seats p.sessions session None no_payload None some small s.plain.seats refl refl set s.seats)
         (record {
           held = s.rows.held;
@@ -231,6 +236,7 @@ committed_something e seats frame session o some small h is has frame_is set = r
           started = omega (arith, s.rows.started, length-set e.fates o.number (Committed (e.entries + 1)));
           stages = s.rows.stages;
           columns = s.rows.columns;
+          merging = s.rows.merging;
         })
         (entry, refl, frame_is ∙ s.seats.payloads session small ∙ ap (λ x. spelling (entries.Txn (own_ops x))) own ∙ ap (λ x. spelling (entries.Txn x)) are)
 

@@ -19,7 +19,7 @@ use Rattle.ut_plain.specs.Tables.{place_of}
 use Rattle.std.specs.Option.{is_none}
 use Rattle.ut_plain.proofs.BoolLemmas.{and_left, and_right, and_both}
 use Rattle.ut_plain.proofs.StepLaws.{name-short}
-use Rattle.ut_table.specs.Staged.{no_rows}
+use Rattle.ut_staged.specs.Staged.{no_rows}
 use Rattle.ut_store.specs.declared.turn.Turn.TheVariants.{Answered, Append}
 use Rattle.ut_store.specs.Held.{Held}
 use Rattle.ut_store.specs.Stands.{StandsFor}
@@ -90,7 +90,9 @@ created_now e new session name columns small spelled early few short h =
       next_id = sym h.next_id i;
       rows_limit = sym h.rows_limit i;
       commits = sym h.commits i;
+      merges = sym h.merges i;
       entries = sym h.entries i;
+      pending = sym h.pending i;
       frame = new.frame;
     } in
     subst (λ (x : Held). Answers e session (Create name columns) (Append (replies.Committed x.commits)) x) is

@@ -18,18 +18,18 @@ use Rattle.ut_plain.specs.Plain.{Plain}
 use Rattle.ut_plain.specs.View.{view}
 use Rattle.ut_plain.proofs.BoolLemmas.{and_both}
 use Rattle.ut_plain.proofs.TableLemmas.{there_known}
-use Rattle.ut_scan.specs.declared.place.Place.{Place}
+use Rattle.ut_stamps.specs.declared.place.Place.{Place}
 use Rattle.ut_scan.specs.declared.place.Found.{Found}
-use Rattle.ut_table.specs.Staged.{Staged}
+use Rattle.ut_staged.specs.Staged.{Staged}
 use Rattle.ut_table.specs.Finds.{hits_of}
 use Rattle.ut_store.specs.Held.{Held}
 use Rattle.ut_store.specs.Stands.{StandsFor}
 use Rattle.ut_store.specs.Hits.{plain_rows}
-use Rattle.ut_store.specs.Staging.{Staging, written, AreFound}
+use Rattle.ut_staged.specs.Staging.{Staging, written, AreFound}
 use Rattle.ut_store.specs.Changes.{op_fits, op_ends, ends_of, CanLook, Looked, MayChange, AreReady, IsWork}
 use Rattle.ut_store.proofs.HitLemmas.{found-is, first_taken-is}
 use Rattle.ut_store.proofs.MadeLemmas.{deletes-are, length-rows, deletes_fit, deletes_fit_alone}
-use Rattle.ut_store.proofs.StagingLemmas.{staging-deletes, written-deletes}
+use Rattle.ut_staged.proofs.StagingLemmas.{staging-deletes, written-deletes}
 use Rattle.ut_store.proofs.KindLemmas.{early_tests, TableAt, table_at, next_small}
 use Rattle.ut_store.proofs.SearchLemmas.{known_in, can_look, place_view, hits_view, finds_free, AreGiven, FoundAt, found_places}
 

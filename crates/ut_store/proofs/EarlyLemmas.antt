@@ -1,8 +1,11 @@
 -- What the early refusals, the limits and the conflicts are together.
-use Rattle.std.proofs.Common.{ℕ, ◌<◌, ◌≡◌, Bool, true, false, is_some, Option, None, Some, refl, sym, ap, ◌∙◌}
+use Rattle.std.proofs.Common.{ℕ, ◌<◌, ◌≡◌, Bool, true, false, is_some, List, Option, None, Some, refl, sym, ap, ◌∙◌}
 use Rattle.std.specs.Option.{option_map}
 use Rattle.ut_plain.specs.declared.statement.Statement.{Statement}
 use Rattle.ut_plain.specs.declared.statement.Statement.TheVariants as statements
+use Rattle.ut_plain.specs.declared.statement.Query.{Query}
+use Rattle.ut_value.specs.declared.value.Column.{Column}
+use Rattle.ut_value.specs.declared.entry.MergeKind.{MergeKind}
 use Rattle.ut_plain.specs.declared.stage.PendingMerge.{PendingMerge}
 use Rattle.ut_plain.specs.declared.reply.Refusal.{Refusal}
 use Rattle.ut_plain.specs.declared.reply.Refusal.TheVariants as refusals
@@ -12,9 +15,11 @@ use Rattle.ut_plain.specs.Names.{names_known}
 use Rattle.ut_plain.specs.Kinds.{kinds_fit}
 use Rattle.ut_plain.specs.Limits.{has_room}
 use Rattle.ut_plain.specs.Refusals.{is_supported, state_why, merge_why, save_why, unless, or_else, conflict, refusal}
+use Rattle.ut_txn.specs.Seats.{opened_at}
 use Rattle.ut_store.specs.Held.{Held}
 use Rattle.ut_store.specs.Stands.{StandsFor}
 use Rattle.ut_store.specs.Early.{early_refusal}
+use Rattle.ut_store.specs.Standing.{changes_rows}
 use Rattle.ut_store.specs.Allowed.{IsRefused}
 use Rattle.ut_store.proofs.ReadLemmas.{reads}
 
@@ -22,14 +27,7 @@ or_else-again : (a b c : Option Refusal) → or_else (or_else a b) c ≡ or_else
 or_else-again (Some why) b c = refl
 or_else-again None b c = refl
 
--- a statement that is there asks neither whether a merge is pending
-no_merge : (pending : Option PendingMerge) (st : Statement) → is_supported st ≡ true → merge_why pending st ≡ None
-no_merge None statements.MergeEnd h = cc
-no_merge None _ h = refl
-no_merge (Some m) (statements.MergeBegin name kind) h = cc
-no_merge (Some m) _ h = refl
-
--- nor how far a savepoint is
+-- a statement that is there doesn't ask how far a savepoint is
 no_save : (phase : Phase) (st : Statement) → is_supported st ≡ true → save_why phase st ≡ None
 no_save Idle (statements.SaveStep n) h = cc
 no_save Idle statements.SaveSeal h = cc
@@ -46,15 +44,15 @@ no_save (Sealed captured pages image) (statements.SaveStep n) h = cc
 no_save (Sealed captured pages image) statements.SaveSeal h = cc
 no_save (Sealed captured pages image) _ h = refl
 
-without_jobs : (pending : Option PendingMerge) (phase : Phase) (st : Statement) (a b c late : Option Refusal)
-    → or_else (unless (is_supported st) refusals.Syntax) (or_else a (or_else b (or_else c (or_else (option_map refusals.State (merge_why pending st)) (or_else (option_map refusals.State (save_why phase st)) late)))))
-    ≡ or_else (unless (is_supported st) refusals.Syntax) (or_else a (or_else b (or_else c late)))
-without_jobs pending phase st a b c late = by (is_supported st) refl
+without_save : (phase : Phase) (st : Statement) (a b c d late : Option Refusal)
+    → or_else (unless (is_supported st) refusals.Syntax) (or_else a (or_else b (or_else c (or_else d (or_else (option_map refusals.State (save_why phase st)) late)))))
+    ≡ or_else (unless (is_supported st) refusals.Syntax) (or_else a (or_else b (or_else c (or_else d late))))
+without_save phase st a b c d late = by (is_supported st) refl
   where
     by : (t : Bool) → is_supported st ≡ t
-        → or_else (unless t refusals.Syntax) (or_else a (or_else b (or_else c (or_else (option_map refusals.State (merge_why pending st)) (or_else (option_map refusals.State (save_why phase st)) late)))))
-        ≡ or_else (unless t refusals.Syntax) (or_else a (or_else b (or_else c late)))
-    by true is = λ i. or_else a (or_else b (or_else c (or_else (option_map refusals.State (no_merge pending st is i)) (or_else (option_map refusals.State (no_save phase st is i)) late))))
+        → or_else (unless t refusals.Syntax) (or_else a (or_else b (or_else c (or_else d (or_else (option_map refusals.State (save_why phase st)) late)))))
+        ≡ or_else (unless t refusals.Syntax) (or_else a (or_else b (or_else c (or_else d late))))
+    by true is = λ i. or_else a (or_else b (or_else c (or_else d (or_else (option_map refusals.State (no_save phase st is i)) late))))
     by false is = refl
 
 -- a refusal is the early one, else that of limits, else that of a conflict
@@ -63,11 +61,14 @@ pub refusal-is : (e : Held) (p : Plain) (session : ℕ) (st : Statement) → ses
 refusal-is e p session st small s =
     let r = reads e p session small s in
     let late = or_else (unless (has_room (view p session) st) refusals.Full) (option_map refusals.Conflict (conflict (view p session) st)) in
-    without_jobs (view p session).pending (view p session).phase st (unless (names_known (view p session).tables st) refusals.Name) (unless (kinds_fit (view p session).tables st) refusals.Kind) (option_map refusals.State (state_why (is_some (view p session).own) st)) late
-    ∙ (λ i. or_else (unless (is_supported st) refusals.Syntax) (or_else (unless (names_known (r.tables i) st) refusals.Name) (or_else (unless (kinds_fit (r.tables i) st) refusals.Kind) (or_else (option_map refusals.State (state_why (r.is_open i) st)) late))))
+    without_save (view p session).phase st (unless (names_known (view p session).tables st) refusals.Name) (unless (kinds_fit (view p session).tables st) refusals.Kind) (option_map refusals.State (state_why (is_some (view p session).own) st))
+    (option_map refusals.State (merge_why (view p session).pending st)) late
+    ∙ (λ i. or_else (unless (is_supported st) refusals.Syntax) (or_else (unless (names_known (r.tables i) st) refusals.Name) (or_else (unless (kinds_fit (r.tables i) st) refusals.Kind)
+    (or_else (option_map refusals.State (state_why (r.is_open i) st)) (or_else (option_map refusals.State (merge_why (r.pending i) st)) late)))))
     ∙ sym (or_else-again (unless (is_supported st) refusals.Syntax) _ late
     ∙ ap (or_else (unless (is_supported st) refusals.Syntax)) (or_else-again (unless (names_known e.tables st) refusals.Name) _ late
-    ∙ ap (or_else (unless (names_known e.tables st) refusals.Name)) (or_else-again (unless (kinds_fit e.tables st) refusals.Kind) _ late)))
+    ∙ ap (or_else (unless (names_known e.tables st) refusals.Name)) (or_else-again (unless (kinds_fit e.tables st) refusals.Kind) _ late
+    ∙ ap (or_else (unless (kinds_fit e.tables st) refusals.Kind)) (or_else-again (option_map refusals.State (state_why (is_some (opened_at e.seats session)) st)) _ late))))
 
 pub early : (e : Held) (session : ℕ) (st : Statement) (why : Refusal) → session < 17 → early_refusal e session st ≡ Some why → IsRefused e session st (Some why)
 early e session st why small h = record { is = λ p s. refusal-is e p session st small s ∙ ap (λ a. or_else a (or_else (unless (has_room (view p session) st) refusals.Full) (option_map refusals.Conflict (conflict (view p session) st)))) h }
@@ -91,3 +92,60 @@ allowed e session st small none room h = record {
   is = λ p s.
       refusal-is e p session st small s ∙ (λ i. or_else (none i) (or_else (unless (room p s i) refusals.Full) (option_map refusals.Conflict (h p s i))));
 }
+
+-- ---- merges
+
+behind : (a b : Option Refusal) → or_else a b ≡ None → b ≡ None
+behind None b h = h
+behind (Some why) b h = cc
+
+-- where a merge may begin none is pending
+pub not_busy : (e : Held) (session : ℕ) (name : List ℕ) (kind : MergeKind) → early_refusal e session (statements.MergeBegin name kind) ≡ None → e.pending ≡ None
+not_busy e session name kind h =
+    by e.pending (behind (option_map refusals.State (state_why (is_some (opened_at e.seats session)) (statements.MergeBegin name kind))) _
+    (behind (unless (kinds_fit e.tables (statements.MergeBegin name kind)) refusals.Kind) _ (behind (unless (names_known e.tables (statements.MergeBegin name kind)) refusals.Name) _ h)))
+  where
+    by : (o : Option PendingMerge) → option_map refusals.State (merge_why o (statements.MergeBegin name kind)) ≡ None → o ≡ None
+    by None h = refl
+    by (Some m) h = cc
+
+-- where one is pending it may end
+pub may_end : (e : Held) (session : ℕ) (m : PendingMerge) → e.pending ≡ Some m → early_refusal e session statements.MergeEnd ≡ None
+may_end e session m is = by (is_some (opened_at e.seats session)) ∙ (λ i. option_map refusals.State (merge_why (is i) statements.MergeEnd))
+  where
+    by : (inside : Bool) → or_else (option_map refusals.State (state_why inside statements.MergeEnd)) (option_map refusals.State (merge_why e.pending statements.MergeEnd)) ≡ option_map refusals.State (merge_why e.pending statements.MergeEnd)
+    by true = refl
+    by false = refl
+
+-- ---- what is carried out
+
+-- a statement that passes is there
+pub supported : (e : Held) (session : ℕ) (st : Statement) → early_refusal e session st ≡ None → is_supported st ≡ true
+supported e session st h = by (is_supported st) _ h
+  where
+    by : (there : Bool) (rest : Option Refusal) → or_else (unless there refusals.Syntax) rest ≡ None → there ≡ true
+    by true rest h = refl
+    by false rest h = cc
+
+-- each that is there and changes no row is one of these
+pub all_carried : {A : Type 0} (st : Statement) → is_supported st ≡ true → changes_rows st ≡ false → ((name : List ℕ) (columns : List Column) → st ≡ statements.Create name columns → ⊥) → ((query : Query) → st ≡ statements.Ask query → ⊥)
+    → (st ≡ statements.Begin → ⊥) → (st ≡ statements.Commit → ⊥) → (st ≡ statements.Abort → ⊥) → ((name : List ℕ) (n : ℕ) → st ≡ statements.MergeL1 name n → ⊥) → ((name : List ℕ) (kind : MergeKind) → st ≡ statements.MergeBegin name kind → ⊥)
+    → (st ≡ statements.MergeEnd → ⊥) → ((name : List ℕ) → st ≡ statements.Shape name → ⊥) → A
+all_carried (statements.Create name columns) there keeps create ask begin commit abort moves starts ends shape = absurd (create name columns refl)
+all_carried (statements.Insert name values) there keeps create ask begin commit abort moves starts ends shape = cc
+all_carried (statements.Bulk name values) there keeps create ask begin commit abort moves starts ends shape = cc
+all_carried (statements.Update name column value preds) there keeps create ask begin commit abort moves starts ends shape = cc
+all_carried (statements.Delete name preds) there keeps create ask begin commit abort moves starts ends shape = cc
+all_carried (statements.Ask query) there keeps create ask begin commit abort moves starts ends shape = absurd (ask query refl)
+all_carried statements.Begin there keeps create ask begin commit abort moves starts ends shape = absurd (begin refl)
+all_carried statements.Commit there keeps create ask begin commit abort moves starts ends shape = absurd (commit refl)
+all_carried statements.Abort there keeps create ask begin commit abort moves starts ends shape = absurd (abort refl)
+all_carried (statements.MergeL1 name n) there keeps create ask begin commit abort moves starts ends shape = absurd (moves name n refl)
+all_carried (statements.MergeBegin name kind) there keeps create ask begin commit abort moves starts ends shape = absurd (starts name kind refl)
+all_carried statements.MergeEnd there keeps create ask begin commit abort moves starts ends shape = absurd (ends refl)
+all_carried (statements.Shape name) there keeps create ask begin commit abort moves starts ends shape = absurd (shape name refl)
+all_carried statements.SaveBegin there keeps create ask begin commit abort moves starts ends shape = cc
+all_carried (statements.SaveStep n) there keeps create ask begin commit abort moves starts ends shape = cc
+all_carried statements.SaveSeal there keeps create ask begin commit abort moves starts ends shape = cc
+all_carried statements.SaveFlip there keeps create ask begin commit abort moves starts ends shape = cc
+all_carried statements.SaveDrop there keeps create ask begin commit abort moves starts ends shape = cc

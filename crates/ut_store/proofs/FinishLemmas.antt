@@ -1,7 +1,7 @@
 -- What a statement's operations are answered, from the limits to the end.
-use Rattle.std.proofs.Common.{ℕ, zero, suc, ◌+◌, ◌<◌, ◌≤◌, ◌≡◌, ◌≢◌, true, false, ◌&&◌, ◌||◌, List, [], ◌∷◌, ◌++◌, length, map, is_some, None, Some, refl, sym, ap, ◌∙◌, subst, arith, IsTrue, nat_eq, nat_le, nat_lt, ltb-true, eqb-true, eq-eqb, true≢false, slice_get, slice_set}
+use Rattle.std.proofs.Common.{ℕ, zero, suc, ◌+◌, ◌<◌, ◌≤◌, ◌≡◌, ◌≢◌, true, false, ◌&&◌, ◌||◌, List, [], ◌∷◌, ◌++◌, length, map, is_some, None, Some, refl, sym, ap, ◌∙◌, subst, arith, IsTrue, nat_eq, nat_le, nat_lt, ltb-true, eqb-true, eq-eqb, true≢false, slice_set}
 use Rattle.std.specs.Option.{option_map}
-use Rattle.std.proofs.lemmas.List.Sums.{sum_by-cons, sum_by-append}
+use Rattle.std.proofs.lemmas.List.Sums.{sum_by-append}
 use Rattle.ut_value.specs.declared.entry.Op.{Op}
 use Rattle.ut_value.specs.declared.entry.Entry.TheVariants.{Txn}
 use Rattle.ut_value.specs.Spelling.{op_len, ops_len, entry_len}
@@ -11,7 +11,7 @@ use Rattle.ut_plain.specs.declared.statement.Statement.TheVariants as statements
 use Rattle.ut_plain.specs.declared.reply.Reply.TheVariants as replies
 use Rattle.ut_plain.specs.declared.reply.Refusal.TheVariants as refusals
 use Rattle.ut_plain.specs.Rows.{inserts_of}
-use Rattle.ut_plain.specs.Stages.{places_of, all_places}
+use Rattle.ut_plain.specs.Stages.{all_places}
 use Rattle.ut_plain.specs.Plain.{Plain, open_at}
 use Rattle.ut_plain.specs.View.{view, own_ops}
 use Rattle.ut_plain.specs.Limits.{has_room, has_ops_room}
@@ -24,16 +24,17 @@ use Rattle.ut_plain.proofs.SeenLemmas.{own_is}
 use Rattle.ut_plain.proofs.PassedLemmas.{Passed, passed, HasRoom, room_is}
 use Rattle.ut_stamps.specs.Stamps.{fate_at}
 use Rattle.ut_stamps.specs.declared.fates.Fate.TheVariants.{Running}
-use Rattle.ut_scan.specs.declared.place.Place.{Place}
-use Rattle.ut_exact.specs.Places.{StagedRow, dead_number}
-use Rattle.ut_table.specs.Staged.{Staged, count_of}
+use Rattle.ut_stamps.specs.declared.place.Place.{Place}
+use Rattle.ut_exact.specs.Places.{dead_number}
+use Rattle.ut_staged.specs.Staged.{Staged, stages_of}
+use Rattle.ut_staged.proofs.TableLemmas.{count-within}
 use Rattle.ut_txn.specs.declared.opened.Opened.{Opened}
 use Rattle.ut_txn.specs.Seats.{opened_at, payload_at}
 use Rattle.ut_plain.specs.declared.reply.Refusal.{Refusal}
 use Rattle.ut_store.specs.declared.turn.Turn.{Turn}
 use Rattle.ut_store.specs.declared.turn.Turn.TheVariants.{Answered, Append}
 use Rattle.ut_store.specs.Held.{Held}
-use Rattle.ut_store.specs.Stands.{StandsFor, placed_of, stages_of}
+use Rattle.ut_store.specs.Stands.{StandsFor}
 use Rattle.ut_store.specs.Hits.{first_taken_of}
 use Rattle.ut_store.specs.Answers.{Answers, Same}
 use Rattle.ut_store.specs.Allowed.{IsRefused}
@@ -96,24 +97,6 @@ module _ (e : Held) (session : ℕ) (st : Statement) (n : ℕ) (hits : List (ℕ
 pub has_places : (e : Held) (n : ℕ) (hits : List (ℕ × Place)) (os : List Op) → AreReady e n hits os → HasPlaces e n hits
 has_places e n hits os r = record { table = r.table; at = r.at; there = r.there }
 
-length-placed : (rows : List StagedRow) → length (map placed_of rows) ≡ length rows
-length-placed [] = refl
-length-placed (row ∷ rows) = ap suc (length-placed rows)
-
-some_inside : (a b : Staged) → Some a ≡ Some b → a ≡ b
-some_inside a b h = cc
-
-count-within : (staged : List Staged) (n : ℕ) (s : Staged) → slice_get staged n ≡ Some s → count_of s ≤ all_places (map stages_of staged)
-count-within [] n s h = cc
-count-within (x ∷ xs) zero s h =
-    let same : count_of x ≡ count_of s = ap count_of (some_inside x s h) in
-    let one = sum_by-cons places_of (stages_of x) (map stages_of xs) in
-    omega (arith, same, one, length-placed x.l1, length-placed x.l2)
-count-within (x ∷ xs) (suc n) s h =
-    let rest = count-within xs n s h in
-    let one = sum_by-cons places_of (stages_of x) (map stages_of xs) in
-    omega (arith, rest, one)
-
 module _ (e : Held) (session : ℕ) (st : Statement) (n : ℕ) (hits : List (ℕ × Place)) (os : List Op) (rows : ℕ) (after : ℕ → Staged → Staged) (m : MayChange e session st) (w : IsWork e session st n hits os rows after) (late : late_refusal e session n hits os ≡ None) where
   the_room : HasRoom m.stands.plain session os
   the_room = room e session st n hits os rows after m w late m.stands.plain m.stands.stands
@@ -175,7 +158,9 @@ module _ (e : Held) (session : ℕ) (st : Statement) (n : ℕ) (hits : List (ℕ
         next_id = sym d.next_id i;
         rows_limit = sym d.rows_limit i;
         commits = sym d.commits i;
+        merges = sym d.merges i;
         entries = sym d.entries i;
+        pending = sym d.pending i;
         frame = new.frame;
       } in
       subst (λ (x : Held). Answers e session st (Answered (replies.Changed rows None)) x) same
@@ -221,7 +206,9 @@ answers_alone e new session st n hits (op ∷ rest) (suc rows) commit after m r 
           next_id = sym d.next_id i;
           rows_limit = sym d.rows_limit i;
           commits = sym d.commits i;
+          merges = sym d.merges i;
           entries = sym d.entries i;
+          pending = sym d.pending i;
           frame = new.frame;
         })
         (changed_alone e staged new.seats new.frame session st op rest rows m.seat m.spelled (refused_not e session st n hits (op ∷ rest) (suc rows) after m w late) (λ p s. closed_on e p session closed s)

@@ -18,7 +18,7 @@ use Rattle.ut_plain.specs.Refusals.{first_taken}
 use Rattle.ut_stamps.specs.declared.fates.Fate.TheVariants.{Running}
 use Rattle.ut_stamps.specs.declared.visibility.Stamp.{Stamp}
 use Rattle.ut_stamps.specs.Stamps.{fate_at, is_own, is_committed_by, is_taken, sees}
-use Rattle.ut_scan.specs.declared.place.Place.{Place}
+use Rattle.ut_stamps.specs.declared.place.Place.{Place}
 use Rattle.ut_exact.specs.Exact.{ended_by, may_take}
 use Rattle.ut_exact.specs.Places.{StagedRow, dead_number, is_dead, stamped_in}
 use Rattle.ut_exact.specs.Scan.{stored_in}
@@ -26,19 +26,20 @@ use Rattle.ut_exact.proofs.FateLemmas.{other_number}
 use Rattle.ut_exact.proofs.OrderLemmas.{T_first, T_second, less, not_tied, first_found}
 use Rattle.ut_exact.proofs.ScanLemmas.{scan-is, seen_is_live}
 use Rattle.ut_exact.proofs.SeenLemmas.{taken-stamp}
-use Rattle.ut_table.specs.Staged.{Staged}
+use Rattle.ut_staged.specs.Staged.{Staged}
 use Rattle.ut_txn.specs.declared.opened.Opened.{Opened}
 use Rattle.ut_txn.specs.Seats.{number_at}
-use Rattle.ut_store.specs.Held.{Held, place_at}
+use Rattle.ut_store.specs.Held.{Held}
 use Rattle.ut_store.specs.Stands.{StandsFor, opened_snapshot}
 use Rattle.ut_store.specs.Reads.{looks_at, own_at, counts_for}
 use Rattle.ut_store.specs.Hits.{Hits, stamp_in, first_taken_of, plain_rows}
 use Rattle.ut_exact.specs.Gone.{IsGone}
 use Rattle.ut_exact.proofs.GoneLemmas.{gone_unseen}
-use Rattle.ut_store.specs.Staging.{AreFound}
+use Rattle.ut_staged.specs.Staging.{AreFound}
 use Rattle.ut_store.proofs.ReadLemmas.{reads, SameSession, Closed, Open, same_session}
-use Rattle.ut_store.proofs.StageLemmas.{here}
+use Rattle.ut_staged.specs.Tables.{place_at}
 use Rattle.ut_store.proofs.StandsLemmas.{not_dead}
+use Rattle.ut_staged.proofs.TableLemmas.{here}
 
 -- the places that are nobody's are there for no session
 pub dead_never : (e : Held) (p : Plain) (session : ℕ) → StandsFor e p → counts_for e session dead_number ≡ false

@@ -1,13 +1,14 @@
 -- The table at a place among all, and a store behind its fields.
 use Rattle.std.proofs.Common.{ℕ, zero, suc, ◌≡◌, List, [], ◌∷◌, map, Option, Some, refl, sym, ap, ◌∙◌, subst, slice_get, slice_set, get_or, Result, Ok, Err, OnErr, unwrap_or}
 use Rattle.ut_value.specs.declared.entry.Op.{Op}
-use Rattle.ut_table.specs.Staged.{Staged, TableValue}
+use Rattle.ut_table.specs.Contents.{TableValue}
 use Rattle.ut_txn.specs.declared.opened.Opened.{Opened}
 use Rattle.ut_txn.specs.Seats.{Seat, opened_at, SeatSet, SeatsStay}
 use Rattle.ut_store.specs.Held.{Held}
 use Rattle.ut_store.specs.Answers.{Same}
 use Rattle.ut_store.specs.Changes.{DoneInside, DoneAlone}
-use Rattle.ut_store.proofs.ListLemmas.{set-same}
+use Rattle.ut_staged.proofs.ListLemmas.{set-same}
+use Rattle.ut_staged.specs.Staged.{Staged}
 
 pub on_err : {X E : Type 0} (r : Result X E) (P : Type 0) → P → OnErr r P
 on_err (Ok x) P h = tt

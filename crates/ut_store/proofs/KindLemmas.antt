@@ -23,14 +23,14 @@ use Rattle.ut_plain.specs.Plain.{Plain}
 use Rattle.ut_plain.proofs.BoolLemmas.{and_right, and_both}
 use Rattle.ut_plain.proofs.TableLemmas.{IsThere, there, are_values-fit}
 use Rattle.ut_plain.proofs.PassedLemmas.{table_is}
-use Rattle.ut_table.specs.Staged.{Staged}
+use Rattle.ut_staged.specs.Staged.{Staged}
 use Rattle.ut_store.specs.Held.{Held}
 use Rattle.ut_store.specs.Stands.{StandsFor}
 use Rattle.ut_store.specs.Early.{early_refusal}
-use Rattle.ut_store.specs.Staging.{written}
+use Rattle.ut_staged.specs.Staging.{written}
 use Rattle.ut_store.specs.Changes.{MayChange, AreReady, IsWork}
 use Rattle.ut_store.proofs.ReadLemmas.{reads}
-use Rattle.ut_store.proofs.StagingLemmas.{staging-insert}
+use Rattle.ut_staged.proofs.StagingLemmas.{staging-insert}
 
 -- ---- the early tests
 

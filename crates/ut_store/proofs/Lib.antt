@@ -1,12 +1,13 @@
-pub mod ListLemmas
-pub mod StageLemmas
-pub mod MovedLemmas
 pub mod ReadLemmas
 pub mod SeatLemmas
-pub mod StagingLemmas
 pub mod StandsLemmas
 pub mod ChangeLemmas
 pub mod TableLemmas
+pub mod SnapshotLemmas
+pub mod MergeBeginLemmas
+pub mod JobLemmas
+pub mod MergeTurnLemmas
+pub mod MergeEndLemmas
 pub mod HitLemmas
 pub mod MadeLemmas
 pub mod EarlyLemmas

@@ -4,10 +4,10 @@ use Rattle.std.specs.Option.{option_map}
 use Rattle.ut_stamps.specs.declared.fates.Fate.{Fate}
 use Rattle.ut_stamps.specs.declared.visibility.Stamp.{Stamp}
 use Rattle.ut_stamps.specs.Stamps.{is_taken}
-use Rattle.ut_scan.specs.declared.place.Place.{Place}
+use Rattle.ut_stamps.specs.declared.place.Place.{Place}
 use Rattle.ut_scan.specs.declared.place.Found.{Found}
 use Rattle.ut_exact.specs.Places.{StagedRow}
-use Rattle.ut_table.specs.Staged.{Staged, row_at}
+use Rattle.ut_staged.specs.Staged.{Staged, row_at}
 use Rattle.ut_table.specs.Finds.{hits_of}
 use Rattle.ut_store.specs.Hits.{stamp_in}
 use Rattle.ut_store.specs.Changes.{AreThere, first_taken_in}

@@ -18,16 +18,17 @@ use Rattle.ut_plain.specs.View.{view}
 use Rattle.ut_scan.specs.declared.place.Found.{Found}
 use Rattle.ut_exact.specs.Places.{StagedRow}
 use Rattle.ut_exact.specs.Scan.{stored_in}
-use Rattle.ut_table.specs.Staged.{Staged, row_at}
+use Rattle.ut_staged.specs.Staged.{Staged, row_at}
 use Rattle.ut_table.specs.Finds.{AreThere, hits_of}
-use Rattle.ut_store.specs.Held.{Held, place_at}
+use Rattle.ut_store.specs.Held.{Held}
 use Rattle.ut_store.specs.Hits.{Hits, plain_rows}
 use Rattle.ut_store.specs.Listed.{row_of, row_in, listed, Lists}
-use Rattle.ut_store.specs.Staging.{AreFound}
+use Rattle.ut_staged.specs.Staging.{AreFound}
 use Rattle.ut_store.specs.Stands.{StandsFor}
 use Rattle.ut_store.specs.Standing.{Stands}
 use Rattle.ut_store.proofs.HitLemmas.{found-is, AreFound-hits}
-use Rattle.ut_store.proofs.StageLemmas.{here}
+use Rattle.ut_staged.specs.Tables.{place_at}
+use Rattle.ut_staged.proofs.TableLemmas.{here}
 
 -- ---- rows are copied one by one
 

@@ -1,11 +1,12 @@
 -- Rows that are loaded, and a transaction that was started for nothing.
-use Rattle.std.proofs.Common.{ℕ, zero, suc, ◌≡◌, List, [], ◌∷◌, ◌++◌, length, length-append, length-set, map, All, refl, sym, ap, ◌∙◌, subst, arith, IsTrue, slice_set}
+use Rattle.std.proofs.Common.{ℕ, zero, suc, ◌≡◌, List, [], ◌∷◌, ◌++◌, length, length-append, length-set, map, All, Option, refl, sym, ap, ◌∙◌, subst, arith, IsTrue, slice_set}
 use Rattle.std.specs.List.{list_all}
 use Rattle.std.proofs.lemmas.List.Sums.{sum_by-cons}
 use Rattle.ut_value.specs.declared.value.Column.{Column}
 use Rattle.ut_value.specs.declared.value.Row.{Row}
 use Rattle.ut_value.specs.declared.entry.Op.TheVariants as ops
 use Rattle.ut_plain.specs.declared.table.Table.{Table}
+use Rattle.ut_plain.specs.declared.stage.PendingMerge.{PendingMerge}
 use Rattle.ut_plain.specs.declared.reply.Reply.TheVariants as replies
 use Rattle.ut_plain.specs.declared.reply.Refusal.TheVariants as refusals
 use Rattle.ut_plain.specs.declared.statement.Statement.{Statement}
@@ -25,12 +26,12 @@ use Rattle.ut_exact.specs.Places.{AreHeld}
 use Rattle.ut_exact.proofs.FateLemmas.{fate-push_new}
 use Rattle.ut_exact.proofs.ExactLemmas.{IsExact-start, IsExact-abort}
 use Rattle.ut_exact.proofs.SessionLemmas.{AreOpen-alone, AreOpen-renumbered}
-use Rattle.ut_table.specs.Staged.{Staged}
+use Rattle.ut_staged.specs.Staged.{Staged, stages_of}
 use Rattle.ut_txn.specs.Seats.{number_at, SeatsStay}
 use Rattle.ut_store.specs.declared.turn.Turn.{Turn}
 use Rattle.ut_store.specs.declared.turn.Turn.TheVariants.{Answered}
-use Rattle.ut_store.specs.Held.{Held, place_at}
-use Rattle.ut_store.specs.Stands.{StandsFor, AreRows, stages_of}
+use Rattle.ut_store.specs.Held.{Held}
+use Rattle.ut_store.specs.Stands.{StandsFor, AreRows, AreMerging}
 use Rattle.ut_store.specs.Answers.{Answers}
 use Rattle.ut_store.specs.Standing.{changes_rows}
 use Rattle.ut_store.specs.Changes.{op_fits, inserts_all, Stays}
@@ -38,6 +39,7 @@ use Rattle.ut_store.specs.Loads.{inserted}
 use Rattle.ut_store.proofs.SeatLemmas.{seats-stay, numbers-stay}
 use Rattle.ut_store.proofs.StandsLemmas.{dead_set, dead_pushed}
 use Rattle.ut_store.proofs.FinishLemmas.{may_lack}
+use Rattle.ut_staged.specs.Tables.{place_at}
 
 -- ---- the inserts of rows
 
@@ -65,7 +67,9 @@ pub record Spent (old new : Held) : Type 0 where
   pub next_id : new.next_id ≡ old.next_id
   pub rows_limit : new.rows_limit ≡ old.rows_limit
   pub commits : new.commits ≡ old.commits
+  pub merges : new.merges ≡ old.merges
   pub entries : new.entries ≡ old.entries
+  pub pending : new.pending ≡ old.pending
 
 pub stands-spent : (old new : Held) → Spent old new → Stays old new
 stands-spent old new c = record { each = λ p s. by p s }
@@ -76,7 +80,7 @@ stands-spent old new c = record { each = λ p s. by p s }
         let fates = slice_set (old.fates ++ Running ∷ []) (length old.fates) Aborted in
         record {
           plain = s.plain;
-          counts = record { tables = c.tables ∙ s.counts.tables; commits = c.commits ∙ s.counts.commits; entries = c.entries ∙ s.counts.entries; next_id = c.next_id ∙ s.counts.next_id; rows_limit = c.rows_limit ∙ s.counts.rows_limit };
+          counts = record { tables = c.tables ∙ s.counts.tables; commits = c.commits ∙ s.counts.commits; merges = c.merges ∙ s.counts.merges; entries = c.entries ∙ s.counts.entries; next_id = c.next_id ∙ s.counts.next_id; rows_limit = c.rows_limit ∙ s.counts.rows_limit; pending = c.pending ∙ s.counts.pending };
           seats = seats-stay old.seats new.seats p.sessions c.seats s.seats;
           rows = subst (λ (x : List Fate). AreRows (record new { fates = x }) p) (sym c.fates) (record {
             held = s.rows.held;
@@ -90,6 +94,7 @@ stands-spent old new c = record { each = λ p s. by p s }
             started = omega (arith, s.rows.started, length-set (old.fates ++ Running ∷ []) (length old.fates) Aborted, length-append old.fates (Running ∷ []));
             stages = s.rows.stages ∙ ap (λ (x : List Staged). map stages_of x) (sym c.staged);
             columns = ap (λ (x : List Staged). map (λ (y : Staged). y.columns) x) c.staged ∙ s.rows.columns ∙ ap (λ (x : List Table). map (λ (y : Table). y.columns) x) (sym c.tables);
+            merging = subst (λ (x : Option PendingMerge). AreMerging x (map (λ (y : Staged). y.merge) new.staged)) (sym c.pending) (subst (λ (x : List Staged). AreMerging old.pending (map (λ (y : Staged). y.merge) x)) (sym c.staged) s.rows.merging);
           });
         }
 

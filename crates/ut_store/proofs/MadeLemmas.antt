@@ -13,19 +13,20 @@ use Rattle.ut_plain.specs.Tables.{place_in, columns_in}
 use Rattle.ut_plain.specs.Made.{deletes_all, updates}
 use Rattle.ut_plain.specs.Refusals.{first_taken}
 use Rattle.ut_stamps.specs.declared.fates.Fate.TheVariants.{Running}
-use Rattle.ut_scan.specs.declared.place.Place.{Place}
+use Rattle.ut_stamps.specs.declared.place.Place.{Place}
 use Rattle.ut_exact.specs.Scan.{stored_in}
 use Rattle.ut_exact.specs.Work.{Fits}
 use Rattle.ut_exact.proofs.FreeLemmas.{AllFree, found_free, found_sorted, free_start, free_fits, update_fits}
 use Rattle.ut_txn.specs.declared.opened.Opened.{Opened}
 use Rattle.ut_txn.specs.Seats.{opened_at}
-use Rattle.ut_store.specs.Held.{Held, place_at}
+use Rattle.ut_store.specs.Held.{Held}
 use Rattle.ut_store.specs.Stands.{StandsFor}
 use Rattle.ut_store.specs.Reads.{looks_at, own_at}
 use Rattle.ut_store.specs.Hits.{Hits, plain_rows, first_taken_of}
 use Rattle.ut_store.proofs.ReadLemmas.{reads}
 use Rattle.ut_store.proofs.HitLemmas.{found-is, first_taken-is}
-use Rattle.ut_store.proofs.StagingLemmas.{updates_of}
+use Rattle.ut_staged.proofs.StagingLemmas.{updates_of}
+use Rattle.ut_staged.specs.Tables.{place_at}
 
 -- ---- the operations, from the places
 

@@ -15,11 +15,13 @@ use Rattle.ut_plain.specs.Plain.{Plain}
 use Rattle.ut_plain.specs.View.{view}
 use Rattle.ut_plain.specs.Tables.{place_of, place_in}
 use Rattle.ut_plain.proofs.ListLemmas.{position_below}
-use Rattle.ut_table.specs.Staged.{Staged, TableValue}
+use Rattle.ut_table.specs.Contents.{TableValue}
+use Rattle.ut_staged.proofs.ListLemmas.{get-there}
 use Rattle.ut_store.specs.Held.{Held}
 use Rattle.ut_store.specs.Stands.{StandsFor}
 use Rattle.ut_store.specs.Standing.{Stands}
 use Rattle.ut_store.specs.Early.{early_refusal}
+use Rattle.ut_staged.specs.Staged.{Staged}
 
 -- a statement that passes has names that are known
 pub named : (e : Held) (session : ℕ) (st : Statement) → early_refusal e session st ≡ None → IsTrue (names_known e.tables st)
@@ -43,6 +45,12 @@ pub place_within : (e : Held) (items : List TableValue) (name : List ℕ) (place
 place_within e items name place st are is =
     let below = position_below (λ (table : Table). same_bytes table.name name) e.tables place is in
     omega (arith, below, staged_count e st, ap (λ (x : List Staged). length x) are, length-map items (λ (t : TableValue). t.stages))
+
+-- the stages of a name's table
+pub named_table : (e : Held) (name : List ℕ) (place : ℕ) → Stands e → place_of e.tables name ≡ Some place → (s : Staged) × (slice_get e.staged place ≡ Some s)
+named_table e name place st is =
+    let below = position_below (λ (table : Table). same_bytes table.name name) e.tables place is in
+    get-there e.staged place (omega (arith, below, staged_count e st))
 
 -- so the table that is read there is one of them
 pub table_read : (e : Held) (items : List TableValue) (name : List ℕ) (place : ℕ) (t : TableValue) → Stands e → e.staged ≡ map (λ (x : TableValue). x.stages) items → place_of e.tables name ≡ Some place

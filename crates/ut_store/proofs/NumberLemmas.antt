@@ -11,6 +11,7 @@ use Rattle.ut_store.specs.Standing.{Stands}
 pub record AreSmall (e : Held) : Type 0 where
   pub entries : e.entries ≤ 1073741824
   pub commits : e.commits ≤ e.entries
+  pub merges : e.merges ≤ e.entries
   pub next_id : e.next_id ≤ 2147483649
   pub rows_limit : e.rows_limit ≤ 2147483648
   pub tables : length e.tables ≤ 256
@@ -25,6 +26,7 @@ are_small e st =
     record {
       entries = omega (arith, s.counts.entries, s.plain.short);
       commits = omega (arith, s.counts.entries, s.counts.commits, sums, count);
+      merges = omega (arith, s.counts.entries, s.counts.merges, sums, count);
       next_id = omega (arith, s.counts.next_id, s.plain.last);
       rows_limit = omega (arith, s.counts.rows_limit, s.plain.limit);
       tables = omega (arith, now.few, ap length s.counts.tables);

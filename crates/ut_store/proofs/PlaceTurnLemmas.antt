@@ -1,9 +1,10 @@
 -- What merge_l1 and shape answer, from what their steps promise.
-use Rattle.std.proofs.Common.{ℕ, ◌<◌, ◌≡◌, List, [], length, map, min, None, Some, refl, sym, ap, ◌∙◌, subst, IsTrue, slice_get, slice_set}
-use Rattle.std.proofs.lemmas.List.{length-map}
+use Rattle.std.proofs.Common.{ℕ, ◌<◌, ◌≡◌, List, length, min, None, Some, refl, sym, ap, ◌∙◌, subst, IsTrue, slice_get, slice_set}
 use Rattle.std.proofs.lemmas.Option.{slice_get-map}
 use Rattle.std.specs.Option.{option_map}
-use Rattle.ut_plain.specs.declared.statement.Statement.TheVariants.{MergeL1, Shape}
+use Rattle.ut_plain.specs.declared.statement.Statement.TheVariants as statements
+use Rattle.ut_plain.specs.declared.statement.Statement.TheVariants.{MergeL1}
+use Rattle.ut_plain.specs.declared.reply.Shape.{Shape}
 use Rattle.ut_plain.specs.declared.reply.Reply.TheVariants as replies
 use Rattle.ut_plain.specs.declared.reply.Refusal.TheVariants as refusals
 use Rattle.ut_plain.specs.Spelled.{is_spelled}
@@ -11,57 +12,54 @@ use Rattle.ut_plain.specs.Plain.{Plain}
 use Rattle.ut_plain.specs.Stages.{Stages, stages_at, shape_of}
 use Rattle.ut_plain.specs.Tables.{place_of}
 use Rattle.ut_plain.specs.Step.{effect_of}
-use Rattle.ut_table.specs.Staged.{Staged, TableValue, merged_l1}
+use Rattle.ut_table.specs.Contents.{TableValue}
 use Rattle.ut_store.specs.declared.turn.Turn.TheVariants.{Answered}
 use Rattle.ut_store.specs.Held.{Held}
-use Rattle.ut_store.specs.Stands.{StandsFor, placed_of, stages_of}
+use Rattle.ut_store.specs.Stands.{StandsFor}
 use Rattle.ut_store.specs.Early.{early_refusal}
 use Rattle.ut_store.specs.Answers.{Answers}
 use Rattle.ut_store.proofs.EarlyLemmas.{allowed}
-use Rattle.ut_store.proofs.ListLemmas.{set-same}
+use Rattle.ut_staged.proofs.ListLemmas.{set-same, map-set}
+use Rattle.ut_store.proofs.IndexLemmas.{stages_in}
 use Rattle.ut_store.proofs.NamedLemmas.{place-is}
-use Rattle.ut_store.proofs.StagingLemmas.{stages-here, map-set}
+use Rattle.ut_staged.specs.Staged.{Staged, merged_l1, stages_of}
 use Rattle.ut_store.proofs.StandsLemmas.{no_memory, tells, itself_same}
 use Rattle.ut_store.proofs.TableLemmas.{moved_rows}
-
-abbrev staged_in : List TableValue → List Staged
-staged_in items = map (λ (t : TableValue). t.stages) items
+use Rattle.ut_staged.proofs.TableLemmas.{stages-here}
 
 -- the stages of a table among all
-pub staged_at : (items : List TableValue) (place : ℕ) (t : TableValue) → slice_get items place ≡ Some t → slice_get (staged_in items) place ≡ Some t.stages
+pub staged_at : (items : List TableValue) (place : ℕ) (t : TableValue) → slice_get items place ≡ Some t → slice_get (stages_in items) place ≡ Some t.stages
 staged_at items place t is = slice_get-map (λ (x : TableValue). x.stages) items place ∙ ap (option_map (λ (x : TableValue). x.stages)) is
 
 -- a table whose stages are as before
-pub staged_same : (items : List TableValue) (place : ℕ) (old new : TableValue) → slice_get items place ≡ Some old → new.stages ≡ old.stages → staged_in (slice_set items place new) ≡ staged_in items
+pub staged_same : (items : List TableValue) (place : ℕ) (old new : TableValue) → slice_get items place ≡ Some old → new.stages ≡ old.stages → stages_in (slice_set items place new) ≡ stages_in items
 staged_same items place old new is same =
-    map-set (λ (x : TableValue). x.stages) items place new ∙ set-same (staged_in items) place new.stages (staged_at items place old is ∙ ap Some (sym same))
+    map-set (λ (x : TableValue). x.stages) items place new ∙ set-same (stages_in items) place new.stages (staged_at items place old is ∙ ap Some (sym same))
 
-pub unmoved_now : (e : Held) (items : List TableValue) (place n : ℕ) (old new : TableValue) (session : ℕ) (name : List ℕ) → e.staged ≡ staged_in items → slice_get items place ≡ Some old → new.stages ≡ old.stages
-    → Answers e session (MergeL1 name n) (Answered (replies.Refused refusals.Memory)) (record e { staged = staged_in (slice_set items place new) })
+pub unmoved_now : (e : Held) (items : List TableValue) (place n : ℕ) (old new : TableValue) (session : ℕ) (name : List ℕ) → e.staged ≡ stages_in items → slice_get items place ≡ Some old → new.stages ≡ old.stages
+    → Answers e session (MergeL1 name n) (Answered (replies.Refused refusals.Memory)) (record e { staged = stages_in (slice_set items place new) })
 unmoved_now e items place n old new session name are is same =
-    no_memory e (record e { staged = staged_in (slice_set items place new) }) session (MergeL1 name n) refl
-    (record { tables = refl; staged = staged_same items place old new is same ∙ sym are; fates = refl; seats = (itself_same e).seats; next_id = refl; rows_limit = refl; commits = refl; entries = refl })
+    no_memory e (record e { staged = stages_in (slice_set items place new) }) session (MergeL1 name n) refl
+    (record { tables = refl; staged = staged_same items place old new is same ∙ sym are; fates = refl; seats = (itself_same e).seats; next_id = refl; rows_limit = refl; commits = refl; merges = refl; entries = refl; pending = refl })
 
 pub moved_now : (e : Held) (items : List TableValue) (place n moved : ℕ) (old new : TableValue) (session : ℕ) (name : List ℕ) → session < 17 → IsTrue (is_spelled (MergeL1 name n)) → early_refusal e session (MergeL1 name n) ≡ None
-    → place_of e.tables name ≡ Some place → e.staged ≡ staged_in items → slice_get items place ≡ Some old → moved ≡ min n (length old.stages.l1) → new.stages ≡ merged_l1 n old.stages
-    → Answers e session (MergeL1 name n) (Answered (replies.Moved moved)) (record e { staged = staged_in (slice_set items place new) })
+    → place_of e.tables name ≡ Some place → e.staged ≡ stages_in items → slice_get items place ≡ Some old → moved ≡ min n (length old.stages.l1) → new.stages ≡ merged_l1 n old.stages
+    → Answers e session (MergeL1 name n) (Answered (replies.Moved moved)) (record e { staged = stages_in (slice_set items place new) })
 moved_now e items place n moved old new session name small spelled early at are is count stages =
     let here : slice_get e.staged place ≡ Some old.stages = ap (λ (x : List Staged). slice_get x place) are ∙ staged_at items place old is in
-    let after : slice_set e.staged place (merged_l1 n old.stages) ≡ staged_in (slice_set items place new) =
+    let after : slice_set e.staged place (merged_l1 n old.stages) ≡ stages_in (slice_set items place new) =
     (λ i. slice_set (are i) place (sym stages i)) ∙ sym (map-set (λ (x : TableValue). x.stages) items place new) in
-    subst (λ (k : ℕ). Answers e session (MergeL1 name n) (Answered (replies.Moved k)) (record e { staged = staged_in (slice_set items place new) })) (sym count)
+    subst (λ (k : ℕ). Answers e session (MergeL1 name n) (Answered (replies.Moved k)) (record e { staged = stages_in (slice_set items place new) })) (sym count)
     (subst (λ (x : List Staged). Answers e session (MergeL1 name n) (Answered (replies.Moved (min n (length old.stages.l1)))) (record e { staged = x })) after
     (moved_rows e e.seats e.frame session name n place old.stages spelled (allowed e session (MergeL1 name n) small early (λ p s. refl) (λ p s. refl)) here (place-is e session name place at) (itself_same e).seats))
 
-pub shape_now : (e : Held) (place l1 l2 : ℕ) (parts : List ℕ) (staged : Staged) (session : ℕ) (name : List ℕ) → session < 17 → IsTrue (is_spelled (Shape name)) → early_refusal e session (Shape name) ≡ None
-    → place_of e.tables name ≡ Some place → slice_get e.staged place ≡ Some staged → l1 ≡ length staged.l1 → l2 ≡ length staged.l2 → parts ≡ []
-    → Answers e session (Shape name) (Answered (replies.Shape (record { l1 = l1; l2 = l2; closed = None; parts = parts }))) e
-shape_now e place l1 l2 parts staged session name small spelled early at is first second none =
-    tells e e session (Shape name) (replies.Shape (record { l1 = l1; l2 = l2; closed = None; parts = parts })) spelled (allowed e session (Shape name) small early (λ p s. refl) (λ p s. refl)) (itself_same e) told_is
+pub shape_now : (e : Held) (place : ℕ) (shape : Shape) (staged : Staged) (session : ℕ) (name : List ℕ) → session < 17 → IsTrue (is_spelled (statements.Shape name)) → early_refusal e session (statements.Shape name) ≡ None
+    → place_of e.tables name ≡ Some place → slice_get e.staged place ≡ Some staged → shape ≡ shape_of (stages_of staged) → Answers e session (statements.Shape name) (Answered (replies.Shape shape)) e
+shape_now e place shape staged session name small spelled early at is told =
+    tells e e session (statements.Shape name) (replies.Shape shape) spelled (allowed e session (statements.Shape name) small early (λ p s. refl) (λ p s. refl)) (itself_same e) told_is
   where
-    told_is : (p : Plain) → StandsFor e p → effect_of p session (Shape name) ≡ record { reply = replies.Shape (record { l1 = l1; l2 = l2; closed = None; parts = parts }); plain = p }
+    told_is : (p : Plain) → StandsFor e p → effect_of p session (statements.Shape name) ≡ record { reply = replies.Shape shape; plain = p }
     told_is p s =
         let here : stages_at p.stages place ≡ stages_of staged = ap (λ (x : Stages). stages_at x place) s.rows.stages ∙ stages-here e.staged place staged is in
-        let told : effect_of p session (Shape name) ≡ record { reply = replies.Shape (shape_of (stages_of staged)); plain = p } =
-        (λ i. record { reply = replies.Shape (shape_of (stages_at p.stages (place-is e session name place at p s i))); plain = p }) ∙ (λ i. record { reply = replies.Shape (shape_of (here i)); plain = p }) in
-        told ∙ (λ i. record { reply = replies.Shape (record { l1 = ((length-map staged.l1 placed_of) ∙ sym first) i; l2 = ((length-map staged.l2 placed_of) ∙ sym second) i; closed = None; parts = sym none i }); plain = p })
+        (λ i. record { reply = replies.Shape (shape_of (stages_at p.stages (place-is e session name place at p s i))); plain = p })
+        ∙ (λ i. record { reply = replies.Shape ((ap shape_of here ∙ sym told) i); plain = p })

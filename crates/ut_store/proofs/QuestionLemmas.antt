@@ -28,7 +28,7 @@ use Rattle.ut_plain.specs.Refusals.{is_supported, unless, or_else}
 use Rattle.ut_plain.proofs.BoolLemmas.{and_left, and_right}
 use Rattle.ut_plain.proofs.ListLemmas.{position_below}
 use Rattle.ut_scan.specs.declared.place.Found.{Found}
-use Rattle.ut_table.specs.Staged.{Staged}
+use Rattle.ut_staged.specs.Staged.{Staged}
 use Rattle.ut_table.specs.Finds.{hits_of, rows_at}
 use Rattle.ut_store.specs.Held.{Held}
 use Rattle.ut_store.specs.Stands.{StandsFor}

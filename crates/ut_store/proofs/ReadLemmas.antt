@@ -68,4 +68,5 @@ reads e p session small s =
       commits = sym s.counts.commits;
       next_id = sym s.counts.next_id;
       rows_limit = sym s.counts.rows_limit;
+      pending = sym s.counts.pending;
     }

@@ -10,18 +10,19 @@ use Rattle.ut_plain.specs.Names.{known}
 use Rattle.ut_stamps.specs.declared.fates.Fate.{Fate}
 use Rattle.ut_plain.specs.declared.statement.Pred.{Pred}
 use Rattle.ut_plain.specs.Condition.{meets}
-use Rattle.ut_scan.specs.declared.place.Place.{Place}
+use Rattle.ut_stamps.specs.declared.place.Place.{Place}
 use Rattle.ut_scan.specs.declared.place.Found.{Found}
 use Rattle.ut_exact.specs.Scan.{IsScan}
 use Rattle.ut_exact.proofs.ScanLemmas.{seen_is_live}
-use Rattle.ut_table.specs.Staged.{Staged, row_at}
+use Rattle.ut_staged.specs.Staged.{Staged, row_at}
 use Rattle.ut_table.specs.Finds.{SeenOnce, Finds, hits_of}
-use Rattle.ut_store.specs.Held.{Held, place_at}
+use Rattle.ut_store.specs.Held.{Held}
 use Rattle.ut_store.specs.Hits.{Hits}
 use Rattle.ut_store.specs.Reads.{looks_at, own_at}
 use Rattle.ut_store.specs.Standing.{Stands}
 use Rattle.ut_store.proofs.HitLemmas.{dead_never}
-use Rattle.ut_store.proofs.StageLemmas.{here}
+use Rattle.ut_staged.specs.Tables.{place_at}
+use Rattle.ut_staged.proofs.TableLemmas.{here}
 
 -- the columns of a table's stages are those of its name
 pub columns_here : (e : Held) (name : List ℕ) (place : ℕ) (s : Staged) → Stands e → place_of e.tables name ≡ Some place → slice_get e.staged place ≡ Some s → columns_of e.tables name ≡ Some s.columns

@@ -14,26 +14,27 @@ use Rattle.ut_plain.specs.Condition.{meets}
 use Rattle.ut_plain.specs.Plain.{Plain}
 use Rattle.ut_plain.specs.View.{view}
 use Rattle.ut_stamps.specs.declared.fates.Fate.{Fate}
-use Rattle.ut_scan.specs.declared.place.Place.{Place}
+use Rattle.ut_stamps.specs.declared.place.Place.{Place}
 use Rattle.ut_scan.specs.declared.place.Found.{Found}
 use Rattle.ut_exact.specs.Stamped.{Stamped}
 use Rattle.ut_exact.specs.Places.{stamped_in}
 use Rattle.ut_exact.specs.Scan.{IsScan}
 use Rattle.ut_exact.proofs.OrderLemmas.{T_first, T_second, less}
 use Rattle.ut_exact.proofs.ScanLemmas.{seen_is_live}
-use Rattle.ut_table.specs.Staged.{Staged, row_at}
+use Rattle.ut_staged.specs.Staged.{Staged, row_at}
 use Rattle.ut_table.specs.Finds.{SeenOnce, Finds, hits_of}
-use Rattle.ut_store.specs.Held.{Held, place_at}
+use Rattle.ut_store.specs.Held.{Held}
 use Rattle.ut_store.specs.Stands.{StandsFor}
 use Rattle.ut_store.specs.Reads.{looks_at, own_at}
 use Rattle.ut_store.specs.Hits.{Hits, first_taken_of}
-use Rattle.ut_store.specs.Staging.{AreFound}
+use Rattle.ut_staged.specs.Staging.{AreFound}
 use Rattle.ut_store.specs.Changes.{AreThere, CanLook, Looked}
 use Rattle.ut_store.proofs.ReadLemmas.{reads}
-use Rattle.ut_store.proofs.StageLemmas.{here}
+use Rattle.ut_staged.specs.Tables.{place_at}
 use Rattle.ut_store.proofs.HitLemmas.{dead_never, AreFound-hits}
 use Rattle.ut_store.proofs.MadeLemmas.{FindsFree}
 use Rattle.ut_store.proofs.KindLemmas.{TableAt}
+use Rattle.ut_staged.proofs.TableLemmas.{here}
 
 -- ---- what can be looked for
 

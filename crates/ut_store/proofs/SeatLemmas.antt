@@ -15,13 +15,15 @@ use Rattle.ut_exact.specs.Gone.{IsGone}
 use Rattle.ut_exact.specs.Dropped.{AreDropped}
 use Rattle.ut_exact.specs.Places.{AreHeld, dead_number}
 use Rattle.ut_exact.proofs.SessionLemmas.{at-set_same, at-set_other, AreOpen-renumbered}
-use Rattle.ut_table.specs.Staged.{Staged}
+use Rattle.ut_staged.specs.Staged.{Staged, stages_of}
 use Rattle.ut_plain.specs.declared.table.Table.{Table}
+use Rattle.ut_plain.specs.declared.stage.PendingMerge.{PendingMerge}
 use Rattle.ut_txn.specs.declared.opened.Opened.{Opened}
 use Rattle.ut_txn.specs.Seats.{Seat, opened_at, payload_at, number_at, SeatSet, SeatsStay}
-use Rattle.ut_store.specs.Held.{Held, place_at}
-use Rattle.ut_store.specs.Stands.{StandsFor, AreSeats, snapshot_of, opened_snapshot, stages_of}
+use Rattle.ut_store.specs.Held.{Held}
+use Rattle.ut_store.specs.Stands.{StandsFor, AreSeats, AreMerging, snapshot_of, opened_snapshot}
 use Rattle.ut_store.specs.Answers.{Same}
+use Rattle.ut_staged.specs.Tables.{place_at}
 
 -- the sessions with the transaction of one another
 pub AreSeats-set : (old new : List Seat) (sessions : Sessions) (session : ℕ) (opened : Option Opened) (payload : List ℕ) (t : Option OpenTransaction) → 0 < session → session < 17 → length sessions ≡ 17
@@ -56,7 +58,7 @@ numbers-stay old new r c = ap (λ o. unwrap_or (option_map (λ (x : Opened). x.n
 pub stands-same : (old new : Held) (p : Plain) → Same old new → StandsFor old p → StandsFor new p
 stands-same old new p c s = record {
   plain = s.plain;
-  counts = record { tables = c.tables ∙ s.counts.tables; commits = c.commits ∙ s.counts.commits; entries = c.entries ∙ s.counts.entries; next_id = c.next_id ∙ s.counts.next_id; rows_limit = c.rows_limit ∙ s.counts.rows_limit };
+  counts = record { tables = c.tables ∙ s.counts.tables; commits = c.commits ∙ s.counts.commits; merges = c.merges ∙ s.counts.merges; entries = c.entries ∙ s.counts.entries; next_id = c.next_id ∙ s.counts.next_id; rows_limit = c.rows_limit ∙ s.counts.rows_limit; pending = c.pending ∙ s.counts.pending };
   seats = seats-stay old.seats new.seats p.sessions c.seats s.seats;
   rows = record {
     held = s.rows.held;
@@ -71,5 +73,6 @@ stands-same old new p c s = record {
     started = subst (λ (x : List Fate). dead_number < length x) (sym c.fates) s.rows.started;
     stages = s.rows.stages ∙ ap (λ (x : List Staged). map stages_of x) (sym c.staged);
     columns = ap (λ (x : List Staged). map (λ (y : Staged). y.columns) x) c.staged ∙ s.rows.columns ∙ ap (λ (x : List Table). map (λ (y : Table). y.columns) x) (sym c.tables);
+    merging = subst (λ (x : Option PendingMerge). AreMerging x (map (λ (y : Staged). y.merge) new.staged)) (sym c.pending) (subst (λ (x : List Staged). AreMerging old.pending (map (λ (y : Staged). y.merge) x)) (sym c.staged) s.rows.merging);
   };
 }

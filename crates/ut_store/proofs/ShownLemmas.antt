@@ -22,27 +22,28 @@ use Rattle.ut_plain.specs.Condition as condition
 use Rattle.ut_plain.specs.Condition.{meets}
 use Rattle.ut_plain.specs.View.{view}
 use Rattle.ut_plain.proofs.BoolLemmas.{and_right, and_both}
-use Rattle.ut_scan.specs.declared.place.Place.{Place}
+use Rattle.ut_stamps.specs.declared.place.Place.{Place}
 use Rattle.ut_scan.specs.declared.place.Found.{Found}
 use Rattle.ut_exact.specs.Exact.{shown_by}
 use Rattle.ut_exact.specs.Places.{StagedRow}
 use Rattle.ut_exact.specs.Scan.{stored_in}
 use Rattle.ut_exact.proofs.OrderLemmas.{AllFound, all_found, T_first, T_second, less}
 use Rattle.ut_exact.proofs.ScanLemmas.{seen_is_live}
-use Rattle.ut_table.specs.Staged.{Staged, row_at}
+use Rattle.ut_staged.specs.Staged.{Staged, row_at}
 use Rattle.ut_table.specs.Finds.{hits_of, rows_at}
 use Rattle.ut_ops.specs.Fit.{Fit, is_row}
 use Rattle.ut_ops.proofs.ColumnLemmas.{all_cons}
-use Rattle.ut_store.specs.Held.{Held, place_at}
+use Rattle.ut_store.specs.Held.{Held}
 use Rattle.ut_store.specs.Stands.{StandsFor}
 use Rattle.ut_store.specs.Standing.{Stands}
 use Rattle.ut_store.specs.Reads.{looks_at, own_at, counts_for}
 use Rattle.ut_store.specs.Hits.{Hits, plain_rows}
 use Rattle.ut_store.proofs.ReadLemmas.{reads}
-use Rattle.ut_store.proofs.StageLemmas.{here}
+use Rattle.ut_staged.specs.Tables.{place_at}
 use Rattle.ut_store.proofs.HitLemmas.{dead_never, found-is}
 use Rattle.ut_store.proofs.ScanLemmas.{columns_here}
 use Rattle.ut_store.proofs.SeenRowLemmas.{seen_row}
+use Rattle.ut_staged.proofs.TableLemmas.{here}
 
 -- The places that a scan found are rows of the plain store, whatever plain state the store stands for; they fit their columns, and there are not too many.
 pub record Shows (e : Held) (session : ℕ) (name : List ℕ) (preds : List Pred) (s : Staged) (hits : List Found) : Type 0 where

@@ -37,12 +37,13 @@ use Rattle.ut_txn.specs.declared.opened.Opened.{Opened}
 use Rattle.ut_txn.specs.Seats.{Seat, opened_at, payload_at, number_at, SeatSet}
 use Rattle.ut_store.specs.declared.turn.Turn.{Turn}
 use Rattle.ut_store.specs.declared.turn.Turn.TheVariants.{Answered}
-use Rattle.ut_store.specs.Held.{Held, place_at}
+use Rattle.ut_store.specs.Held.{Held}
 use Rattle.ut_store.specs.Stands.{StandsFor, AreCounts, AreSeats, AreRows}
 use Rattle.ut_store.specs.Answers.{Answer, Answers, Same, Logs, reply_of}
 use Rattle.ut_store.specs.Allowed.{IsRefused}
 use Rattle.ut_store.proofs.ReadLemmas.{SameSession, Closed, Open, same_session}
 use Rattle.ut_store.proofs.SeatLemmas.{AreSeats-set, numbers-set, stands-same}
+use Rattle.ut_staged.specs.Tables.{place_at}
 
 -- ---- what a step is
 
@@ -80,7 +81,7 @@ pub no_memory : (e new : Held) (session : ℕ) (st : Statement) → IsTrue (may_
 no_memory e new session st may same = record { each = λ p s. record { after = p; may = LacksMemory may refl refl; stands = stands-same e new p same s; logs = refl } }
 
 pub itself_same : (e : Held) → Same e e
-itself_same e = record { tables = refl; staged = refl; fates = refl; seats = record { count = refl; opened = λ s. refl; payloads = λ s. refl }; next_id = refl; rows_limit = refl; commits = refl; entries = refl }
+itself_same e = record { tables = refl; staged = refl; fates = refl; seats = record { count = refl; opened = λ s. refl; payloads = λ s. refl }; next_id = refl; rows_limit = refl; commits = refl; merges = refl; entries = refl; pending = refl }
 
 -- a statement that only tells
 pub tells : (e new : Held) (session : ℕ) (st : Statement) (reply : Reply) → IsTrue (is_spelled st) → IsRefused e session st None → Same e new
@@ -105,7 +106,7 @@ began e seats frame session some small h closed set = record {
       let own = same_session e p session s.seats in
       let none : open_at p.sessions session ≡ None = is_closed p own in
       answer_by e _ session Begin (Answered replies.Done) p (record { reply = replies.Done; plain = begun p session }) refl (h.is p s) s refl refl
-      (record { tables = s.counts.tables; commits = s.counts.commits; entries = s.counts.entries; next_id = s.counts.next_id; rows_limit = s.counts.rows_limit })
+      (record { tables = s.counts.tables; commits = s.counts.commits; merges = s.counts.merges; entries = s.counts.entries; next_id = s.counts.next_id; rows_limit = s.counts.rows_limit; pending = s.counts.pending })
       (AreSeats-set e.seats seats p.sessions session _ (payload_at e.seats session) (Some t) some small s.plain.seats (ap Some s.counts.entries)
       (s.seats.payloads session small ∙ ap (λ o. spelling (entries.Txn (own_ops o))) none) set s.seats)
       (record {
@@ -121,6 +122,7 @@ began e seats frame session some small h closed set = record {
         started = omega (arith, s.rows.started, length-append e.fates (Running ∷ []));
         stages = s.rows.stages;
         columns = s.rows.columns;
+        merging = s.rows.merging;
       }) refl;
 }
   where
@@ -206,6 +208,7 @@ abandoned_rows e seats frame session o payload p q t small is opened set journal
       started = omega (arith, s.rows.started, length-set e.fates o.number Aborted);
       stages = stages ∙ s.rows.stages;
       columns = s.rows.columns;
+      merging = s.rows.merging;
     }
 
 -- the payload of a session without own operations
@@ -220,7 +223,7 @@ gave_up e seats frame session o some small h is set = record { each = λ p s. by
     by : (p : Plain) (s : StandsFor e p) → IsOpenOn e p session o → Answer e session Abort (Answered replies.Done) (record e { fates = slice_set e.fates o.number Aborted; seats = seats; frame = frame }) p
     by p s (By t opened look) =
         answer_by e _ session Abort (Answered replies.Done) p (record { reply = replies.Done; plain = closed p session }) refl (h.is p s) s refl refl
-        (record { tables = s.counts.tables; commits = s.counts.commits; entries = s.counts.entries; next_id = s.counts.next_id; rows_limit = s.counts.rows_limit })
+        (record { tables = s.counts.tables; commits = s.counts.commits; merges = s.counts.merges; entries = s.counts.entries; next_id = s.counts.next_id; rows_limit = s.counts.rows_limit; pending = s.counts.pending })
         (AreSeats-set e.seats seats p.sessions session None no_payload None some small s.plain.seats refl refl set s.seats)
         (abandoned_rows e seats frame session o no_payload p (closed p session) t small is opened set refl refl refl refl s)
         refl
@@ -235,7 +238,7 @@ committed_nothing e seats frame session o some small h is empty only set = recor
         let no_ops : t.ops ≡ [] = only t.ops (s.seats.payloads session small ∙ ap (λ x. spelling (entries.Txn (own_ops x))) opened) in
         answer_by e _ session Commit (Answered replies.Done) p (record { reply = replies.Done; plain = closed p session }) refl (h.is p s) s
         (ap (committed p session) opened ∙ ap (committed_by p session) no_ops) refl
-        (record { tables = s.counts.tables; commits = s.counts.commits; entries = s.counts.entries; next_id = s.counts.next_id; rows_limit = s.counts.rows_limit })
+        (record { tables = s.counts.tables; commits = s.counts.commits; merges = s.counts.merges; entries = s.counts.entries; next_id = s.counts.next_id; rows_limit = s.counts.rows_limit; pending = s.counts.pending })
         (AreSeats-set e.seats seats p.sessions session None no_payload None some small s.plain.seats refl refl set s.seats)
         (abandoned_rows e seats frame session o no_payload p (closed p session) t small is opened set refl refl refl refl s)
         refl

@@ -28,17 +28,18 @@ use Rattle.ut_plain.proofs.TableLemmas.{fits_table-more}
 use Rattle.ut_plain.proofs.StateLaws.{IsState-current}
 use Rattle.ut_plain.proofs.MadeLemmas.{suits_table}
 use Rattle.ut_stamps.specs.Stamps.{sees}
-use Rattle.ut_scan.specs.declared.place.Place.{Place}
+use Rattle.ut_stamps.specs.declared.place.Place.{Place}
 use Rattle.ut_exact.specs.Exact.{shown_by}
 use Rattle.ut_exact.specs.Places.{StagedRow, stamped_in}
 use Rattle.ut_exact.specs.Scan.{stored_in}
 use Rattle.ut_exact.proofs.OrderLemmas.{AllFound, all_found}
-use Rattle.ut_store.specs.Held.{Held, place_at}
+use Rattle.ut_store.specs.Held.{Held}
 use Rattle.ut_store.specs.Stands.{StandsFor}
 use Rattle.ut_store.specs.Reads.{looks_at, own_at, counts_for}
 use Rattle.ut_store.specs.Hits.{Hits}
 use Rattle.ut_store.proofs.ReadLemmas.{reads}
 use Rattle.ut_store.proofs.HitLemmas.{holds}
+use Rattle.ut_staged.specs.Tables.{place_at}
 
 -- the tables of a state stay, and more may come behind
 more_tables : (s : State) (es : List Entry) → (us : List Table) × ((after_all s es).tables ≡ s.tables ++ us)

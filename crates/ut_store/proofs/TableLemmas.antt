@@ -1,16 +1,18 @@
 -- How a new table, and a merge of the first stage, keep the store standing for the plain state.
-use Rattle.std.proofs.Common.{ℕ, zero, suc, ◌+◌, ◌≡◌, List, [], ◌∷◌, ◌++◌, length, map, take, drop, min, Option, None, Some, refl, sym, ap, ◌∙◌, arith, IsTrue, slice_get, slice_set}
-use Rattle.std.proofs.lemmas.List.{map-append}
-use Rattle.std.specs.Option.{option_and_then}
+use Rattle.std.proofs.Common.{ℕ, ◌+◌, ◌<◌, ◌≡◌, cond, List, [], ◌∷◌, ◌++◌, length, map, min, Option, None, Some, refl, sym, ap, ◌∙◌, subst, arith, IsTrue, slice_get, slice_set, unwrap_or}
+use Rattle.std.proofs.lemmas.Bool.{ne_eqb}
+use Rattle.std.proofs.lemmas.List.{length-map, map-append}
 use Rattle.ut_value.specs.declared.value.Column.{Column}
 use Rattle.ut_value.specs.declared.entry.Entry.TheVariants as entries
 use Rattle.ut_value.specs.Spelling.{spelling}
 use Rattle.ut_plain.specs.declared.table.Table.{Table}
+use Rattle.ut_plain.specs.declared.stage.PendingMerge.{PendingMerge}
 use Rattle.ut_plain.specs.declared.statement.Statement.TheVariants.{Create, MergeL1}
 use Rattle.ut_plain.specs.declared.reply.Reply.TheVariants as replies
 use Rattle.ut_plain.specs.State.{State}
-use Rattle.ut_plain.specs.Journal.{appended}
+use Rattle.ut_plain.specs.Journal.{journal_len, current, appended}
 use Rattle.ut_plain.specs.Plain.{Plain}
+use Rattle.ut_plain.specs.Reached.{AreMerges}
 use Rattle.ut_plain.specs.Spelled.{is_spelled}
 use Rattle.ut_plain.specs.View.{view}
 use Rattle.ut_plain.specs.Tables.{place_in}
@@ -18,59 +20,53 @@ use Rattle.ut_plain.specs.Stages.{no_stages, stages_at, with_stages, moved, move
 use Rattle.ut_plain.proofs.MainLemmas.{same-created, same-moved}
 use Rattle.ut_plain.specs.Step.{created, merged_l1}
 use Rattle.ut_plain.proofs.JournalLaws.{current-appended, journal_len-appended}
-use Rattle.ut_scan.specs.declared.place.Place.{Place}
-use Rattle.ut_scan.specs.declared.place.Place.TheVariants.{L1, L2}
-use Rattle.ut_exact.specs.Places.{StagedRow, Moved}
 use Rattle.ut_exact.proofs.ExactLemmas.{IsExact-entry}
 use Rattle.ut_exact.specs.Gone.{IsGone}
 use Rattle.ut_exact.proofs.PlaceLemmas.{AreHeld-moved}
 use Rattle.ut_exact.proofs.DroppedLemmas.{AreDropped-same}
 use Rattle.ut_exact.proofs.SessionLemmas.{AreOpen-entry, AreOpen-renumbered}
-use Rattle.ut_table.specs.Staged.{Staged, no_rows, row_at}
-use Rattle.ut_table.specs.Staged as staged_tables
+use Rattle.ut_staged.specs.Staged.{Staged, no_rows, placed_of, stages_of}
+use Rattle.ut_staged.specs.Staged as staged_tables
+use Rattle.ut_staged.specs.Tables.{place_at, moved_in}
+use Rattle.ut_staged.proofs.ListLemmas.{InPushed, Last, Before, in_pushed}
+use Rattle.ut_staged.proofs.TableLemmas.{stages-here, stages-set, map-kept}
+use Rattle.ut_staged.proofs.CreatedLemmas.{created_moved}
+use Rattle.ut_staged.proofs.MovedLemmas.{back, moved_l1, stages-moved}
 use Rattle.ut_txn.specs.Seats.{Seat, number_at, SeatsStay}
 use Rattle.ut_store.specs.declared.turn.Turn.TheVariants.{Answered, Append}
-use Rattle.ut_store.specs.Held.{Held, place_at}
-use Rattle.ut_store.specs.Stands.{StandsFor, placed_of, stages_of}
+use Rattle.ut_store.specs.Held.{Held}
+use Rattle.ut_store.specs.Stands.{StandsFor, AreMerging, merge_at}
 use Rattle.ut_store.specs.Answers.{Answers}
 use Rattle.ut_store.specs.Allowed.{IsRefused}
-use Rattle.ut_store.proofs.ListLemmas.{InPushed, Last, Before, in_pushed, get-appended}
-use Rattle.ut_store.proofs.MovedLemmas.{moved_from, moved_l1}
 use Rattle.ut_store.proofs.SeatLemmas.{seats-stay, numbers-stay}
-use Rattle.ut_store.proofs.StagingLemmas.{stages-here, stages-set, columns-set}
 use Rattle.ut_store.proofs.StandsLemmas.{answer_by}
 
 -- ---- a table more
 
-none_some : (r : StagedRow) → None ≡ Some r → ⊥
-none_some r h = cc
-
--- an empty table holds no row
-empty_place : (columns : List Column) (q : Place) (r : StagedRow) → row_at (no_rows columns) q ≡ Some r → ⊥
-empty_place columns (L1 i) r h = none_some r h
-empty_place columns (L2 i) r h = none_some r h
-
-same_places : (staged : List Staged) (columns : List Column) → Moved (place_at staged) (place_at (staged ++ no_rows columns ∷ [])) (λ m q. q)
-same_places staged columns = record {
-  each = λ m q r h. before m q r (slice_get (staged ++ no_rows columns ∷ []) m) refl h;
-  all = λ m q r h. (q, refl, behind m q r (slice_get staged m) refl h);
-  apart = λ m p q r s hp hq e. e;
-}
+-- the merge of no table is another where one more is there
+merging-created : (pending : Option PendingMerge) (merges : List (Option PendingMerge)) → ((m : PendingMerge) → pending ≡ Some m → m.table < length merges) → AreMerging pending merges → AreMerging pending (merges ++ None ∷ [])
+merging-created pending merges few h n merge is = by (in_pushed merges None n merge is)
   where
-    before : (m : ℕ) (q : Place) (r : StagedRow) (o : Option Staged) → slice_get (staged ++ no_rows columns ∷ []) m ≡ o → option_and_then (λ s. row_at s q) (slice_get (staged ++ no_rows columns ∷ []) m) ≡ Some r → place_at staged m q ≡ Some r
-    before m q r None is h = absurd (none_some r (sym (ap (λ o. option_and_then (λ s. row_at s q) o) is) ∙ h))
-    before m q r (Some s) is h = by (in_pushed staged (no_rows columns) m s is)
-      where
-        there : row_at s q ≡ Some r
-        there = sym (ap (λ o. option_and_then (λ x. row_at x q) o) is) ∙ h
+    none_at : (o : Option PendingMerge) → ((m : PendingMerge) → o ≡ Some m → m.table < length merges) → n ≡ length merges → None ≡ merge_at o n
+    none_at None small at = refl
+    none_at (Some m) small at =
+        let lt = small m refl in
+        ap (λ b. cond b (Some m) None) (sym (ne_eqb n m.table (λ same. absurd (omega (arith, lt, at, same)))))
 
-        by : InPushed staged (no_rows columns) m s → place_at staged m q ≡ Some r
-        by (Last at same) = absurd (empty_place columns q r (sym (ap (λ x. row_at x q) same) ∙ there))
-        by (Before was) = ap (λ o. option_and_then (λ x. row_at x q) o) was ∙ there
+    by : InPushed merges None n merge → merge ≡ merge_at pending n
+    by (Last at same) = same ∙ none_at pending few at
+    by (Before was) = h n merge was
 
-    behind : (m : ℕ) (q : Place) (r : StagedRow) (o : Option Staged) → slice_get staged m ≡ o → place_at staged m q ≡ Some r → place_at (staged ++ no_rows columns ∷ []) m q ≡ Some r
-    behind m q r None is h = absurd (none_some r (sym (ap (λ o. option_and_then (λ s. row_at s q) o) is) ∙ h))
-    behind m q r (Some s) is h = ap (λ o. option_and_then (λ x. row_at x q) o) (get-appended staged (no_rows columns ∷ []) m s is) ∙ sym (ap (λ o. option_and_then (λ x. row_at x q) o) is) ∙ h
+-- a pending merge is of a table that is there
+pending_there : (e : Held) (p : Plain) → StandsFor e p → (m : PendingMerge) → e.pending ≡ Some m → m.table < length (map (λ (s : Staged). s.merge) e.staged)
+pending_there e p s m is = by p.pending (sym s.counts.pending ∙ is) s.plain.merges
+  where
+    count : length p.stages ≡ length (map (λ (x : Staged). x.merge) e.staged)
+    count = ap length s.rows.stages ∙ length-map e.staged stages_of ∙ sym (length-map e.staged (λ (x : Staged). x.merge))
+
+    by : (o : Option PendingMerge) → o ≡ Some m → AreMerges o p.stages (current p.journal).merges (journal_len p.journal) → m.table < length (map (λ (x : Staged). x.merge) e.staged)
+    by None none all = cc
+    by (Some x) same one = let small = one.table in omega (arith, small, count, ap (λ (o : Option PendingMerge). (unwrap_or o x).table) same)
 
 pub made_table : (e : Held) (seats : List Seat) (frame : List ℕ) (session : ℕ) (name : List ℕ) (columns : List Column) → IsTrue (is_spelled (Create name columns)) → IsRefused e session (Create name columns) None
     → frame ≡ spelling (entries.Create name columns) → SeatsStay e.seats seats
@@ -85,14 +81,16 @@ made_table e seats frame session name columns spelled h spells stay = record {
       (record {
         tables = ap (λ ts. ts ++ record { name = name; columns = columns } ∷ []) s.counts.tables ∙ sym (ap (λ (x : State). x.tables) now);
         commits = ap (λ n. n + 1) s.counts.commits ∙ sym (ap (λ (x : State). x.commits) now);
+        merges = s.counts.merges ∙ sym (ap (λ (x : State). x.merges) now);
         entries = ap (λ n. n + 1) s.counts.entries ∙ sym (journal_len-appended p.journal entry);
         next_id = s.counts.next_id;
         rows_limit = s.counts.rows_limit;
+        pending = s.counts.pending;
       })
       (seats-stay e.seats seats p.sessions stay s.seats)
       (record {
         held = s.rows.held;
-        places = AreHeld-moved (place_at e.staged) (place_at (e.staged ++ no_rows columns ∷ [])) (IsGone e.fates p.sessions) s.rows.held (λ m q. q) s.rows.places (same_places e.staged columns);
+        places = AreHeld-moved (place_at e.staged) (place_at (e.staged ++ no_rows columns ∷ [])) (IsGone e.fates p.sessions) s.rows.held (λ m q. q) s.rows.places (created_moved e.staged columns);
         dropped = AreDropped-same p.stages (p.stages ++ no_stages ∷ []) (IsGone e.fates p.sessions) s.rows.held (same-created p.stages) s.rows.dropped;
         free = s.rows.free;
         exact = IsExact-entry e.fates s.rows.held p.journal p.opening entry s.plain.opened.1 refl (λ id. refl) s.rows.exact;
@@ -103,28 +101,12 @@ made_table e seats frame session name columns spelled h spells stay = record {
         stages = ap (λ x. x ++ no_stages ∷ []) s.rows.stages ∙ sym (map-append stages_of e.staged (no_rows columns ∷ []));
         columns = map-append (λ (x : Staged). x.columns) e.staged (no_rows columns ∷ []) ∙ ap (λ x. x ++ columns ∷ []) s.rows.columns
             ∙ sym (map-append (λ (x : Table). x.columns) e.tables (record { name = name; columns = columns } ∷ []));
+        merging = subst (AreMerging e.pending) (sym (map-append (λ (x : Staged). x.merge) e.staged (no_rows columns ∷ []))) (merging-created e.pending (map (λ (x : Staged). x.merge) e.staged) (pending_there e p s) s.rows.merging);
       })
       (entry, refl, spells);
 }
 
 -- ---- the first stage is merged into the second
-
-map-take : {X Y : Type 0} (f : X → Y) (n : ℕ) (xs : List X) → map f (take n xs) ≡ take n (map f xs)
-map-take f zero xs = refl
-map-take f (suc n) [] = refl
-map-take f (suc n) (x ∷ xs) = ap (λ ys. f x ∷ ys) (map-take f n xs)
-
-map-drop : {X Y : Type 0} (f : X → Y) (n : ℕ) (xs : List X) → map f (drop n xs) ≡ drop n (map f xs)
-map-drop f zero xs = refl
-map-drop f (suc n) [] = refl
-map-drop f (suc n) (x ∷ xs) = map-drop f n xs
-
-length-map : {X Y : Type 0} (f : X → Y) (xs : List X) → length (map f xs) ≡ length xs
-length-map f [] = refl
-length-map f (x ∷ xs) = ap suc (length-map f xs)
-
-pub stages-moved : (n : ℕ) (s : Staged) → stages_of (staged_tables.merged_l1 n s) ≡ moved n (stages_of s)
-stages-moved n s = λ i. record { l1 = map-drop placed_of n s.l1 i; l2 = (map-append placed_of s.l2 (take n s.l1) ∙ ap (λ x. map placed_of s.l2 ++ x) (map-take placed_of n s.l1)) i; closed = None; parts = []; keep = [] }
 
 pub moved_rows : (e : Held) (seats : List Seat) (frame : List ℕ) (session : ℕ) (name : List ℕ) (n table : ℕ) (s : Staged) → IsTrue (is_spelled (MergeL1 name n)) → IsRefused e session (MergeL1 name n) None
     → slice_get e.staged table ≡ Some s → ((p : Plain) → StandsFor e p → place_in (view p session).tables name ≡ table) → SeatsStay e.seats seats
@@ -134,12 +116,12 @@ moved_rows e seats frame session name n table s spelled h is place stay = record
       let at = stages-here e.staged table s is in
       let here : stages_at p.stages table ≡ stages_of s = ap (λ x. stages_at x table) st.rows.stages ∙ at in
       answer_by e _ session (MergeL1 name n) (Answered (replies.Moved (min n (length s.l1)))) p (merged_l1 p table n) spelled (h.is p st) st (ap (λ k. merged_l1 p k n) (place p st))
-      (ap (λ k. replies.Moved (min n k)) (sym (length-map placed_of s.l1)) ∙ ap (λ x. replies.Moved (moved_count n x)) (sym here))
-      (record { tables = st.counts.tables; commits = st.counts.commits; entries = st.counts.entries; next_id = st.counts.next_id; rows_limit = st.counts.rows_limit })
+      (ap (λ k. replies.Moved (min n k)) (sym (length-map s.l1 placed_of)) ∙ ap (λ x. replies.Moved (moved_count n x)) (sym here))
+      (record { tables = st.counts.tables; commits = st.counts.commits; merges = st.counts.merges; entries = st.counts.entries; next_id = st.counts.next_id; rows_limit = st.counts.rows_limit; pending = st.counts.pending })
       (seats-stay e.seats seats p.sessions stay st.seats)
       (record {
         held = st.rows.held;
-        places = AreHeld-moved (place_at e.staged) (place_at (slice_set e.staged table (staged_tables.merged_l1 n s))) (IsGone e.fates p.sessions) st.rows.held (moved_from table n (length s.l2)) st.rows.places (moved_l1 e.staged table n s is);
+        places = AreHeld-moved (place_at e.staged) (place_at (slice_set e.staged table (staged_tables.merged_l1 n s))) (IsGone e.fates p.sessions) st.rows.held (moved_in table (back n (length s.l2))) st.rows.places (moved_l1 e.staged table n s is);
         dropped = AreDropped-same p.stages (with_stages (moved n) table p.stages) (IsGone e.fates p.sessions) st.rows.held (same-moved n table p.stages) st.rows.dropped;
         free = st.rows.free;
         exact = st.rows.exact;
@@ -147,7 +129,8 @@ moved_rows e seats frame session name n table s spelled h is place stay = record
         dead = st.rows.dead;
         started = st.rows.started;
         stages = (λ i. slice_set (st.rows.stages i) table (moved n (here i))) ∙ ap (slice_set (map stages_of e.staged) table) (sym (stages-moved n s)) ∙ sym (stages-set e.staged table (staged_tables.merged_l1 n s));
-        columns = columns-set e.staged table s (staged_tables.merged_l1 n s) is refl ∙ st.rows.columns;
+        columns = map-kept (λ (x : Staged). x.columns) e.staged table s (staged_tables.merged_l1 n s) is refl ∙ st.rows.columns;
+        merging = subst (AreMerging e.pending) (sym (map-kept (λ (x : Staged). x.merge) e.staged table s (staged_tables.merged_l1 n s) is refl)) st.rows.merging;
       })
       refl;
 }

@@ -8,7 +8,8 @@ use Rattle.ut_value.specs.Spelling.{spelling}
 use Rattle.ut_plain.specs.declared.statement.Statement.TheVariants.{Begin, Commit, Abort}
 use Rattle.ut_plain.specs.declared.reply.Reply.TheVariants as replies
 use Rattle.ut_plain.specs.declared.reply.Refusal.TheVariants as refusals
-use Rattle.ut_plain.specs.Refusals.{state_why}
+use Rattle.ut_plain.specs.declared.reply.Refusal.{Refusal}
+use Rattle.ut_plain.specs.Refusals.{state_why, or_else}
 use Rattle.ut_plain.specs.Limits.{has_room, has_commit_room}
 use Rattle.ut_plain.specs.Plain.{Plain, open_at}
 use Rattle.ut_plain.specs.View.{view, own_ops}
@@ -31,8 +32,12 @@ use Rattle.ut_store.proofs.ChangeLemmas.{committed_something}
 -- ---- whether the session is in a transaction
 
 pub closed_before : (e : Held) (session : ℕ) → early_refusal e session Begin ≡ None → opened_at e.seats session ≡ None
-closed_before e session h = by (opened_at e.seats session) h
+closed_before e session h = by (opened_at e.seats session) (in_front (option_map refusals.State (state_why (is_some (opened_at e.seats session)) Begin)) _ h)
   where
+    in_front : (a b : Option Refusal) → or_else a b ≡ None → a ≡ None
+    in_front None b e2 = refl
+    in_front (Some why) b e2 = cc
+
     by : (o : Option Opened) → option_map refusals.State (state_why (is_some o) Begin) ≡ None → o ≡ None
     by None h = refl
     by (Some o) h = cc
@@ -47,7 +52,7 @@ runs e session o st is = by (open_on e st.plain session o is st.stands.seats)
 -- ---- begin
 
 pub same_fates : (e : Held) (fates : List Fate) → fates ≡ e.fates → Same e (record e { fates = fates })
-same_fates e fates same = record { tables = refl; staged = refl; fates = same; seats = (itself_same e).seats; next_id = refl; rows_limit = refl; commits = refl; entries = refl }
+same_fates e fates same = record { tables = refl; staged = refl; fates = same; seats = (itself_same e).seats; next_id = refl; rows_limit = refl; commits = refl; merges = refl; entries = refl; pending = refl }
 
 pub began_now : (e : Held) (fates : List Fate) (seats : List Seat) (session number : ℕ) → 0 < session → session < 17 → early_refusal e session Begin ≡ None
     → fates ≡ e.fates ++ Running ∷ [] → number ≡ length e.fates → SeatSet e.seats seats session (Some (record { snapshot = e.entries; number = number })) (payload_at e.seats session)

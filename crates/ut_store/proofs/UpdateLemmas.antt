@@ -28,26 +28,27 @@ use Rattle.ut_plain.proofs.BoolLemmas.{and_left, and_right, and_both}
 use Rattle.ut_plain.proofs.ListLemmas.{list_all_set}
 use Rattle.ut_plain.proofs.TableLemmas.{there_known, fits_columns-set, are_values-fit}
 use Rattle.ut_plain.proofs.MadeLemmas.{suits_table}
-use Rattle.ut_scan.specs.declared.place.Place.{Place}
+use Rattle.ut_stamps.specs.declared.place.Place.{Place}
 use Rattle.ut_exact.specs.Scan.{stored_in}
-use Rattle.ut_table.specs.Staged.{Staged}
+use Rattle.ut_staged.specs.Staged.{Staged}
 use Rattle.ut_plain.specs.declared.reply.Reply.TheVariants as replies
 use Rattle.ut_store.specs.declared.turn.Turn.TheVariants.{Answered}
 use Rattle.ut_store.specs.Answers.{Answers}
-use Rattle.ut_store.specs.Held.{Held, place_at}
+use Rattle.ut_store.specs.Held.{Held}
 use Rattle.ut_store.specs.Stands.{StandsFor}
 use Rattle.ut_store.specs.Hits.{plain_rows}
-use Rattle.ut_store.specs.Staging.{Staging, written, AreFound}
+use Rattle.ut_staged.specs.Staging.{Staging, written, AreFound}
 use Rattle.ut_store.specs.Changes.{has_ids_for, late_refusal, updated_ops, op_fits, op_ends, ends_of, CanLook, Looked, MayChange, AreReady, IsWork}
 use Rattle.ut_store.proofs.ReadLemmas.{reads}
-use Rattle.ut_store.proofs.StageLemmas.{here}
+use Rattle.ut_staged.specs.Tables.{place_at}
 use Rattle.ut_store.proofs.HitLemmas.{found-is, first_taken-is}
 use Rattle.ut_store.proofs.MadeLemmas.{values_at, updates-are, length-rows, updates_fit, updates_fit_alone}
-use Rattle.ut_store.proofs.StagingLemmas.{updates_of, staging-updates, written-updates}
+use Rattle.ut_staged.proofs.StagingLemmas.{updates_of, staging-updates, written-updates}
 use Rattle.ut_store.proofs.KindLemmas.{early_tests, TableAt, table_at, at_n, next_small}
 use Rattle.ut_store.proofs.FinishLemmas.{answers_refused}
 use Rattle.ut_store.proofs.SearchLemmas.{known_in, can_look, place_view, hits_view, finds_free, AreGiven, FoundAt, found_places}
 use Rattle.ut_store.proofs.SuitLemmas.{AllSuit, all_suit}
+use Rattle.ut_staged.proofs.TableLemmas.{here}
 
 -- ---- what is made
 

@@ -1,5 +1,5 @@
 -- Operations one after the other.
-use Rattle.std.proofs.Common.{ℕ, zero, suc, ◌+◌, ◌*◌, ◌<◌, ◌≤◌, ◌≡◌, true, ◌&&◌, List, [], ◌∷◌, ◌++◌, length, length-append, drop, refl, sym, ap, subst, arith, IsTrue, IsSome, nat_le, leb-true, mul-le-mul_left, get_or, slice_get}
+use Rattle.std.proofs.Common.{ℕ, zero, suc, ◌+◌, ◌*◌, ◌<◌, ◌≤◌, ◌≡◌, true, ◌&&◌, List, [], ◌∷◌, length, length-append, drop, Option, None, Some, refl, sym, subst, arith, IsTrue, IsSome, nat_le, leb-true, mul-le-mul_left, get_or}
 use Rattle.std.specs.List.{list_all, sum_by}
 use Rattle.std.proofs.lemmas.List.Sums.{sum_by-cons}
 use Rattle.ut_value.specs.declared.value.Value.{Value}
@@ -12,13 +12,14 @@ use Rattle.ut_value.specs.Spelling.{is_op, is_u16, is_u32, is_count, are_values,
 use Rattle.ut_plain.specs.Tables.{fits_columns}
 use Rattle.ut_plain.specs.Rows.{op_inserts, inserts_of}
 use Rattle.ut_plain.proofs.BoolLemmas.{and_left, and_right, and_both}
-use Rattle.ut_scan.specs.declared.place.Place.{Place}
-use Rattle.ut_scan.specs.declared.place.Place.TheVariants.{L1, L2}
+use Rattle.ut_stamps.specs.declared.place.Place.{Place}
 use Rattle.ut_exact.specs.Places.{StagedRow}
 use Rattle.ut_scan.specs.declared.place.Found.{Found}
 use Rattle.ut_table.specs.Finds.{hits_of}
-use Rattle.ut_table.specs.Staged.{Staged, row_at, count_of, entered_l1, end_at, ended_in}
-use Rattle.ut_store.specs.Staging.{new_row, written}
+use Rattle.ut_staged.specs.Staged.{Staged, row_at, entered_l1, ended_in}
+use Rattle.ut_staged.specs.Staging.{new_row, written}
+use Rattle.ut_staged.proofs.StageLemmas.{row-stays, count-ended}
+use Rattle.ut_staged.proofs.StagingLemmas.{columns-ended, entered_stays}
 use Rattle.ut_store.specs.Changes.{written_one, hits_behind, op_fits, op_ends, AreThere, CanWrite}
 
 -- ---- an operation is short
@@ -44,44 +45,23 @@ op_len-short (ops.Delete table id) h = omega arith
 
 -- ---- one operation is written
 
-length-end : (t i : ℕ) (rows : List StagedRow) → length (end_at t i rows) ≡ length rows
-length-end t i [] = refl
-length-end t zero (row ∷ rows) = refl
-length-end t (suc i) (row ∷ rows) = ap suc (length-end t i rows)
-
-count-end : (t : ℕ) (p : Place) (s : Staged) → count_of (ended_in t p s) ≡ count_of s
-count-end t (L1 i) s = ap (λ n. n + length s.l2) (length-end t i s.l1)
-count-end t (L2 i) s = ap (λ n. length s.l1 + n) (length-end t i s.l2)
-
-columns-end : (t : ℕ) (p : Place) (s : Staged) → (ended_in t p s).columns ≡ s.columns
-columns-end t (L1 i) s = refl
-columns-end t (L2 i) s = refl
-
-stands-end : (t i k : ℕ) (rows : List StagedRow) → IsSome (slice_get rows k) → IsSome (slice_get (end_at t i rows) k)
-stands-end t i k [] h = h
-stands-end t zero zero (row ∷ rows) h = refl
-stands-end t zero (suc k) (row ∷ rows) h = h
-stands-end t (suc i) zero (row ∷ rows) h = refl
-stands-end t (suc i) (suc k) (row ∷ rows) h = stands-end t i k rows h
-
 stands_in : (t : ℕ) (p q : Place) (s : Staged) → IsSome (row_at s q) → IsSome (row_at (ended_in t p s) q)
-stands_in t (L1 i) (L1 k) s h = stands-end t i k s.l1 h
-stands_in t (L1 i) (L2 k) s h = h
-stands_in t (L2 i) (L1 k) s h = h
-stands_in t (L2 i) (L2 k) s h = stands-end t i k s.l2 h
+stands_in t p q s h = by (row_at s q) refl h
+  where
+    by : (o : Option StagedRow) → row_at s q ≡ o → IsSome o → IsSome (row_at (ended_in t p s) q)
+    by None is some = cc
+    by (Some row) is some = let now = row-stays t p q s row is in subst IsSome (sym now.1) refl
 
 pub AreThere-ended : (t : ℕ) (p : Place) (s : Staged) (hits : List (ℕ × Place)) → AreThere s hits → AreThere (ended_in t p s) hits
 AreThere-ended t p s [] h = tt
 AreThere-ended t p s (x ∷ xs) h = (stands_in t p x.1 s h.0, AreThere-ended t p s xs h.1)
 
-stands-pushed : (k : ℕ) (rows more : List StagedRow) → IsSome (slice_get rows k) → IsSome (slice_get (rows ++ more) k)
-stands-pushed k [] more h = cc
-stands-pushed zero (row ∷ rows) more h = refl
-stands-pushed (suc k) (row ∷ rows) more h = stands-pushed k rows more h
-
 stands_entered : (row : StagedRow) (q : Place) (s : Staged) → IsSome (row_at s q) → IsSome (row_at (entered_l1 row s) q)
-stands_entered row (L1 k) s h = stands-pushed k s.l1 (row ∷ []) h
-stands_entered row (L2 k) s h = h
+stands_entered row q s h = by (row_at s q) refl h
+  where
+    by : (o : Option StagedRow) → row_at s q ≡ o → IsSome o → IsSome (row_at (entered_l1 row s) q)
+    by None is some = cc
+    by (Some r) is some = subst IsSome (sym (entered_stays s row r q is)) refl
 
 pub AreThere-entered : (row : StagedRow) (s : Staged) (hits : List (ℕ × Place)) → AreThere s hits → AreThere (entered_l1 row s) hits
 AreThere-entered row s [] h = tt
@@ -113,8 +93,8 @@ can_behind number s hits (ops.Insert table id values) os h = record {
 }
 can_behind number s [] (ops.Delete table id) os h = let e = h.enough in absurd (omega (arith, e, sum_by-cons op_ends (ops.Delete table id) os))
 can_behind number s (x ∷ xs) (ops.Delete table id) os h = record {
-  fits = subst (λ cs. IsTrue (list_all (op_fits cs) os)) (sym (columns-end number x.1 s)) h.fits;
-  few = let f = h.few in omega (arith, f, sum_by-cons op_inserts (ops.Delete table id) os, count-end number x.1 s);
+  fits = subst (λ cs. IsTrue (list_all (op_fits cs) os)) (sym (columns-ended number x.1 s)) h.fits;
+  few = let f = h.few in omega (arith, f, sum_by-cons op_inserts (ops.Delete table id) os, count-ended number x.1 s);
   there = AreThere-ended number x.1 s xs h.there.1;
   enough = let e = h.enough in omega (arith, e, sum_by-cons op_ends (ops.Delete table id) os);
 }

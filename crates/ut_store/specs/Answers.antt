@@ -42,4 +42,6 @@ pub record Same (old new : Held) : Type 0 where
   pub next_id : new.next_id ≡ old.next_id
   pub rows_limit : new.rows_limit ≡ old.rows_limit
   pub commits : new.commits ≡ old.commits
+  pub merges : new.merges ≡ old.merges
   pub entries : new.entries ≡ old.entries
+  pub pending : new.pending ≡ old.pending

@@ -29,11 +29,11 @@ use Rattle.ut_plain.specs.Step.{effect_of, changed, is_bulk}
 use Rattle.ut_stamps.specs.declared.fates.Fate.{Fate}
 use Rattle.ut_stamps.specs.declared.fates.Fate.TheVariants.{Running, Committed}
 use Rattle.ut_stamps.specs.Stamps.{is_taken}
-use Rattle.ut_scan.specs.declared.place.Place.{Place}
+use Rattle.ut_stamps.specs.declared.place.Place.{Place}
 use Rattle.ut_exact.specs.Work.{Fits}
 use Rattle.ut_exact.specs.Places.{dead_number}
 use Rattle.ut_exact.specs.Scan.{stored_in}
-use Rattle.ut_table.specs.Staged.{Staged, row_at, count_of, entered_l1, ended_in}
+use Rattle.ut_staged.specs.Staged.{Staged, row_at, count_of, entered_l1, ended_in}
 use Rattle.ut_table.specs.Finds.{SeenOnce}
 use Rattle.ut_txn.specs.declared.opened.Opened.{Opened}
 use Rattle.ut_txn.specs.Seats.{opened_at, payload_at, SeatSet, SeatsStay}
@@ -43,7 +43,7 @@ use Rattle.ut_store.specs.Standing.{Stands, changes_rows}
 use Rattle.ut_store.specs.Early.{early_refusal}
 use Rattle.ut_store.specs.Reads.{looks_at, own_at}
 use Rattle.ut_store.specs.Hits.{Hits, stamp_in, first_taken_of}
-use Rattle.ut_store.specs.Staging.{Staging, new_row}
+use Rattle.ut_staged.specs.Staging.{Staging, new_row}
 
 -- ---- one operation after the other
 
@@ -139,7 +139,9 @@ pub record DoneInside (old new : Held) (session : ℕ) (o : Opened) (n : ℕ) (o
   pub next_id : new.next_id ≡ old.next_id + inserts_of os
   pub rows_limit : new.rows_limit ≡ old.rows_limit
   pub commits : new.commits ≡ old.commits
+  pub merges : new.merges ≡ old.merges
   pub entries : new.entries ≡ old.entries
+  pub pending : new.pending ≡ old.pending
 
 -- The same as a transaction by themselves, which is committed.
 pub record DoneAlone (old new : Held) (n : ℕ) (os : List Op) (after : ℕ → Staged → Staged) : Type 0 where
@@ -150,7 +152,9 @@ pub record DoneAlone (old new : Held) (n : ℕ) (os : List Op) (after : ℕ → 
   pub next_id : new.next_id ≡ old.next_id + inserts_of os
   pub rows_limit : new.rows_limit ≡ old.rows_limit
   pub commits : new.commits ≡ old.commits + 1
+  pub merges : new.merges ≡ old.merges
   pub entries : new.entries ≡ old.entries + 1
+  pub pending : new.pending ≡ old.pending
   pub frame : new.frame ≡ spelling (Txn os)
 
 -- The store stands for what it stood for.

@@ -6,11 +6,12 @@ use Rattle.ut_value.specs.declared.value.Value.{Value}
 use Rattle.ut_plain.specs.declared.table.Stored.{Stored}
 use Rattle.ut_stamps.specs.declared.visibility.Stamp.{Stamp}
 use Rattle.ut_stamps.specs.Stamps.{is_taken}
-use Rattle.ut_scan.specs.declared.place.Place.{Place}
+use Rattle.ut_stamps.specs.declared.place.Place.{Place}
 use Rattle.ut_exact.specs.Places.{StagedRow}
 use Rattle.ut_exact.specs.Scan.{IsScan, stored_in}
-use Rattle.ut_store.specs.Held.{Held, place_at}
+use Rattle.ut_store.specs.Held.{Held}
 use Rattle.ut_store.specs.Reads.{looks_at, own_at}
+use Rattle.ut_staged.specs.Tables.{place_at}
 
 -- by ascending id, the places of a table whose rows the session sees and which pass a test
 pub record Hits (e : Held) (session n : ℕ) (test : List Value → Bool) (hits : List (ℕ × Place)) : Type 0 where

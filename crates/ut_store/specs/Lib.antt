@@ -2,7 +2,6 @@ pub mod Held
 pub mod Stands
 pub mod Reads
 pub mod Answers
-pub mod Staging
 pub mod Allowed
 pub mod Hits
 pub mod Early
@@ -11,3 +10,5 @@ pub mod Created
 pub mod Listed
 pub mod Changes
 pub mod Loads
+pub mod Merging
+pub mod Jobs

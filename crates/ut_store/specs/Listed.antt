@@ -11,7 +11,7 @@ use Rattle.ut_plain.specs.Journal.{current}
 use Rattle.ut_plain.specs.Plain.{Plain}
 use Rattle.ut_scan.specs.declared.place.Found.{Found}
 use Rattle.ut_exact.specs.Scan.{stored_in}
-use Rattle.ut_table.specs.Staged.{Staged, row_at}
+use Rattle.ut_staged.specs.Staged.{Staged, row_at}
 use Rattle.ut_store.specs.Held.{Held}
 use Rattle.ut_store.specs.Stands.{StandsFor}
 

@@ -38,3 +38,4 @@ pub record Reads (e : Held) (session : ℕ) (v : View) (held : ℕ → Option St
   pub commits : v.commits ≡ e.commits
   pub next_id : v.next_id ≡ e.next_id
   pub rows_limit : v.rows_limit ≡ e.rows_limit
+  pub pending : v.pending ≡ e.pending

@@ -1,5 +1,5 @@
 -- The facts that a running store keeps, and those with which it begins.
-use Rattle.std.specs.Prelude.{ℕ, suc, zero, ◌≡◌, Bool, true, false, List, [], ◌∷◌}
+use Rattle.std.specs.Prelude.{ℕ, suc, zero, ◌≡◌, Bool, true, false, List, [], ◌∷◌, None}
 use Rattle.ut_value.specs.declared.entry.Entry.{Entry}
 use Rattle.ut_plain.specs.declared.table.Table.{Table}
 use Rattle.ut_plain.specs.declared.statement.Statement.{Statement}
@@ -10,7 +10,7 @@ use Rattle.ut_plain.specs.Capture.{Directory}
 use Rattle.ut_plain.specs.Plain.{Plain, no_image, opened_store}
 use Rattle.ut_plain.specs.Reached.{MayOpen}
 use Rattle.ut_stamps.specs.declared.fates.Fate.TheVariants.{Committed, Aborted}
-use Rattle.ut_table.specs.Staged.{Staged}
+use Rattle.ut_staged.specs.Staged.{Staged}
 use Rattle.ut_txn.specs.Seats.{AreEmpty}
 use Rattle.ut_store.specs.Held.{Held}
 use Rattle.ut_store.specs.Stands.{StandsFor}
@@ -46,8 +46,8 @@ abbrev pub suits_session : ℕ → Statement → Bool
 suits_session zero st = is_of_store st
 suits_session (suc session) st = true
 
--- The store has these tables, their rows, and these counts. Nobody has a transaction: a row was committed before all else, or is nobody's.
-pub record Restored (tables : List Table) (staged : List Staged) (next_id rows_limit commits entries : ℕ) (e : Held) : Type 0 where
+-- The store has these tables, their rows, and these counts. Nobody has a transaction: a row was committed before all else, or is nobody's. No merge is pending.
+pub record Restored (tables : List Table) (staged : List Staged) (next_id rows_limit commits merges entries : ℕ) (e : Held) : Type 0 where
   pub has_tables : e.tables ≡ tables
   pub has_rows : e.staged ≡ staged
   pub fates : e.fates ≡ Committed 0 ∷ Aborted ∷ []
@@ -55,7 +55,9 @@ pub record Restored (tables : List Table) (staged : List Staged) (next_id rows_l
   pub has_next : e.next_id ≡ next_id
   pub has_limit : e.rows_limit ≡ rows_limit
   pub has_commits : e.commits ≡ commits
+  pub has_merges : e.merges ≡ merges
   pub has_entries : e.entries ≡ entries
+  pub no_merge : e.pending ≡ None
 
 -- a journal of these entries that began with nothing
 abbrev pub journal_of : List Entry → Journal

@@ -1,5 +1,5 @@
 -- When the store in memory agrees with a plain state.
-use Rattle.std.specs.Prelude.{ℕ, ◌<◌, ◌≡◌, List, [], map, length, Option, None}
+use Rattle.std.specs.Prelude.{ℕ, ◌<◌, ◌≡◌, cond, nat_eq, List, map, length, Option, None, Some, slice_get}
 use Rattle.std.specs.Option.{option_map}
 use Rattle.ut_value.specs.declared.entry.Entry.TheVariants.{Txn}
 use Rattle.ut_value.specs.Spelling.{spelling}
@@ -7,8 +7,7 @@ use Rattle.ut_plain.specs.declared.table.Table.{Table}
 use Rattle.ut_plain.specs.declared.transaction.OpenTransaction.{OpenTransaction}
 use Rattle.ut_plain.specs.Journal.{journal_len, current}
 use Rattle.ut_plain.specs.Plain.{Plain, Sessions, open_at}
-use Rattle.ut_plain.specs.declared.stage.Placed.{Placed}
-use Rattle.ut_plain.specs.declared.stage.TableStages.{TableStages}
+use Rattle.ut_plain.specs.declared.stage.PendingMerge.{PendingMerge}
 use Rattle.ut_plain.specs.Reached.{IsPlain}
 use Rattle.ut_plain.specs.View.{own_ops}
 use Rattle.ut_stamps.specs.declared.fates.Fate.TheVariants.{Aborted}
@@ -18,20 +17,23 @@ use Rattle.ut_exact.specs.Exact.{IsExact, AreOpen}
 use Rattle.ut_exact.specs.Work.{AreFree}
 use Rattle.ut_exact.specs.Gone.{IsGone}
 use Rattle.ut_exact.specs.Dropped.{AreDropped}
-use Rattle.ut_exact.specs.Places.{StagedRow, is_dead, dead_number, AreHeld}
-use Rattle.ut_table.specs.Staged.{Staged}
+use Rattle.ut_exact.specs.Places.{dead_number, AreHeld}
+use Rattle.ut_staged.specs.Staged.{Staged, stages_of}
+use Rattle.ut_staged.specs.Tables.{place_at}
 use Rattle.ut_txn.specs.declared.opened.Opened.{Opened}
 use Rattle.ut_txn.specs.Seats.{Seat, opened_at, payload_at, number_at}
-use Rattle.ut_store.specs.Held.{Held, place_at}
+use Rattle.ut_store.specs.Held.{Held}
 
 -- ---- counts
 
 pub record AreCounts (e : Held) (p : Plain) : Type 0 where
   pub tables : e.tables ≡ (current p.journal).tables
   pub commits : e.commits ≡ (current p.journal).commits
+  pub merges : e.merges ≡ (current p.journal).merges
   pub entries : e.entries ≡ journal_len p.journal
   pub next_id : e.next_id ≡ p.next_id
   pub rows_limit : e.rows_limit ≡ p.rows_limit
+  pub pending : e.pending ≡ p.pending
 
 -- ---- sessions
 
@@ -52,13 +54,14 @@ pub record AreSeats (seats : List Seat) (sessions : Sessions) : Type 0 where
 
 -- ---- rows
 
--- a row in its place as the plain store has it
-abbrev pub placed_of : StagedRow → Placed
-placed_of row = record { id = row.id; values = row.values; dead = is_dead row.stamp }
+-- the merge of the table at a place, where it is the pending one
+abbrev pub merge_at : Option PendingMerge → ℕ → Option PendingMerge
+merge_at None n = None
+merge_at (Some m) n = cond (nat_eq n m.table) (Some m) None
 
--- a table's stages as the plain store has them
-abbrev pub stages_of : Staged → TableStages
-stages_of s = record { l1 = map placed_of s.l1; l2 = map placed_of s.l2; closed = None; parts = []; keep = [] }
+-- each table has the pending merge where that is of this table
+abbrev pub AreMerging : Option PendingMerge → List (Option PendingMerge) → Type 0
+AreMerging pending merges = (n : ℕ) (merge : Option PendingMerge) → slice_get merges n ≡ Some merge → merge ≡ merge_at pending n
 
 -- the places hold the rows of the plain state, each with an exact stamp
 pub record AreRows (e : Held) (p : Plain) : Type 0 where
@@ -76,6 +79,7 @@ pub record AreRows (e : Held) (p : Plain) : Type 0 where
   pub stages : p.stages ≡ map stages_of e.staged
   -- each table's stages have its columns
   pub columns : map (λ (s : Staged). s.columns) e.staged ≡ map (λ (t : Table). t.columns) e.tables
+  pub merging : AreMerging e.pending (map (λ (s : Staged). s.merge) e.staged)
 
 -- ---- all of it
 

@@ -1,7 +1,7 @@
 //! Bulk: rows are loaded into the second stage of their table.
 ghost use Rattle.std.specs.Prelude.{◌≡◌, ◌+◌, ◌<◌, ◌≤◌, ◌^◌, [], None, Some, IfOk, length, map};
 ghost use Rattle.ut_plain.specs.Made.{rows_of};
-ghost use Rattle.ut_table.specs.Staged.{begun_row, entered_l2};
+ghost use Rattle.ut_staged.specs.Staged.{begun_row, entered_l2};
 ghost use Rattle.ut_txn.specs.Seats.{opened_at};
 ghost use Rattle.ut_store.specs.Answers.{Answers};
 ghost use Rattle.ut_store.specs.Loads.{inserted};

@@ -3,7 +3,7 @@ ghost use Rattle.std.specs.Prelude.{◌≡◌, ◌<◌, None, Some};
 ghost use Rattle.ut_table.specs.Finds.{hits_of};
 ghost use Rattle.ut_txn.specs.Seats.{opened_at};
 ghost use Rattle.ut_store.specs.Answers.{Answers};
-ghost use Rattle.ut_store.specs.Staging.{written};
+ghost use Rattle.ut_staged.specs.Staging.{written};
 ghost use Rattle.ut_store.specs.Changes.{MayChange, AreReady, IsWork, late_refusal};
 
 use crate::{Store, Turn};

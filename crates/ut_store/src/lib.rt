@@ -10,6 +10,8 @@ mod hits;
 mod insert;
 mod limits;
 mod load;
+mod merges;
+mod pending;
 mod readers;
 mod scan;
 mod statement;
@@ -22,4 +24,4 @@ mod work;
 mod write;
 
 pub use store::Store;
-pub use turn::Turn;
+pub use turn::{Outcome, Turn};

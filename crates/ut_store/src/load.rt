@@ -1,7 +1,7 @@
 //! Rows are loaded into the second stage: in the session's transaction, or as a transaction by themselves.
 ghost use Rattle.std.specs.Prelude.{◌≡◌, ◌+◌, ◌<◌, ◌≤◌, ◌^◌, [], Some, length, map, vec_len, vec_capacity, IfOk, OnOk, OnErr};
 ghost use Rattle.ut_value.specs.Spelling.{ops_len};
-ghost use Rattle.ut_table.specs.Staged.{begun_row, entered_l2};
+ghost use Rattle.ut_staged.specs.Staged.{begun_row, entered_l2};
 ghost use Rattle.ut_txn.specs.Seats.{opened_at, payload_at};
 ghost use Rattle.ut_store.specs.Answers.{Same};
 ghost use Rattle.ut_store.specs.Loads.{inserted};

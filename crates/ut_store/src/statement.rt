@@ -1,21 +1,25 @@
 //! Statements: what refuses one before any row is looked at, and what answers it.
 ghost use Rattle.std.specs.Prelude.{◌≡◌, ◌<◌, None, is_some, option_map, IsTrue};
 ghost use Rattle.ut_plain.specs.declared.statement.Statement.TheVariants as statements;
-ghost use Rattle.ut_plain.specs.Refusals.{state_why};
+ghost use Rattle.ut_plain.specs.Refusals.{merge_why, state_why};
 ghost use Rattle.ut_plain.specs.Spelled.{is_spelled};
 ghost use Rattle.ut_txn.specs.Seats.{opened_at};
 ghost use Rattle.ut_store.specs.Early.{early_refusal};
 ghost use Rattle.ut_store.specs.Standing.{Stands, suits_session, changes_rows};
 ghost use Rattle.ut_store.specs.Answers.{Answers};
 
+use crate::finish::no_memory;
 use crate::store::Store;
 use crate::turn::Turn;
 use std::alloc::Global;
-use ut_plain::{Query, Refusal, Reply, Statement, is_supported, kinds_fit, names_known, state_why};
+use ut_plain::{
+    Query, Refusal, Reply, Statement, is_supported, kinds_fit, merge_why, names_known, state_why,
+};
 
 impl Store {
     /// Answers a statement of a session. Where the answer says so, the log has to append the store's frame before the reply
     /// is handed out. A commit and an abort take no memory.
+    /// The job of a merge that begins is given up; the end of one that is pending wants what was built of its job, for which there is no memory here.
     pub fn statement(&mut self, alloc: Global, session: u8, st: &Statement) -> Turn
         requires seat { session < 17 }
         requires suits { IsTrue (suits_session session st.now) }
@@ -48,6 +52,10 @@ impl Store {
             Statement::Commit => self.commit(session),
             Statement::Abort => self.abort(session),
             Statement::MergeL1 { table, n } => self.merge_l1(session, table, *n),
+            Statement::MergeBegin { table, kind } => {
+                self.merge_begin(alloc, session, table, *kind).turn
+            }
+            Statement::MergeEnd => no_memory(),
             Statement::Shape { table } => self.shape(alloc, session, table),
             _ => Turn::Answered(Reply::Refused(Refusal::Syntax)),
         }
@@ -81,7 +89,20 @@ impl Store {
         if !kinds_fit(&self.tables, st) {
             return Some(Refusal::Kind);
         }
-        self.state_refusal(session, st)
+        match self.state_refusal(session, st) {
+            Some(why) => Some(why),
+            None => self.merge_refusal(st),
+        }
+    }
+
+    // The refusal of a statement that the pending merge, or the lack of one, gives.
+    fn merge_refusal(&self, st: &Statement) -> Option<Refusal>
+        ensures { result ≡ option_map Refusal.State (merge_why self.now.pending st.now) }
+    {
+        match merge_why(self.pending(), st) {
+            Some(why) => Some(Refusal::State(why)),
+            None => None,
+        }
     }
 
     // The refusal of a statement that the session's transaction, or its lack of one, gives.

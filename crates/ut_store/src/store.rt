@@ -5,6 +5,7 @@ ghost use Rattle.ut_plain.specs.Plain.{new_store, no_image};
 ghost use Rattle.ut_store.specs.Stands.{StandsFor};
 ghost use Rattle.ut_store.specs.Standing.{Restored};
 
+use crate::pending::Pending;
 use std::alloc::{AllocError, Global};
 use std::marker::Model;
 use ut_plain::Table;
@@ -27,14 +28,16 @@ pub struct Store {
     pub(crate) next_id: u32,
     pub(crate) rows_limit: u32,
     pub(crate) commits: u32,
+    pub(crate) merges: u32,
     pub(crate) entries: u32,
+    pub(crate) pending: Option<Pending>,
     pub(crate) frame: Frame,
 }
 
 impl Model for Store {
     ghost use Rattle.std.specs.Prelude.{map};
     ghost use Rattle.ut_store.specs.Held.{Held};
-    ghost use Rattle.ut_table.specs.Staged.{TableValue};
+    ghost use Rattle.ut_table.specs.Contents.{TableValue};
 
     ghost Value = { Held };
 
@@ -46,7 +49,9 @@ impl Model for Store {
       next_id = s.next_id;
       rows_limit = s.rows_limit;
       commits = s.commits;
+      merges = s.merges;
       entries = s.entries;
+      pending = s.pending;
       frame = s.frame.payload;
     } };
 }
@@ -65,10 +70,11 @@ impl Store {
             rows_limit,
             0,
             0,
+            0,
         )
     }
 
-    /// A store with these tables and their rows, in which nobody has a transaction. The ids from `next_id` on are free.
+    /// A store with these tables and their rows, in which nobody has a transaction and no merge is pending. The ids from `next_id` on are free.
     pub fn restored(
         alloc: Global,
         tables: Vec<Table>,
@@ -76,9 +82,10 @@ impl Store {
         next_id: u32,
         rows_limit: u32,
         commits: u32,
+        merges: u32,
         entries: u32,
     ) -> Result<Store, AllocError>
-        ensures { IfOk result (Restored tables.items (map (λ t. t.stages) stages.items) next_id rows_limit commits entries) }
+        ensures { IfOk result (Restored tables.items (map (λ t. t.stages) stages.items) next_id rows_limit commits merges entries) }
     {
         let mut fates = Fates::new(alloc)?;
         let nobody = fates.start()?;
@@ -93,7 +100,9 @@ impl Store {
             next_id,
             rows_limit,
             commits,
+            merges,
             entries,
+            pending: None,
             frame,
         })
     }

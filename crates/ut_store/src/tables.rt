@@ -4,6 +4,7 @@ ghost use Rattle.ut_value.specs.declared.entry.Entry.TheVariants as entries;
 ghost use Rattle.ut_value.specs.Spelling.{spelling, has_spelling};
 ghost use Rattle.ut_plain.specs.declared.statement.Statement.TheVariants as statements;
 ghost use Rattle.ut_plain.specs.Spelled.{is_spelled};
+ghost use Rattle.ut_staged.specs.Staged.{no_rows};
 ghost use Rattle.ut_store.specs.Early.{early_refusal};
 ghost use Rattle.ut_store.specs.Standing.{Stands};
 ghost use Rattle.ut_store.specs.Answers.{Answers, Same};
@@ -13,13 +14,21 @@ use crate::store::Store;
 use crate::transactions::ENTRIES_LIMIT;
 use crate::turn::Turn;
 use std::alloc::{AllocError, Global};
-use ut_plain::{Refusal, Reply, Shape, Table, place_of};
+use ut_plain::{Refusal, Reply, Table, place_of};
 use ut_redo::Frame;
 use ut_table::Table as Stages;
 use ut_value::{Column, Duplicate, Entry, Name, Seq};
 
 /// A store may have so many tables.
 const TABLES_LIMIT: usize = 256;
+
+/// A table without rows, and the frame of its entry.
+#[derive(Drop)]
+struct NewTable {
+    table: Table,
+    stages: Stages,
+    frame: Frame,
+}
 
 impl Store {
     /// Makes a table.
@@ -59,13 +68,14 @@ impl Store {
         ensures ok { OnOk result (Created self.old table.now columns.now self.new) }
         ensures err { OnErr result (Same self.old self.new) }
     {
-        let frame = create_frame(alloc, table, columns)?;
-        let stages = Stages::new(alloc, columns.duplicate(alloc)?)?;
-        let name = table.copy(alloc)?;
-        let columns = columns.duplicate(alloc)?;
         self.tables.reserve(1)?;
         self.stages.reserve(1)?;
-        self.tables.push_reserved(Table { name, columns });
+        let NewTable {
+            table,
+            stages,
+            frame,
+        } = new_table(alloc, table, columns)?;
+        self.tables.push_reserved(table);
         self.stages.push_reserved(stages);
         self.frame = frame;
         self.entries += 1;
@@ -97,14 +107,31 @@ impl Store {
         ensures { Answers self.now session (statements.Shape table.now) result self.now }
     {
         let place = place_of(&self.tables, table.as_slice()).unwrap();
-        let stages = &self.stages[place];
-        Turn::Answered(Reply::Shape(Shape {
-            l1: stages.l1_len(),
-            l2: stages.l2_len(),
-            closed: None,
-            parts: Seq::new(alloc),
-        }))
+        match self.stages[place].shape(alloc) {
+            Err(_) => Turn::Answered(Reply::Refused(Refusal::Memory)),
+            Ok(shape) => Turn::Answered(Reply::Shape(shape)),
+        }
     }
+}
+
+// A table of copies of a name and of columns.
+fn new_table(alloc: Global, table: &Name, columns: &Seq<Column>) -> Result<NewTable, AllocError>
+    requires spelled { IsTrue (has_spelling (entries.Create table.now columns.now)) }
+    requires few { length columns.now ≤ 64 }
+    ensures table { IfOk result (λ new. new.table ≡ record { name = table.now; columns = columns.now }) }
+    ensures stages { IfOk result (λ new. new.stages.stages ≡ no_rows columns.now) }
+    ensures frame { IfOk result (λ new. new.frame.payload ≡ spelling (entries.Create table.now columns.now)) }
+{
+    let frame = create_frame(alloc, table, columns)?;
+    let stages = Stages::new(alloc, columns.duplicate(alloc)?)?;
+    let name = table.copy(alloc)?;
+    let columns = columns.duplicate(alloc)?;
+    let table = Table { name, columns };
+    Ok(NewTable {
+        table,
+        stages,
+        frame,
+    })
 }
 
 // The frame of a new table's entry.

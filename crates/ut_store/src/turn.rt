@@ -1,4 +1,5 @@
 //! What a statement comes to in memory.
+use ut_merge::Job;
 use ut_plain::Reply;
 
 /// A reply, and whether the log has to append the store's frame before it is handed out.
@@ -6,4 +7,11 @@ use ut_plain::Reply;
 pub enum Turn {
     Answered(Reply),
     Append(Reply),
+}
+
+/// A turn, and the job of the merge that it begins.
+#[derive(Drop)]
+pub struct Outcome {
+    pub turn: Turn,
+    pub job: Option<Job>,
 }

@@ -2,7 +2,7 @@
 ghost use Rattle.std.specs.Prelude.{◌≡◌, ◌+◌, ◌<◌, ◌≤◌, ◌^◌, IfOk, IsSome, length, slice_set, unwrap_or};
 ghost use Rattle.ut_plain.specs.Tables.{column_of};
 ghost use Rattle.ut_exact.specs.Scan.{stored_in};
-ghost use Rattle.ut_table.specs.Staged.{row_at};
+ghost use Rattle.ut_staged.specs.Staged.{row_at};
 ghost use Rattle.ut_table.specs.Finds.{hits_of};
 ghost use Rattle.ut_store.specs.Answers.{Answers};
 ghost use Rattle.ut_store.specs.Changes.{MayChange, AreThere, updated_ops};

@@ -3,11 +3,11 @@ ghost use Rattle.std.specs.Prelude.{◌≡◌, ◌+◌, ◌<◌, ◌≤◌, ◌^
 ghost use Rattle.std.specs.List.{list_all};
 ghost use Rattle.ut_value.specs.declared.entry.Entry.TheVariants.{Txn};
 ghost use Rattle.ut_value.specs.Spelling.{spelling, is_op, ops_len};
-ghost use Rattle.ut_table.specs.Staged.{Staged};
+ghost use Rattle.ut_staged.specs.Staged.{Staged};
 ghost use Rattle.ut_table.specs.Finds.{hits_of};
 ghost use Rattle.ut_txn.specs.Seats.{opened_at, payload_at};
 ghost use Rattle.ut_store.specs.Answers.{Same};
-ghost use Rattle.ut_store.specs.Staging.{written};
+ghost use Rattle.ut_staged.specs.Staging.{written};
 ghost use Rattle.ut_store.specs.Changes.{CanDo, CanAppend, DoneInside, DoneAlone};
 
 use crate::Store;

@@ -7,7 +7,7 @@ ghost use Rattle.ut_value.specs.Spelling.{spelling, is_op, ops_len};
 ghost use Rattle.ut_plain.specs.Rows.{op_inserts, inserts_of};
 ghost use Rattle.ut_table.specs.Finds.{hits_of};
 ghost use Rattle.ut_txn.specs.Seats.{opened_at, payload_at, spare_at, SeatSet};
-ghost use Rattle.ut_store.specs.Staging.{written};
+ghost use Rattle.ut_staged.specs.Staging.{written};
 ghost use Rattle.ut_store.specs.Changes.{CanWrite, written_one, hits_behind};
 
 use ut_entry::op_len;

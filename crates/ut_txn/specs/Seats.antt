@@ -1,5 +1,6 @@
 -- The seats of the sessions: which transaction is open, and its own operations as the bytes that a commit will append.
-use Rattle.std.specs.Prelude.{ℕ, ◌≡◌, ◌≢◌, ◌<◌, List, [], length, Option, None, slice_get}
+use Rattle.std.specs.Prelude.{ℕ, ◌≡◌, ◌≢◌, ◌<◌, List, [], ◌∷◌, length, Option, None, Some, slice_get}
+use Rattle.std.specs.List.{flat_map}
 use Rattle.std.specs.Option.{option_map, unwrap_or}
 use Rattle.ut_value.specs.declared.entry.Entry.TheVariants.{Txn}
 use Rattle.ut_value.specs.Spelling.{spelling}
@@ -28,6 +29,14 @@ spare_at seats session = unwrap_or (option_map (λ (seat : Seat). seat.spare) (s
 -- the number of its transaction
 abbrev pub number_at : List Seat → ℕ → ℕ
 number_at seats session = unwrap_or (option_map (λ (o : Opened). o.number) (opened_at seats session)) 0
+
+-- where a transaction looks, and where the open ones look, by the number of the session
+abbrev pub looks_of : Option Opened → List ℕ
+looks_of None = []
+looks_of (Some o) = o.snapshot ∷ []
+
+abbrev pub snapshots_of : List Seat → List ℕ
+snapshots_of seats = flat_map (λ (seat : Seat). looks_of seat.opened) seats
 
 -- So many seats, and no session has a transaction or an operation.
 pub record AreEmpty (n : ℕ) (seats : List Seat) : Type 0 where

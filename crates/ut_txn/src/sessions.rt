@@ -4,7 +4,7 @@ ghost use Rattle.std.specs.Prelude.{◌≡◌, ◌≢◌, ◌+◌, ◌<◌, ◌�
 ghost use Rattle.ut_value.specs.declared.entry.Op.{Op};
 ghost use Rattle.ut_value.specs.declared.entry.Entry.TheVariants.{Txn};
 ghost use Rattle.ut_value.specs.Spelling.{spelling, is_op, op_len};
-ghost use Rattle.ut_txn.specs.Seats.{opened_at, payload_at, spare_at, AreEmpty, SeatSet, SeatsStay};
+ghost use Rattle.ut_txn.specs.Seats.{opened_at, payload_at, spare_at, snapshots_of, AreEmpty, SeatSet, SeatsStay};
 
 use crate::opened::Opened;
 use crate::seated::Seated;
@@ -50,6 +50,19 @@ impl Sessions {
         ensures { result ≡ opened_at self.now session }
     {
         self.seats[session as usize].opened()
+    }
+
+    /// Where the open transactions look.
+    pub fn snapshots(&self, alloc: Global) -> Result<Vec<u32>, AllocError>
+        ensures { IfOk result (λ snapshots. snapshots.items ≡ snapshots_of self.now) }
+    {
+        let mut snapshots = Vec::new(alloc);
+        for seat in &self.seats {
+            if let Some(opened) = seat.opened() {
+                snapshots.push(opened.snapshot)?;
+            }
+        }
+        Ok(snapshots)
     }
 
     /// Whether a session has own operations.

@@ -1,6 +1,7 @@
 use Rattle.std.proofs.Common.{◌≡◌, sym, ap, ◌∙◌, arith, None}
 use Rattle.std.proofs.lemmas.Grind.{common_steps}
-use Rattle.ut_table.specs.Staged.{TableValue, stamped_row, entered_l1}
+use Rattle.ut_staged.specs.Staged.{stamped_row, entered_l1}
+use Rattle.ut_table.specs.Contents.{TableValue}
 use Rattle.ut_restart.specs.Standing.{stamp_of}
 use Rattle.ut_restart.proofs.StandLemmas.{entered-is}
 use Rattle.ut_restart.proofs.stages.enter.Goals as goal

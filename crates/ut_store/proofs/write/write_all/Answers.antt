@@ -2,7 +2,7 @@ use Rattle.std.proofs.Common.{◌≡◌, ◌≤◌, ◌∷◌, ◌∙◌, length
 use Rattle.std.specs.Vec.Iter.{into_iter_items}
 use Rattle.ut_plain.specs.Rows.{inserts_of}
 use Rattle.ut_table.specs.Finds.{hits_of}
-use Rattle.ut_store.specs.Staging.{written}
+use Rattle.ut_staged.specs.Staging.{written}
 use Rattle.ut_store.specs.Changes.{CanWrite, hits_behind}
 use Rattle.ut_store.proofs.WriteLemmas.{can_first, can_behind, room_first, written_first}
 use Rattle.ut_store.proofs.write.write_all.Goals as goal

@@ -2,7 +2,7 @@ use Rattle.std.proofs.Common.{◌≡◌, ◌≤◌, length}
 use Rattle.std.specs.Vec.Iter.{into_iter_items, into_iter_len}
 use Rattle.ut_plain.specs.Rows.{inserts_of}
 use Rattle.ut_table.specs.Finds.{hits_of}
-use Rattle.ut_store.specs.Staging.{written}
+use Rattle.ut_staged.specs.Staging.{written}
 use Rattle.ut_store.specs.Changes.{CanWrite}
 use Rattle.ut_store.proofs.write.write_all.Given as goal
 

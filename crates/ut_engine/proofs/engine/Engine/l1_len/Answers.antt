@@ -1,9 +1,9 @@
 use Rattle.std.proofs.Common.{◌≡◌, ◌<◌, false, refl, sym, ◌∙◌, subst, length}
 use Rattle.ut_plain.specs.declared.stage.TableStages.{TableStages}
-use Rattle.ut_table.specs.Staged.{Staged}
+use Rattle.ut_staged.specs.Staged.{Staged}
 use Rattle.ut_engine.specs.Lent.{Lent}
-use Rattle.ut_engine.specs.Reading.{IsL1Length}
-use Rattle.ut_engine.proofs.ReadingLemmas.{mapped_some, staged_within, plain_length}
+use Rattle.ut_engine.specs.Tables.{IsL1Length}
+use Rattle.ut_engine.proofs.TableLemmas.{mapped_some, staged_within, plain_length}
 use Rattle.ut_engine.proofs.engine.Engine.l1_len.Goals as goal
 
 pub unwrap-requires : goal.unwrap-requires

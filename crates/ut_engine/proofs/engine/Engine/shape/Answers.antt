@@ -1,9 +1,9 @@
-use Rattle.std.proofs.Common.{◌≡◌, ℕ, List, IsTrue, refl, sym, ap, subst}
+use Rattle.std.proofs.Common.{ℕ, List, IsTrue, refl, sym, ap, subst}
 use Rattle.std.proofs.lemmas.Result.{err_from_is_err_and}
 use Rattle.ut_plain.specs.declared.reply.Reply.{Reply}
 use Rattle.ut_plain.specs.declared.statement.Statement.TheVariants as statements
 use Rattle.ut_plain.specs.Names.{has_table}
-use Rattle.ut_logged.specs.Serves.{Serves}
+use Rattle.ut_engine.specs.Serves.{Serves}
 use Rattle.ut_engine.specs.Staging.{shape_reply, may_tell}
 use Rattle.ut_engine.proofs.StagingLemmas.{wants_memory, shape_told, shape_there}
 use Rattle.ut_engine.proofs.engine.Engine.shape.Goals as goal

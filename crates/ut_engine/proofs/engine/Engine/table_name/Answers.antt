@@ -2,8 +2,8 @@ use Rattle.std.proofs.Common.{◌≡◌, ◌<◌, ℕ, List, Some, Bor, sym, ◌
 use Rattle.std.specs.Option.{option_map}
 use Rattle.ut_plain.specs.declared.table.Table.{Table}
 use Rattle.ut_engine.specs.Lent.{Lent}
-use Rattle.ut_engine.specs.Reading.{IsTableName, name_at}
-use Rattle.ut_engine.proofs.ReadingLemmas.{item_some}
+use Rattle.ut_engine.specs.Tables.{IsTableName, name_at}
+use Rattle.ut_engine.proofs.TableLemmas.{item_some}
 use Rattle.ut_engine.proofs.engine.Engine.table_name.Goals as goal
 
 pub unwrap-requires : goal.unwrap-requires

@@ -1,6 +1,6 @@
 use Rattle.std.proofs.Common.{◌∙◌, ap, length, subst}
 use Rattle.ut_engine.specs.Lent.{Lent}
-use Rattle.ut_engine.specs.Reading.{IsTableCount}
+use Rattle.ut_engine.specs.Tables.{IsTableCount}
 use Rattle.ut_engine.proofs.engine.Engine.tables.Goals as goal
 
 pub returns : goal.returns

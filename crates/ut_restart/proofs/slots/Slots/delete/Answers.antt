@@ -1,7 +1,7 @@
 use Rattle.std.proofs.Common.{◌≡◌, ap, refl, sym, ◌∙◌, Some, ◌<◌, length, slice_set, arith, true}
 use Rattle.std.proofs.lemmas.Option.{slice_get_read}
 use Rattle.std.proofs.lemmas.Grind.{common_steps}
-use Rattle.ut_store.proofs.ListLemmas.{get-within}
+use Rattle.ut_staged.proofs.ListLemmas.{get-within}
 use Rattle.ut_restart.specs.Slots.{place_in}
 use Rattle.ut_restart.proofs.AppliedLemmas.{deleted}
 use Rattle.ut_restart.proofs.slots.Slots.delete.Goals as goal

@@ -2,7 +2,7 @@ use Rattle.std.proofs.Common.{ℕ, ◌≡◌, ◌<◌, ◌∙◌, [], true, List
 use Rattle.ut_value.specs.declared.value.Row.{Row}
 use Rattle.ut_plain.specs.Tables.{place_in, columns_in}
 use Rattle.ut_plain.specs.Made.{rows_of}
-use Rattle.ut_table.specs.Staged.{Staged, begun_row, entered_l2}
+use Rattle.ut_staged.specs.Staged.{Staged, begun_row, entered_l2}
 use Rattle.ut_store.specs.Held.{Held}
 use Rattle.ut_store.specs.Changes.{has_ids_for, numbered, inserts_all, IsWork}
 use Rattle.ut_store.specs.Loads.{inserted}

@@ -5,7 +5,7 @@ use Rattle.ut_plain.specs.Tables.{place_in}
 use Rattle.ut_scan.specs.declared.place.Found.{Found}
 use Rattle.ut_table.specs.Finds.{hits_of}
 use Rattle.ut_store.specs.Held.{Held}
-use Rattle.ut_store.specs.Staging.{written}
+use Rattle.ut_staged.specs.Staging.{written}
 use Rattle.ut_store.specs.Changes.{CanLook, Looked, AreReady, IsWork}
 use Rattle.ut_store.proofs.StandsLemmas.{itself_same}
 use Rattle.ut_store.proofs.FinishLemmas.{answers_memory}

@@ -5,10 +5,10 @@ use Rattle.ut_plain.specs.Rows.{inserts_of}
 use Rattle.ut_stamps.specs.declared.fates.Fate.TheVariants.{Running, Committed}
 use Rattle.ut_stamps.specs.Stamps.{fate_at, is_running}
 use Rattle.ut_exact.proofs.FateLemmas.{fate-push_new}
-use Rattle.ut_table.specs.Staged.{Staged}
+use Rattle.ut_staged.specs.Staged.{Staged}
 use Rattle.ut_table.specs.Finds.{hits_of}
 use Rattle.ut_store.specs.Held.{Held}
-use Rattle.ut_store.specs.Staging.{written}
+use Rattle.ut_staged.specs.Staging.{written}
 use Rattle.ut_store.specs.Changes.{CanWrite}
 use Rattle.ut_store.proofs.IndexLemmas.{on_err, stages_in, stages_at_place, stages_same, stages_put, seats_itself, same_by, alone_by}
 use Rattle.ut_store.proofs.store.Store.do_alone.Goals as goal
@@ -26,7 +26,9 @@ returns-in_err-room-clause-err c =
       next_id = refl;
       rows_limit = refl;
       commits = refl;
+      merges = refl;
       entries = refl;
+      pending = refl;
     }))
 
 pub returns-in_err-number-clause-err : goal.returns-in_err-number-clause-err
@@ -42,7 +44,9 @@ returns-in_err-number-clause-err c =
       next_id = refl;
       rows_limit = refl;
       commits = refl;
+      merges = refl;
       entries = refl;
+      pending = refl;
     }))
 
 pub write_all-requires-clause-can : goal.write_all-requires-clause-can
@@ -72,6 +76,8 @@ returns-clause-ok c =
       next_id = ap (λ n. c.self.inside.next_id + n) (c.inserts_of-inserts.ensures ∙ ap inserts_of c.deref.ensures.value);
       rows_limit = refl;
       commits = refl;
+      merges = refl;
       entries = refl;
+      pending = refl;
       frame = c.in_ok-frame.ensures ∙ ap (λ os. spelling (Txn os)) c.deref-2.ensures.value;
     })

@@ -2,11 +2,11 @@ use Rattle.std.proofs.Common.{◌≡◌, ◌+◌, ◌++◌, ◌∙◌, Some, sli
 use Rattle.ut_value.specs.declared.entry.Entry.TheVariants.{Txn}
 use Rattle.ut_value.specs.Spelling.{spelling}
 use Rattle.ut_plain.specs.Rows.{inserts_of}
-use Rattle.ut_table.specs.Staged.{Staged}
+use Rattle.ut_staged.specs.Staged.{Staged}
 use Rattle.ut_table.specs.Finds.{hits_of}
 use Rattle.ut_txn.specs.Seats.{opened_at}
 use Rattle.ut_store.specs.Held.{Held}
-use Rattle.ut_store.specs.Staging.{written}
+use Rattle.ut_staged.specs.Staging.{written}
 use Rattle.ut_store.specs.Changes.{CanWrite}
 use Rattle.ut_store.proofs.IndexLemmas.{on_err, stages_in, stages_at_place, stages_same, stages_put, seats_itself, seat_set_behind, same_by, inside_by}
 use Rattle.ut_store.proofs.store.Store.do_inside.Goals as goal
@@ -24,7 +24,9 @@ returns-in_err-room-clause-err c =
       next_id = refl;
       rows_limit = refl;
       commits = refl;
+      merges = refl;
       entries = refl;
+      pending = refl;
     }))
 
 pub returns-in_err-room-2-clause-err : goal.returns-in_err-room-2-clause-err
@@ -40,7 +42,9 @@ returns-in_err-room-2-clause-err c =
       next_id = refl;
       rows_limit = refl;
       commits = refl;
+      merges = refl;
       entries = refl;
+      pending = refl;
     }))
 
 pub write_all-requires-clause-can : goal.write_all-requires-clause-can
@@ -65,5 +69,7 @@ returns-clause-ok c =
       next_id = ap (λ n. c.self.inside.next_id + n) (c.inserts_of-inserts.ensures ∙ ap inserts_of c.deref.ensures.value);
       rows_limit = refl;
       commits = refl;
+      merges = refl;
       entries = refl;
+      pending = refl;
     })

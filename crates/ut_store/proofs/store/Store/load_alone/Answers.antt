@@ -8,7 +8,7 @@ use Rattle.ut_plain.specs.Rows.{inserts_of}
 use Rattle.ut_stamps.specs.declared.fates.Fate.TheVariants.{Running, Committed, Aborted}
 use Rattle.ut_stamps.specs.Stamps.{fate_at, is_running}
 use Rattle.ut_exact.proofs.FateLemmas.{fate-push_new}
-use Rattle.ut_table.specs.Staged.{Staged, begun_row, entered_l2, count_of}
+use Rattle.ut_staged.specs.Staged.{Staged, begun_row, entered_l2, count_of}
 use Rattle.ut_store.specs.Held.{Held}
 use Rattle.ut_store.specs.Changes.{op_fits}
 use Rattle.ut_store.specs.Loads.{inserted}
@@ -58,7 +58,9 @@ returns-in-Err-clause-err c =
       next_id = refl;
       rows_limit = refl;
       commits = refl;
+      merges = refl;
       entries = refl;
+      pending = refl;
     })
 
 pub returns-clause-ok : goal.returns-clause-ok
@@ -78,6 +80,8 @@ returns-clause-ok c =
       next_id = ap (λ n. c.self.inside.next_id + n) (c.inserts_of-inserts.ensures ∙ ap inserts_of c.deref.ensures.value);
       rows_limit = refl;
       commits = refl;
+      merges = refl;
       entries = refl;
+      pending = refl;
       frame = c.in_ok-frame.ensures ∙ ap (λ os. spelling (Txn os)) c.deref-2.ensures.value;
     })

@@ -5,7 +5,7 @@ use Rattle.ut_plain.specs.Tables.{fits_columns}
 use Rattle.ut_value.specs.declared.entry.Entry.TheVariants.{Txn}
 use Rattle.ut_value.specs.Spelling.{spelling}
 use Rattle.ut_plain.specs.Rows.{inserts_of}
-use Rattle.ut_table.specs.Staged.{Staged, begun_row, entered_l2, count_of}
+use Rattle.ut_staged.specs.Staged.{Staged, begun_row, entered_l2, count_of}
 use Rattle.ut_txn.specs.Seats.{opened_at}
 use Rattle.ut_store.specs.Held.{Held}
 use Rattle.ut_store.specs.Changes.{op_fits}
@@ -48,7 +48,9 @@ returns-in_err-load-clause-err c =
       next_id = refl;
       rows_limit = refl;
       commits = refl;
+      merges = refl;
       entries = refl;
+      pending = refl;
     }))
 
 pub returns-clause-ok : goal.returns-clause-ok
@@ -67,5 +69,7 @@ returns-clause-ok c =
       next_id = ap (λ n. c.self.inside.next_id + n) (c.inserts_of-inserts.ensures ∙ ap inserts_of c.deref.ensures.value);
       rows_limit = refl;
       commits = refl;
+      merges = refl;
       entries = refl;
+      pending = refl;
     })

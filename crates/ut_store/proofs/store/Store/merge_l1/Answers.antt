@@ -1,7 +1,7 @@
 use Rattle.std.proofs.Common.{◌≡◌, None, Some, refl, sym, ◌∙◌, subst, slice_get, slice_set, map, arith}
 use Rattle.ut_plain.specs.declared.statement.Statement.TheVariants.{MergeL1}
 use Rattle.ut_plain.specs.Tables.{place_of}
-use Rattle.ut_table.specs.Staged.{TableValue}
+use Rattle.ut_table.specs.Contents.{TableValue}
 use Rattle.ut_plain.specs.declared.reply.Reply.TheVariants.{Moved, Refused}
 use Rattle.ut_plain.specs.declared.reply.Refusal.TheVariants.{Memory}
 use Rattle.ut_store.specs.declared.turn.Turn.{Turn}

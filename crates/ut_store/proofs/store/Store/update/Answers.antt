@@ -3,10 +3,10 @@ use Rattle.ut_plain.specs.declared.statement.Pred.{Pred}
 use Rattle.ut_plain.specs.Tables.{place_in, columns_in, column_of}
 use Rattle.ut_plain.specs.Made.{changed_value}
 use Rattle.ut_scan.specs.declared.place.Found.{Found}
-use Rattle.ut_table.specs.Staged.{Staged}
+use Rattle.ut_staged.specs.Staged.{Staged}
 use Rattle.ut_table.specs.Finds.{hits_of}
 use Rattle.ut_store.specs.Held.{Held}
-use Rattle.ut_store.specs.Staging.{written}
+use Rattle.ut_staged.specs.Staging.{written}
 use Rattle.ut_store.specs.Changes.{has_ids_for, updated_ops, AreThere, CanLook, Looked, AreReady, IsWork}
 use Rattle.ut_store.proofs.StandsLemmas.{itself_same}
 use Rattle.ut_store.proofs.IndexLemmas.{stages_in, stages_at_place}

@@ -1,0 +1,23 @@
+-- Which error an opening gives for one of a layer below, and when a making may not write.
+use Rattle.std.specs.Prelude.{◌⊎◌, Result, IsErrOf}
+use Rattle.ut_outside.specs.Disk.{View, IsTold}
+use Rattle.ut_pages.specs.Layout.{IsMade}
+use Rattle.ut_redo.specs.declared.error.RedoError.{RedoError}
+use Rattle.ut_redo.specs.declared.error.RedoError.TheVariants as redo
+use Rattle.ut_restart.specs.declared.error.RestartError.{RestartError}
+use Rattle.ut_restart.specs.declared.error.RestartError.TheVariants as restart
+use Rattle.ut_engine.specs.declared.error.OpenError.{OpenError}
+use Rattle.ut_engine.specs.declared.error.OpenError.TheVariants as opening
+
+abbrev pub of_redo : RedoError → OpenError
+of_redo redo.Damaged = opening.Damaged
+of_redo redo.Disk = opening.Disk
+of_redo redo.Memory = opening.Memory
+
+abbrev pub of_restart : RestartError → OpenError
+of_restart restart.Damaged = opening.Damaged
+of_restart restart.Memory = opening.Memory
+
+-- A making may not write where no memory was found for the store, nor where the files are one already.
+abbrev pub MayOnlyRead : {T : Type 0} → Result T OpenError → View → Type 0
+MayOnlyRead result before = IsErrOf result opening.Memory ⊎ (IsTold before × IsMade before.seen.pages)

@@ -1,0 +1,36 @@
+-- What a statement does to a running store and to its files.
+use Rattle.std.specs.Prelude.{ℕ, ◌≡◌, ◌≤◌, ◌⊎◌, true}
+use Rattle.ut_outside.specs.Disk.{View, IsTold}
+use Rattle.ut_outside.specs.Faults.{Rose}
+use Rattle.ut_outside.specs.Run.{LeavesOnly}
+use Rattle.ut_plain.specs.declared.statement.Statement.{Statement}
+use Rattle.ut_plain.specs.declared.reply.Reply.{Reply}
+use Rattle.ut_plain.specs.declared.reply.Reply.TheVariants.{DiskFault}
+use Rattle.ut_plain.specs.Journal.{journal_len}
+use Rattle.ut_plain.specs.Plain.{Plain}
+use Rattle.ut_plain.specs.Step.{step, MayAnswer, MayFault}
+use Rattle.ut_engine.specs.Logged.{Logged}
+use Rattle.ut_engine.specs.Files.{HoldsPrefix}
+use Rattle.ut_engine.specs.Runs.{Runs}
+
+-- It is answered: the plain state may give this reply, and the store runs from the state after it. A crash at any moment leaves all that was there, with the statement's own entry or without it.
+pub record IsAnswered (p : Plain) (before : View) (session : ℕ) (st : Statement) (reply : Reply) (new : Logged) (after : View) : Type 0 where
+  pub plain : Plain
+  pub may : MayAnswer p session st reply plain
+  pub runs : Runs new after plain
+  pub sound : reply ≡ DiskFault → ⊥
+  pub any_moment : IsTold before → LeavesOnly before after (HoldsPrefix plain.journal (journal_len p.journal))
+
+-- Or the disk failed, where it may, and the store is down. A crash at any moment leaves all that was there, with that entry or without it.
+pub record IsLost (p : Plain) (before : View) (session : ℕ) (st : Statement) (reply : Reply) (new : Logged) (after : View) : Type 0 where
+  pub fault : reply ≡ DiskFault
+  pub down : new.down ≡ true
+  pub may : MayFault p session st
+  pub any_moment : IsTold before → LeavesOnly before after (HoldsPrefix (step p session st).plain.journal (journal_len p.journal))
+
+-- What a statement does, whatever plain state the store ran from.
+pub record Serves (old : Logged) (before : View) (session : ℕ) (st : Statement) (reply : Reply) (new : Logged) (after : View) : Type 0 where
+  pub each : (p : Plain) → Runs old before p → IsAnswered p before session st reply new after ⊎ IsLost p before session st reply new after
+  pub told : after.told ≡ before.told
+  pub later : before.faults ≤ after.faults
+  pub cause : reply ≡ DiskFault → Rose before.faults after.faults

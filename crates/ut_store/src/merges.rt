@@ -1,0 +1,196 @@
+//! Merges into main: one begins, hands out its job, and ends with what was built of it.
+ghost use Rattle.std.specs.Prelude.{◌≡◌, ◌<◌, ◌≤◌, Some, None, IsTrue, IfOk, OnOk, OnErr, length, slice_get};
+ghost use Rattle.ut_value.specs.declared.entry.Entry.TheVariants as entries;
+ghost use Rattle.ut_value.specs.Spelling.{spelling};
+ghost use Rattle.ut_plain.specs.declared.statement.Statement.TheVariants as statements;
+ghost use Rattle.ut_plain.specs.Merges.{has_part_room};
+ghost use Rattle.ut_plain.specs.Spelled.{is_spelled};
+ghost use Rattle.ut_staged.specs.Staged.{Staged};
+ghost use Rattle.ut_store.specs.Early.{early_refusal};
+ghost use Rattle.ut_store.specs.Standing.{Stands, suits_session};
+ghost use Rattle.ut_store.specs.Answers.{Answers, Same};
+ghost use Rattle.ut_store.specs.Merging.{MayMerge, merge_begun, has_room_to_merge};
+ghost use Rattle.ut_store.specs.Jobs.{pending_job, HandsOut};
+
+use crate::finish::no_memory;
+use crate::pending::Pending;
+use crate::store::Store;
+use crate::transactions::ENTRIES_LIMIT;
+use crate::turn::{Outcome, Turn};
+use std::alloc::{AllocError, Global};
+use ut_merge::{Built, Job};
+use ut_plain::{PendingMerge, Refusal, Reply, Statement, place_of};
+use ut_redo::Frame;
+use ut_value::{Entry, MergeKind, Name};
+
+/// So many rows of main and of the second stage are too many for a merge.
+const PLACES_LIMIT: u64 = 1 << 31;
+
+/// Main has at most so many parts.
+const PARTS_LIMIT: u8 = 8;
+
+impl Store {
+    /// Answers a statement of a session as `statement` does, and hands out the job of a merge that it begins.
+    pub fn statement_with_job(&mut self, alloc: Global, session: u8, st: &Statement) -> Outcome
+        requires seat { session < 17 }
+        requires suits { IsTrue (suits_session session st.now) }
+        requires spelled { IsTrue (is_spelled st.now) }
+        requires stands { Stands self.old }
+        ensures answers { Answers self.old session st.now result.turn self.new }
+        ensures job { HandsOut st.now result.turn result.job self.new }
+    {
+        match st {
+            Statement::MergeBegin { table, kind } => match self.early_refusal(session, st) {
+                Some(why) => without_job(Turn::Answered(Reply::Refused(why))),
+                None => self.merge_begin(alloc, session, table, *kind),
+            },
+            _ => without_job(self.statement(alloc, session, st)),
+        }
+    }
+
+    /// Begins a merge of a table.
+    pub(crate) fn merge_begin(
+        &mut self,
+        alloc: Global,
+        session: u8,
+        table: &Name,
+        kind: MergeKind,
+    ) -> Outcome
+        requires seat { session < 17 }
+        requires spelled { IsTrue (is_spelled (statements.MergeBegin table.now kind)) }
+        requires stands { Stands self.old }
+        requires early { early_refusal self.old session (statements.MergeBegin table.now kind) ≡ None }
+        ensures answers { Answers self.old session (statements.MergeBegin table.now kind) result.turn self.new }
+        ensures job { HandsOut (statements.MergeBegin table.now kind) result.turn result.job self.new }
+    {
+        let place = place_of(&self.tables, table.as_slice()).unwrap();
+        if !self.has_merge_room(place, kind) {
+            return without_job(Turn::Answered(Reply::Refused(Refusal::Full)));
+        }
+        match self.close_table(alloc, place, kind) {
+            Err(_) => without_job(no_memory()),
+            Ok(job) => Outcome {
+                turn: Turn::Append(Reply::Merge(self.merges)),
+                job: Some(job),
+            },
+        }
+    }
+
+    // Whether the journal, the table at a place and its main have room for a merge.
+    fn has_merge_room(&self, place: usize, kind: MergeKind) -> bool
+        requires { place < length self.now.staged }
+        ensures { (s : Staged) → slice_get self.now.staged place ≡ Some s → result ≡ has_room_to_merge self.now s kind }
+    {
+        let stages = &self.stages[place];
+        self.entries < ENTRIES_LIMIT
+            && stages.places() < PLACES_LIMIT
+            && has_part_room(kind, stages.part_count())
+    }
+
+    // Closes the second stage of the table at a place, and makes all that the merge's end needs of the store: all or nothing.
+    fn close_table(
+        &mut self,
+        alloc: Global,
+        place: usize,
+        kind: MergeKind,
+    ) -> Result<Job, AllocError>
+        requires may { MayMerge self.old place kind }
+        requires place { place < 65536 }
+        requires entries { self.old.entries < ENTRIES_LIMIT }
+        requires merges { self.old.merges < ENTRIES_LIMIT }
+        ensures ok { OnOk result ((s : Staged) → slice_get self.old.staged place ≡ Some s → self.new ≡ merge_begun self.old place kind s) }
+        ensures job { IfOk result (λ job. pending_job self.new ≡ Some job) }
+        ensures err { OnErr result (Same self.old self.new) }
+    {
+        let head = PendingMerge {
+            number: self.merges + 1,
+            table: place as u16,
+            kind,
+        };
+        let begun = begun_frame(alloc, head)?;
+        let pending = Pending::new(alloc, head)?;
+        let snapshots = self.sessions.snapshots(alloc)?;
+        let stages = &mut self.stages[place];
+        let keep = stages.keep(alloc, kind, &self.fates, &snapshots)?;
+        let job = stages.close_l2(alloc, head, keep)?;
+        self.pending = Some(pending);
+        self.merges += 1;
+        self.entries += 1;
+        self.frame = begun;
+        Ok(job)
+    }
+
+    /// The job of the pending merge once more, if one is pending.
+    pub fn merge_again(&self, alloc: Global) -> Result<Option<Job>, AllocError>
+        requires { Stands self.now }
+        ensures { IfOk result (λ job. job ≡ pending_job self.now) }
+    {
+        match &self.pending {
+            None => Ok(None),
+            Some(pending) => self.stages[usize::from(pending.head().table)].job_again(alloc),
+        }
+    }
+
+    /// Ends the pending merge with what was built of its job. Takes no memory.
+    pub fn merge_end(&mut self, session: u8, built: Built) -> Turn
+        requires seat { session < 17 }
+        requires stands { Stands self.old }
+        requires built { pending_job self.old ≡ Some built }
+        ensures { Answers self.old session statements.MergeEnd result self.new }
+    {
+        let pending = self.pending.take().unwrap();
+        let head = pending.head();
+        self.stages[usize::from(head.table)].switch(built);
+        self.entries += 1;
+        self.frame = pending.into_frame();
+        Turn::Append(Reply::Merge(head.number))
+    }
+
+    /// How many merges were begun.
+    pub fn merges(&self) -> u32
+        ensures { result ≡ self.now.merges }
+    {
+        self.merges
+    }
+
+    /// The merge that was begun and has not ended.
+    pub fn pending(&self) -> Option<PendingMerge>
+        ensures { result ≡ self.now.pending }
+    {
+        match &self.pending {
+            Some(pending) => Some(pending.head()),
+            None => None,
+        }
+    }
+}
+
+fn without_job(turn: Turn) -> Outcome
+    ensures turn { result.turn ≡ turn }
+    ensures job { result.job ≡ None }
+{
+    Outcome { turn, job: None }
+}
+
+// Whether main has room for the part that a merge of a kind makes, where it has so many.
+fn has_part_room(kind: MergeKind, parts: u8) -> bool
+    ensures { result ≡ has_part_room kind parts }
+{
+    match kind {
+        MergeKind::Extend => parts < PARTS_LIMIT,
+        _ => true,
+    }
+}
+
+// The frame of a merge that begins.
+fn begun_frame(alloc: Global, head: PendingMerge) -> Result<Frame, AllocError>
+    ensures { IfOk result (λ frame. frame.payload ≡ spelling (entries.Begun head.number head.table head.kind)) }
+{
+    Frame::of(
+        alloc,
+        &Entry::Begun {
+            n: head.number,
+            table: head.table,
+            kind: head.kind,
+        },
+    )
+}
