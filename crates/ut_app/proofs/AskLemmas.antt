@@ -7,13 +7,13 @@ use Rattle.ut_outside.specs.declared.ack.Ack.{Ack}
 use Rattle.ut_plain.specs.declared.statement.Parsed.{Parsed}
 use Rattle.ut_plain.specs.declared.statement.Parsed.TheVariants.{Comment, Stranger, Bad, Good}
 use Rattle.ut_plain.specs.Plain.{Plain}
-use Rattle.ut_plain.specs.Transcript.{Answer, AnswersLine, Faults}
+use Rattle.ut_plain.specs.Transcript.{Answer, AnswersLine}
 use Rattle.ut_script.specs.Lines.{Reading, ended_lines, IsNeeded, AsksMore, AsksFew}
 use Rattle.ut_script.proofs.AskLemmas.{none_ends, ended-append}
-use Rattle.ut_app.specs.Script.{ReadSoFar, IsReading}
+use Rattle.ut_app.specs.Script.{IsReading}
 use Rattle.ut_app.specs.Telling.{Tells}
 use Rattle.ut_app.specs.Writing.{answer_text, texts_of, HasWritten}
-use Rattle.ut_app.specs.Asking.{replies_of, joined, IsInTime, AskedInTime, AsksInTime}
+use Rattle.ut_app.specs.Asking.{replies_of, joined, IsInTime, AsksInTime}
 
 -- ---- the replies to lines
 

@@ -1,6 +1,6 @@
 -- How a run begins.
-use Rattle.std.proofs.Common.{inl, inr, ◌≡◌, refl, sym, ◌∙◌, subst, arith, IsTrue, Result, Err}
-use Rattle.std.specs.Prelude.{IsErrOf}
+use Rattle.std.proofs.Common.{ℕ, inl, inr, ◌≡◌, refl, sym, ◌∙◌, subst, arith, IsTrue, Result, Ok, Err}
+use Rattle.std.specs.Prelude.{IsErrOf, IfOk, IfErr}
 use Rattle.ut_outside.specs.Faults.{Rose}
 use Rattle.ut_outside.specs.Disk.{View, Image, IsTold}
 use Rattle.ut_outside.specs.Run.{Always, LeavesOnly, ReadsOnly}
@@ -8,18 +8,21 @@ use Rattle.ut_outside.proofs.RunLemmas.{reads_start}
 use Rattle.ut_pages.specs.Layout.{IsMade}
 use Rattle.ut_plain.specs.Journal.{Journal, empty_journal, journal_len}
 use Rattle.ut_plain.specs.Plain.{new_store, no_savepoint}
-use Rattle.ut_logged.specs.Logged.{Logged}
-use Rattle.ut_logged.specs.Readings.{HoldsJournal, HoldsPrefix}
-use Rattle.ut_logged.specs.declared.error.OpenError.{OpenError}
-use Rattle.ut_logged.specs.declared.error.OpenError.TheVariants as errors
-use Rattle.ut_logged.specs.Opening.{MayOnlyRead}
-use Rattle.ut_logged.specs.Runs.{Runs, Opens, NotMadeOrEmpty}
-use Rattle.ut_app.specs.declared.words.Start.{Start}
-use Rattle.ut_app.specs.declared.words.Start.TheVariants.{New, Open}
+use Rattle.ut_engine.specs.Logged.{Logged}
+use Rattle.ut_engine.specs.Files.{HoldsJournal, HoldsPrefix}
+use Rattle.ut_engine.specs.declared.error.OpenError.{OpenError}
+use Rattle.ut_engine.specs.declared.error.OpenError.TheVariants as errors
+use Rattle.ut_engine.specs.Opening.{MayOnlyRead}
+use Rattle.ut_engine.specs.Runs.{Runs, Opens, NotMadeOrEmpty}
+use Rattle.ut_engine.specs.Lent.{Lent}
+use Rattle.ut_engine.specs.Beginning.{disk_left, store_or_cause, Makes, Reopens}
+use Rattle.ut_engine.specs.declared.unopened.Unopened.{Unopened}
+use Rattle.ut_app.specs.declared.begin.Start.{Start}
+use Rattle.ut_app.specs.declared.begin.Start.TheVariants.{New, Open}
 use Rattle.ut_app.specs.Keeping.{Begins, SinceEntry, HoldsRun, NothingPending}
 use Rattle.ut_app.specs.declared.report.Status.{Status}
 use Rattle.ut_app.specs.declared.report.Status.TheVariants.{NoStore, Exists, DiskFault, Damaged, Memory}
-use Rattle.ut_app.specs.Serving.{rows_limit, LosesNothing}
+use Rattle.ut_app.specs.Serving.{LosesNothing}
 use Rattle.ut_app.specs.Beginning.{Begun, NotBegun, OpenStatus}
 use Rattle.ut_app.proofs.SayLemmas.{whole}
 
@@ -45,9 +48,9 @@ since_opened entry now reads first holds nothing =
     let l = reads.any_moment in
     record { past = l.later; holds = λ c h. subst (λ (i : Image). HoldsPrefix first (journal_len first) i) (sym (nothing c (l.each c h))) (whole_of first entry.seen holds) }
 
-pub begun_new : (entry now : View) (e : Logged) → now.told ≡ entry.told → Runs e now (new_store no_savepoint rows_limit) → (IsTold entry → IsMade entry.seen.pages → ⊥)
-    → (IsTold entry → Always entry (λ c. IsMade c.pages → ⊥) → LeavesOnly entry now NotMadeOrEmpty) → Begun New entry now e
-begun_new entry now e same runs unmade leaves = record {
+pub begun_new : (rows : ℕ) (entry now : View) (e : Logged) → now.told ≡ entry.told → Runs e now (new_store no_savepoint rows) → (IsTold entry → IsMade entry.seen.pages → ⊥)
+    → (IsTold entry → Always entry (λ c. IsMade c.pages → ⊥) → LeavesOnly entry now NotMadeOrEmpty) → Begun New rows entry now e
+begun_new rows entry now e same runs unmade leaves = record {
   first = empty_journal;
   runs = runs;
   begins = λ told. (refl, unmade told);
@@ -59,8 +62,8 @@ begun_new entry now e same runs unmade leaves = record {
   };
 }
 
-pub begun_open : (entry now : View) (e : Logged) → Opens e rows_limit entry now → ReadsOnly entry now → Begun Open entry now e
-begun_open entry now e opens reads = record {
+pub begun_open : (rows : ℕ) (entry now : View) (e : Logged) → Opens e rows entry now → ReadsOnly entry now → Begun Open rows entry now e
+begun_open rows entry now e opens reads = record {
   first = opens.journal;
   runs = opens.runs;
   begins = opens.said;
@@ -126,3 +129,24 @@ not_opened entry now errors.Disk status is none damaged disk others reads =
     subst (λ (s : Status). NotBegun Open entry now s) (sym is) (record { early = tt; fits = λ told. tt; cause = λ e. disk refl; disk = loses_opened entry now DiskFault reads })
 not_opened entry now errors.Memory status is none damaged disk others reads =
     subst (λ (s : Status). NotBegun Open entry now s) (sym is) (record { early = tt; fits = λ told. tt; cause = λ e. cc; disk = loses_opened entry now Memory reads })
+
+-- ---- the engine that was made or opened, or why there is none
+
+module _ {D : Type 0} (view : D → View) (rows : ℕ) (entry : View) where
+  pub begun_made : (answer : Result (Lent D) (Unopened D)) → Makes rows entry (view (disk_left answer)) (store_or_cause answer) → IfOk answer (λ e. Begun New rows entry (view e.disk) e.store)
+  begun_made (Ok e) made = begun_new rows entry (view e.disk) e.store made.told made.new.runs made.new.unmade made.any_moment
+  begun_made (Err u) made = tt
+
+  pub begun_opened : (answer : Result (Lent D) (Unopened D)) → Reopens rows entry (view (disk_left answer)) (store_or_cause answer) → IfOk answer (λ e. Begun Open rows entry (view e.disk) e.store)
+  begun_opened (Ok e) opened = begun_open rows entry (view e.disk) e.store opened.opens opened.reads
+  begun_opened (Err u) opened = tt
+
+  pub not_begun_made : (answer : Result (Lent D) (Unopened D)) → Makes rows entry (view (disk_left answer)) (store_or_cause answer)
+      → IfErr answer (λ u. (status : Status) → OpenStatus u.cause status → NotBegun New entry (view u.disk.now) status)
+  not_begun_made (Ok e) made = tt
+  not_begun_made (Err u) made = λ status is. not_made entry (view u.disk.now) u.cause status is made.made made.cause made.others made.reads made.any_moment
+
+  pub not_begun_opened : (answer : Result (Lent D) (Unopened D)) → Reopens rows entry (view (disk_left answer)) (store_or_cause answer)
+      → IfErr answer (λ u. (status : Status) → OpenStatus u.cause status → NotBegun Open entry (view u.disk.now) status)
+  not_begun_opened (Ok e) opened = tt
+  not_begun_opened (Err u) opened = λ status is. not_opened entry (view u.disk.now) u.cause status is opened.not_made opened.damaged opened.cause opened.others opened.reads

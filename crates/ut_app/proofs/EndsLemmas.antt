@@ -1,5 +1,5 @@
 -- Why a run ends: how far its lines go.
-use Rattle.std.proofs.Common.{ℕ, ◌+◌, ◌<◌, ◌≤◌, ◌≡◌, ◌⊎◌, inl, inr, Bool, true, false, not, List, [], ◌∷◌, ◌++◌, refl, ap, ◌∙◌, sym, subst, arith, length, append_assoc, append-nil, Option, None, Some, Ok, Err}
+use Rattle.std.proofs.Common.{ℕ, ◌<◌, ◌≤◌, ◌≡◌, ◌⊎◌, inl, inr, Bool, true, false, not, List, [], ◌∷◌, ◌++◌, refl, ap, ◌∙◌, sym, subst, arith, length, append_assoc, append-nil, Option, None, Some, Ok, Err}
 use Rattle.std.specs.Prelude.{◌&&◌, ◌||◌, nat_le, nat_lt}
 use Rattle.std.proofs.lemmas.Grind.{common_steps}
 use Rattle.std.proofs.lemmas.List.{length-append}
@@ -8,7 +8,7 @@ use Rattle.ut_script.specs.Lines.{Reading, lines_of, is_long, has_line, NextLine
 use Rattle.ut_script.proofs.AskLemmas.{ended-append}
 use Rattle.ut_app.specs.declared.report.Status.{Status}
 use Rattle.ut_app.specs.declared.report.Status.TheVariants.{Done, Usage, NoStore, Exists, ReadFault, WriteFault, DiskFault, Damaged, Memory, TooLong}
-use Rattle.ut_app.specs.Script.{lines_limit, all_fit, is_too_long, FitsInput, IsPast, EndsBy, ReadsInput, ReadSoFar, IsReading}
+use Rattle.ut_app.specs.Script.{all_fit, is_too_long, FitsInput, IsPast, EndsBy, ReadsInput, IsReading}
 
 -- ---- lines
 
@@ -33,19 +33,19 @@ over_fits (x ∷ xs) rest h = by_first (nat_le (length x) 65536) (over_fits xs r
     by_first true h = h
     by_first false h = refl
 
-many_too_long : (input : List ℕ) → lines_limit < length (lines_of input) → is_too_long input ≡ true
-many_too_long input h = grind (arith, common_steps, h)
+many_too_long : (limit : ℕ) (input : List ℕ) → limit < length (lines_of input) → is_too_long limit input ≡ true
+many_too_long limit input h = grind (arith, common_steps, h)
 
-over_too_long : (input : List ℕ) → all_fit (lines_of input) ≡ false → is_too_long input ≡ true
-over_too_long input h = either (nat_lt lines_limit (length (lines_of input))) (all_fit (lines_of input)) h
+over_too_long : (limit : ℕ) (input : List ℕ) → all_fit (lines_of input) ≡ false → is_too_long limit input ≡ true
+over_too_long limit input h = either (nat_lt limit (length (lines_of input))) (all_fit (lines_of input)) h
   where
     either : (s t : Bool) → t ≡ false → (s || not t) ≡ true
     either true t h = refl
     either false true h = cc
     either false false h = refl
 
-not_too_long : (input : List ℕ) → length (lines_of input) ≤ lines_limit → all_fit (lines_of input) ≡ true → is_too_long input ≡ false
-not_too_long input h k = let few : nat_lt lines_limit (length (lines_of input)) ≡ false = grind (arith, common_steps, h) in rw (few, k) refl
+not_too_long : (limit : ℕ) (input : List ℕ) → length (lines_of input) ≤ limit → all_fit (lines_of input) ≡ true → is_too_long limit input ≡ false
+not_too_long limit input h k = let few : nat_lt limit (length (lines_of input)) ≡ false = grind (arith, common_steps, h) in rw (few, k) refl
 
 has_more : (lines : List (List ℕ)) → has_line lines ≡ true → 1 ≤ length lines
 has_more [] h = cc
@@ -61,9 +61,9 @@ past_by limit number lines few h = by (nat_le limit number) (has_line lines) (is
     by true false false e f h = cc
     by false t false e f h = cc
 
-past_too_long : (input : List ℕ) (script rest : List (List ℕ)) → lines_of input ≡ script ++ rest → IsPast (length script) rest → is_too_long input ≡ true
-past_too_long input script rest parts (inl many) = let more = has_more rest many.1 in many_too_long input (omega (arith, many.0, more, ap length parts, length-append script rest))
-past_too_long input script rest parts (inr long) = over_too_long input (ap all_fit parts ∙ over_fits script rest long)
+past_too_long : (limit : ℕ) (input : List ℕ) (script rest : List (List ℕ)) → lines_of input ≡ script ++ rest → IsPast limit (length script) rest → is_too_long limit input ≡ true
+past_too_long limit input script rest parts (inl many) = let more = has_more rest many.1 in many_too_long limit input (omega (arith, many.0, more, ap length parts, length-append script rest))
+past_too_long limit input script rest parts (inr long) = over_too_long limit input (ap all_fit parts ∙ over_fits script rest long)
 
 -- ---- reading
 
@@ -95,34 +95,34 @@ reading-more (Some input) script old new left left2 r n m =
     }
 
 -- what a status says at the end of the reading
-pub record EndsReading (source : Option (List ℕ)) (left : Option (List ℕ)) (status : Status) (script : List (List ℕ)) : Type 0 where
-  pub input : ReadsInput source left status script
-  pub fits : FitsInput status source
+pub record EndsReading (limit : ℕ) (source : Option (List ℕ)) (left : Option (List ℕ)) (status : Status) (script : List (List ℕ)) : Type 0 where
+  pub input : ReadsInput limit source left status script
+  pub fits : FitsInput limit status source
 
-pub reading-done : (source : Option (List ℕ)) (script : List (List ℕ)) (old new : Reading) (left left2 : Option (List ℕ)) → length script ≤ lines_limit → all_fit script ≡ true
-    → IsReading source script old.held left → NextLine old left (Ok false) new left2 → EndsReading source left2 Done script
-reading-done None script old new left left2 few fit r n = record { input = tt; fits = tt }
-reading-done (Some input) script old new left left2 few fit r n =
+pub reading-done : (limit : ℕ) (source : Option (List ℕ)) (script : List (List ℕ)) (old new : Reading) (left left2 : Option (List ℕ)) → length script ≤ limit → all_fit script ≡ true
+    → IsReading source script old.held left → NextLine old left (Ok false) new left2 → EndsReading limit source left2 Done script
+reading-done limit None script old new left left2 few fit r n = record { input = tt; fits = tt }
+reading-done limit (Some input) script old new left left2 few fit r n =
     let took = subst (λ (l : Option (List ℕ)). NextLine old l (Ok false) new left2) r.is_left n in
     let all : lines_of input ≡ script = r.parts ∙ ap (λ (ls : List (List ℕ)). script ++ ls) took.taken.none ∙ append-nil script in
     record {
       input = record { rest = lines_of (old.held ++ r.after); parts = r.parts; ends = (took.taken.none, took.is_left ∙ ap (λ (a : List ℕ). Some a) took.taken.end) };
-      fits = not_too_long input (omega (arith, few, ap length all)) (ap all_fit all ∙ fit);
+      fits = not_too_long limit input (omega (arith, few, ap length all)) (ap all_fit all ∙ fit);
     }
 
 -- the next line is too long, or one too many
-pub reading-long : (source : Option (List ℕ)) (script : List (List ℕ)) (old new : Reading) (left left2 : Option (List ℕ)) → old.limit ≡ lines_limit → old.number ≡ length script → length script ≤ lines_limit
-    → IsReading source script old.held left → NextLine old left (Err failed.TooLong) new left2 → EndsReading source left2 TooLong script
-reading-long None script old new left left2 e f few r n = record { input = tt; fits = tt }
-reading-long (Some input) script old new left left2 e f few r n =
+pub reading-long : (limit : ℕ) (source : Option (List ℕ)) (script : List (List ℕ)) (old new : Reading) (left left2 : Option (List ℕ)) → old.limit ≡ limit → old.number ≡ length script → length script ≤ limit
+    → IsReading source script old.held left → NextLine old left (Err failed.TooLong) new left2 → EndsReading limit source left2 TooLong script
+reading-long limit None script old new left left2 e f few r n = record { input = tt; fits = tt }
+reading-long limit (Some input) script old new left left2 e f few r n =
     let took = subst (λ (l : Option (List ℕ)). NextLine old l (Err failed.TooLong) new left2) r.is_left n in
     let rest = lines_of (old.held ++ r.after) in
-    let here : ((nat_le lines_limit (length script) && has_line rest) || is_long rest) ≡ true =
-    ap (λ (m : ℕ). (nat_le lines_limit m && has_line rest) || is_long rest) (sym f) ∙ ap (λ (m : ℕ). (nat_le m old.number && has_line rest) || is_long rest) (sym e) ∙ took.taken in
-    let past = past_by lines_limit (length script) rest few here in
+    let here : ((nat_le limit (length script) && has_line rest) || is_long rest) ≡ true =
+    ap (λ (m : ℕ). (nat_le limit m && has_line rest) || is_long rest) (sym f) ∙ ap (λ (m : ℕ). (nat_le m old.number && has_line rest) || is_long rest) (sym e) ∙ took.taken in
+    let past = past_by limit (length script) rest few here in
     record {
       input = record { rest = rest; parts = r.parts; ends = past };
-      fits = past_too_long input script rest r.parts past;
+      fits = past_too_long limit input script rest r.parts past;
     }
 
 -- a status that says nothing of the input
@@ -131,33 +131,33 @@ IsCut Done = ⊥
 IsCut TooLong = ⊥
 IsCut _ = Unit {0}
 
-pub fits_cut : (status : Status) (source : Option (List ℕ)) → IsCut status → FitsInput status source
-fits_cut Done source c = absurd c
-fits_cut Usage source c = tt
-fits_cut NoStore source c = tt
-fits_cut Exists source c = tt
-fits_cut ReadFault source c = tt
-fits_cut WriteFault source c = tt
-fits_cut DiskFault source c = tt
-fits_cut Damaged source c = tt
-fits_cut Memory source c = tt
-fits_cut TooLong source c = absurd c
+pub fits_cut : (limit : ℕ) (status : Status) (source : Option (List ℕ)) → IsCut status → FitsInput limit status source
+fits_cut limit Done source c = absurd c
+fits_cut limit Usage source c = tt
+fits_cut limit NoStore source c = tt
+fits_cut limit Exists source c = tt
+fits_cut limit ReadFault source c = tt
+fits_cut limit WriteFault source c = tt
+fits_cut limit DiskFault source c = tt
+fits_cut limit Damaged source c = tt
+fits_cut limit Memory source c = tt
+fits_cut limit TooLong source c = absurd c
 
-ends_cut : (status : Status) (count : ℕ) (rest : List (List ℕ)) (left : Option (List ℕ)) → IsCut status → EndsBy status count rest left
-ends_cut Done count rest left c = absurd c
-ends_cut Usage count rest left c = tt
-ends_cut NoStore count rest left c = tt
-ends_cut Exists count rest left c = tt
-ends_cut ReadFault count rest left c = tt
-ends_cut WriteFault count rest left c = tt
-ends_cut DiskFault count rest left c = tt
-ends_cut Damaged count rest left c = tt
-ends_cut Memory count rest left c = tt
-ends_cut TooLong count rest left c = absurd c
+ends_cut : (limit : ℕ) (status : Status) (count : ℕ) (rest : List (List ℕ)) (left : Option (List ℕ)) → IsCut status → EndsBy limit status count rest left
+ends_cut limit Done count rest left c = absurd c
+ends_cut limit Usage count rest left c = tt
+ends_cut limit NoStore count rest left c = tt
+ends_cut limit Exists count rest left c = tt
+ends_cut limit ReadFault count rest left c = tt
+ends_cut limit WriteFault count rest left c = tt
+ends_cut limit DiskFault count rest left c = tt
+ends_cut limit Damaged count rest left c = tt
+ends_cut limit Memory count rest left c = tt
+ends_cut limit TooLong count rest left c = absurd c
 
-pub reading-cut : (source : Option (List ℕ)) (script : List (List ℕ)) (held : List ℕ) (left left2 : Option (List ℕ)) (status : Status) → IsReading source script held left → IsCut status → EndsReading source left2 status script
-reading-cut None script held left left2 status r cut = record { input = tt; fits = fits_cut status None cut }
-reading-cut (Some input) script held left left2 status r cut = record {
-  input = record { rest = lines_of (held ++ r.after); parts = r.parts; ends = ends_cut status (length script) (lines_of (held ++ r.after)) left2 cut };
-  fits = fits_cut status (Some input) cut;
+pub reading-cut : (limit : ℕ) (source : Option (List ℕ)) (script : List (List ℕ)) (held : List ℕ) (left left2 : Option (List ℕ)) (status : Status) → IsReading source script held left → IsCut status → EndsReading limit source left2 status script
+reading-cut limit None script held left left2 status r cut = record { input = tt; fits = fits_cut limit status None cut }
+reading-cut limit (Some input) script held left left2 status r cut = record {
+  input = record { rest = lines_of (held ++ r.after); parts = r.parts; ends = ends_cut limit status (length script) (lines_of (held ++ r.after)) left2 cut };
+  fits = fits_cut limit status (Some input) cut;
 }

@@ -6,9 +6,9 @@ use Rattle.ut_outside.specs.Run.{LeavesOnly}
 use Rattle.ut_outside.specs.declared.ack.Ack.{Ack}
 use Rattle.ut_value.specs.declared.entry.Entry.{Entry}
 use Rattle.ut_plain.specs.Journal.{Journal, journal_len, prefix}
-use Rattle.ut_logged.specs.Readings.{HoldsJournal, HoldsPrefix}
-use Rattle.ut_app.specs.declared.words.Start.{Start}
-use Rattle.ut_app.specs.declared.words.Start.TheVariants.{New, Open}
+use Rattle.ut_engine.specs.Files.{HoldsJournal, HoldsPrefix}
+use Rattle.ut_app.specs.declared.begin.Start.{Start}
+use Rattle.ut_app.specs.declared.begin.Start.TheVariants.{New, Open}
 use Rattle.ut_app.specs.Keeping.{IsKept, AreKept, SinceEntry, Kept, HoldsRun, behind}
 
 -- a journal that goes on from another

@@ -7,6 +7,11 @@ pub mod KeepLemmas
 pub mod TellLemmas
 pub mod MarkLemmas
 pub mod AskLemmas
+pub mod CourseLemmas
 pub mod ServeLemmas
 pub mod EndsLemmas
 pub mod RunLemmas
+pub mod HearLemmas
+pub mod FigureLemmas
+pub mod BenchLemmas
+pub mod TopLemmas

@@ -1,5 +1,5 @@
 -- What a line comes to.
-use Rattle.std.proofs.Common.{inl, inr, ℕ, zero, suc, ◌≡◌, ◌<◌, ◌-◌, ◌⊎◌, Bool, true, false, List, [], ◌∷◌, Option, None, Some, refl, ap, ◌∙◌, sym, subst, arith}
+use Rattle.std.proofs.Common.{inl, inr, ℕ, zero, suc, ◌≡◌, ◌-◌, ◌⊎◌, Bool, true, false, List, [], ◌∷◌, Option, None, Some, refl, ap, ◌∙◌, sym, subst, arith}
 use Rattle.std.proofs.lemmas.List.{take_all}
 use Rattle.ut_outside.specs.Disk.{View, Image, IsTold}
 use Rattle.ut_outside.proofs.RunLemmas.{started}
@@ -24,10 +24,10 @@ use Rattle.ut_reply.specs.Texts.{reply_text, is_small}
 use Rattle.ut_script.specs.Statements.{needs_memory}
 use Rattle.ut_script.specs.Grammar.{MayLackMemory}
 use Rattle.ut_redo.specs.Appends.{Place}
-use Rattle.ut_logged.specs.Logged.{Logged}
-use Rattle.ut_logged.specs.Readings.{IsReading, HoldsPrefix}
-use Rattle.ut_logged.specs.Runs.{Runs}
-use Rattle.ut_logged.specs.Serves.{Serves, IsAnswered, IsLost}
+use Rattle.ut_engine.specs.Logged.{Logged}
+use Rattle.ut_engine.specs.Files.{IsReading, HoldsPrefix}
+use Rattle.ut_engine.specs.Runs.{Runs}
+use Rattle.ut_engine.specs.Serves.{Serves, IsAnswered, IsLost}
 use Rattle.ut_app.specs.declared.say.Said.{Said}
 use Rattle.ut_app.specs.declared.say.Said.TheVariants as saids
 use Rattle.ut_app.specs.Keeping.{HoldsWhole}
@@ -213,7 +213,7 @@ not_bare statements.SaveFlip h = cc
 not_bare statements.SaveDrop h = cc
 not_bare (statements.Shape a) h = refl
 
-lacks : (p : Plain) (line : Parsed) (session : ℕ) → MayLackMemory session line → AnswersLine p line (record { session = Some session; reply = replies.Refused refusals.Memory } ∷ []) p
+pub lacks : (p : Plain) (line : Parsed) (session : ℕ) → MayLackMemory session line → AnswersLine p line (record { session = Some session; reply = replies.Refused refusals.Memory } ∷ []) p
 lacks p Comment session h = absurd h
 lacks p Stranger session h = absurd h
 lacks p (Bad n) session h = absurd h

@@ -1,6 +1,6 @@
 -- How far a run is, line by line, and what it comes to.
-use Rattle.std.proofs.Common.{inl, inr, ℕ, ◌+◌, ◌≡◌, ◌≤◌, ◌⊎◌, List, [], ◌∷◌, ◌++◌, length, Option, Some, Result, Ok, Err, refl, sym, ap, ◌∙◌, subst, arith, append-nil, false}
-use Rattle.ut_outside.specs.Disk.{View, Image, IsTold}
+use Rattle.std.proofs.Common.{inl, inr, ℕ, ◌≡◌, ◌≤◌, ◌⊎◌, List, [], ◌∷◌, ◌++◌, length, Option, Some, Result, Ok, Err, refl, sym, ap, ◌∙◌, subst, arith, append-nil, false}
+use Rattle.ut_outside.specs.Disk.{View}
 use Rattle.ut_outside.specs.Faults.{Rose}
 use Rattle.ut_outside.specs.declared.ack.Ack.{Ack}
 use Rattle.ut_outside.specs.declared.ask.Ask.{Ask}
@@ -10,56 +10,35 @@ use Rattle.ut_plain.specs.Journal.{journal_len}
 use Rattle.ut_plain.specs.Plain.{Plain, opened_store, no_savepoint}
 use Rattle.ut_plain.specs.Transcript.{Answer, AnswersLine, Faults}
 use Rattle.ut_script.specs.Grammar.{parsed}
-use Rattle.ut_logged.specs.Logged.{Logged}
-use Rattle.ut_logged.specs.Runs.{Runs}
-use Rattle.ut_app.specs.declared.words.Start.{Start}
+use Rattle.ut_engine.specs.Logged.{Logged}
+use Rattle.ut_engine.specs.Runs.{Runs}
+use Rattle.ut_words.specs.declared.plan.Plan.{Plan}
 use Rattle.ut_app.specs.declared.report.Status.{Status}
 use Rattle.ut_app.specs.declared.report.Status.TheVariants as statuses
 use Rattle.ut_app.specs.declared.turn.TurnEnd.{TurnEnd}
 use Rattle.ut_app.specs.declared.turn.TurnEnd.TheVariants as ends
 use Rattle.ut_app.specs.World.{World}
 use Rattle.ut_app.specs.Writing.{answer_text, Writes, HasWritten}
-use Rattle.ut_app.specs.Telling.{Tells, AnswersAll, AnswersToFault}
 use Rattle.ut_app.specs.Asking.{replies_of, AsksInTime}
 use Rattle.ut_app.specs.Saying.{Keeps}
 use Rattle.ut_app.specs.Turning.{Sunk, Noted, Turn, Quiet, Told, Unwritten, Lost, LostUnwritten}
-use Rattle.ut_app.specs.Keeping.{Kept}
+use Rattle.ut_app.specs.Plans.{start_of}
 use Rattle.ut_app.specs.Beginning.{Begun}
-use Rattle.ut_app.specs.Serving.{rows_limit, parsed_lines, lengths_of, Progress, IsFault, IsWritten, Answered}
-use Rattle.ut_app.proofs.SayLemmas.{OnlyNow, runs_whole}
-use Rattle.ut_app.proofs.KeepLemmas.{GoesOn, no_shorter, kept_on, kept_ack}
-use Rattle.ut_app.proofs.TellLemmas.{tells_more, whole_transcript, cut_transcript, line_on, fault_on}
+use Rattle.ut_app.specs.Serving.{parsed_lines, lengths_of, Course, Progress, IsFault, IsWritten, Answered}
+use Rattle.ut_app.proofs.SayLemmas.{OnlyNow}
+use Rattle.ut_app.proofs.CourseLemmas.{CountsNow, lines-one, course-start, course-end, course-quiet, course-told, course-lost}
 use Rattle.ut_app.proofs.AskLemmas.{in_time_start, in_time_more, replies_more}
 use Rattle.ut_app.proofs.MarkLemmas.{written-more, written-some, nothing_written}
 
--- each crash now is one since any moment before
-abbrev pub CountsNow : View → Type 0
-CountsNow v = (t : ℕ) (c : Image) → t ≤ v.moment → v.crash_states c → v.crash_states_since t c
-
-lengths-one : (acks : List Ack) (k : Ack) → lengths_of (acks ++ k ∷ []) ≡ lengths_of acks ++ k.journal ∷ []
-lengths-one [] k = refl
-lengths-one (a ∷ acks) k = ap (λ xs. a.journal ∷ xs) (lengths-one acks k)
-
-lines-one : (script : List (List ℕ)) (line : List ℕ) → parsed_lines (script ++ line ∷ []) ≡ parsed_lines script ++ parsed false line ∷ []
-lines-one [] line = refl
-lines-one (l ∷ ls) line = ap (λ xs. parsed false l ∷ xs) (lines-one ls line)
-
 -- nothing was answered yet
-pub progress-start : (start : Start) (before : World) (now : View) (store : Logged) (acks : List Ack) (journal : ℕ) → Begun start before.disk now store → acks ≡ [] → journal ≡ store.store.entries
-    → ((bytes : List ℕ) → before.sink ≡ Some bytes → length before.marks ≡ length bytes) → Progress start before (record before { disk = now }) [] store acks journal
-progress-start start before now store acks journal begun none is each =
-    subst (λ (ks : List Ack). Progress start before (record before { disk = now }) [] store ks journal) (sym none) (record {
-      first = begun.first;
-      answers = [];
-      plain = opened_store no_savepoint begun.first rows_limit;
-      begins = begun.begins;
-      tells = (refl, refl, refl);
-      runs = begun.runs;
-      written = nothing_written before.sink before.marks each;
-      in_time = in_time_start before.source before.sink before.asks [];
-      kept = begun.kept;
-      length_is = is ∙ begun.runs.stands.counts.entries;
-    })
+pub progress-start : (plan : Plan) (before : World) (now : View) (store : Logged) (acks : List Ack) (journal : ℕ) → Begun (start_of plan) plan.rows before.disk now store → acks ≡ [] → journal ≡ store.store.entries
+    → ((bytes : List ℕ) → before.sink ≡ Some bytes → length before.marks ≡ length bytes) → Progress plan before (record before { disk = now }) [] store acks journal
+progress-start plan before now store acks journal begun none is each = record {
+  answers = [];
+  course = course-start (start_of plan) plan.rows before.disk now store acks journal begun none is;
+  written = subst (λ (ks : List Ack). HasWritten before.sink [] before.sink before.marks ks) (sym none) (nothing_written before.sink before.marks each);
+  in_time = in_time_start before.source before.sink before.asks [];
+}
 
 -- a line with no answer
 pub record QuietTurn (p : Plain) (line : Parsed) (was : View) (acks : List Ack) (held : Option (List ℕ)) (marks : List ℕ) (new : Logged) (now : View) (acks_now : List Ack) (journal_now : ℕ) (held_now : Option (List ℕ)) (marks_now : List ℕ) : Type 0 where
@@ -101,183 +80,117 @@ ok_turn p line was acks journal held marks result new now acks_now journal_now h
 ok_turn p line was acks journal held marks result new now acks_now journal_now held_now marks_now ok (Lost a q r faults keeps n w) = absurd (not_err result ends.Disk ok r)
 ok_turn p line was acks journal held marks result new now acks_now journal_now held_now marks_now ok (LostUnwritten a q x r faults keeps rose n w) = absurd (not_err result ends.Write ok r)
 
-module _ (start : Start) (before was now : World) (script : List (List ℕ)) (old new : Logged) (acks acks_now : List Ack) (journal journal_now : ℕ) (line : List ℕ)
-    (told : now.disk.told ≡ was.disk.told) (only : OnlyNow now.disk) (counts : CountsNow now.disk) (p : Progress start before was script old acks journal)
+module _ (plan : Plan) (before was now : World) (script : List (List ℕ)) (old new : Logged) (acks acks_now : List Ack) (journal journal_now : ℕ) (line : List ℕ)
+    (told : now.disk.told ≡ was.disk.told) (only : OnlyNow now.disk) (counts : CountsNow now.disk) (p : Progress plan before was script old acks journal)
     (asked : AsksInTime before.source before.sink before.asks (replies_of (parsed_lines script) p.answers) now.asks) where
-  abbrev pub first : Plain
-  first = opened_store no_savepoint p.first rows_limit
+  abbrev c : Course (start_of plan) plan.rows before.disk was.disk script p.answers old acks journal
+  c = p.course
+
+  abbrev first : Plain
+  first = opened_store no_savepoint c.first plan.rows
 
   -- an acknowledgement now
-  abbrev pub ack_of : ℕ → Ack
+  abbrev ack_of : ℕ → Ack
   ack_of n = record { journal = n; moment = now.disk.moment }
 
-  abbrev pub more : List (List ℕ)
+  abbrev more : List (List ℕ)
   more = script ++ line ∷ []
 
   -- what was asked stays in time
   asked_more : (here : List Answer) → AsksInTime before.source before.sink before.asks (replies_of (parsed_lines more) (p.answers ++ here)) now.asks
   asked_more here =
       subst (λ (texts : List (List ℕ)). AsksInTime before.source before.sink before.asks texts now.asks)
-      (sym (ap (λ (ls : List Parsed). replies_of ls (p.answers ++ here)) (lines-one script line) ∙ replies_more first (parsed_lines script) p.answers (lengths_of acks) p.plain (parsed false line) here p.tells))
+      (sym (ap (λ (ls : List Parsed). replies_of ls (p.answers ++ here)) (lines-one script line) ∙ replies_more first (parsed_lines script) p.answers (lengths_of acks) c.plain (parsed false line) here c.tells))
       (in_time_more before.source before.sink before.asks (replies_of (parsed_lines script) p.answers) (replies_of (parsed false line ∷ []) here) now.asks asked)
 
-  goes : (q : Plain) → GoesOn p.plain.journal q.journal → Keeps was.disk now.disk q.journal (journal_len p.plain.journal) → IsTold before.disk → Kept start before.disk now.disk p.first q.journal acks
-  goes q on keeps e = let kept = p.kept e in kept_on start before.disk was.disk now.disk p.first p.plain.journal q.journal acks on (told ∙ kept.told) (keeps kept.told) kept
+  on_told : (a : Answer) (q : Plain) → AnswersLine c.plain (parsed false line) (a ∷ []) q → Runs new now.disk q → Keeps was.disk now.disk q.journal (journal_len c.plain.journal) → acks_now ≡ acks ++ ack_of (journal_len q.journal) ∷ [] → journal_now ≡ journal_len q.journal
+      → Course (start_of plan) plan.rows before.disk now.disk more (p.answers ++ a ∷ []) new acks_now journal_now
+  on_told = course-told (start_of plan) plan.rows before.disk was.disk now.disk script p.answers old new acks acks_now journal journal_now line told only counts c
 
-  goes_acked : (q : Plain) → GoesOn p.plain.journal q.journal → Keeps was.disk now.disk q.journal (journal_len p.plain.journal) → Runs new now.disk q → IsTold before.disk → Kept start before.disk now.disk p.first q.journal (acks ++ ack_of (journal_len q.journal) ∷ [])
-  goes_acked q on keeps runs e =
-      let kept = goes q on keeps e in
-      kept_ack start before.disk now.disk p.first q.journal acks (journal_len q.journal) (omega arith) (λ c h. runs_whole new now.disk q runs kept.told c (only c h)) kept
-
-  loses_acked : (q : Plain) → GoesOn p.plain.journal q.journal → Keeps was.disk now.disk q.journal (journal_len p.plain.journal) → IsTold before.disk → Kept start before.disk now.disk p.first q.journal (acks ++ ack_of (journal_len p.plain.journal) ∷ [])
-  loses_acked q on keeps e =
-      let l = keeps (p.kept e).told in
-      kept_ack start before.disk now.disk p.first q.journal acks (journal_len p.plain.journal) (no_shorter p.plain.journal q.journal on) (λ c h. l.each c (counts was.disk.moment c l.later (only c h))) (goes q on keeps e)
-
-  -- the lines with one more, and its answer
-  tells_one : (a : Answer) (q : Plain) → AnswersLine p.plain (parsed false line) (a ∷ []) q → Tells first (parsed_lines more) (p.answers ++ a ∷ []) (lengths_of (acks ++ ack_of (journal_len q.journal) ∷ [])) q
-  tells_one a q answers =
-      subst (λ (ls : List Parsed). Tells first ls (p.answers ++ a ∷ []) (lengths_of (acks ++ ack_of (journal_len q.journal) ∷ [])) q) (sym (lines-one script line))
-      (subst (λ (ns : List ℕ). Tells first (parsed_lines script ++ parsed false line ∷ []) (p.answers ++ a ∷ []) ns q) (sym (lengths-one acks (ack_of (journal_len q.journal))))
-      (tells_more first (parsed_lines script) p.answers (lengths_of acks) p.plain (parsed false line) (a ∷ []) q p.tells answers))
-
-  tells_none : (q : Plain) → AnswersLine p.plain (parsed false line) [] q → Tells first (parsed_lines more) p.answers (lengths_of acks) q
-  tells_none q answers =
-      subst (λ (ls : List Parsed). Tells first ls p.answers (lengths_of acks) q) (sym (lines-one script line))
-      (subst (λ (ns : List ℕ). Tells first (parsed_lines script ++ parsed false line ∷ []) p.answers ns q) (append-nil (lengths_of acks))
-      (subst (λ (xs : List Answer). Tells first (parsed_lines script ++ parsed false line ∷ []) xs (lengths_of acks ++ []) q) (append-nil p.answers)
-      (tells_more first (parsed_lines script) p.answers (lengths_of acks) p.plain (parsed false line) [] q p.tells answers)))
-
-  quiet_on : (q : Plain) → AnswersLine p.plain (parsed false line) [] q → Runs new now.disk q → Keeps was.disk now.disk q.journal (journal_len p.plain.journal) → acks_now ≡ acks → journal_now ≡ journal_len q.journal → now.sink ≡ was.sink → now.marks ≡ was.marks
-      → Progress start before now more new acks_now journal_now
+  quiet_on : (q : Plain) → AnswersLine c.plain (parsed false line) [] q → Runs new now.disk q → Keeps was.disk now.disk q.journal (journal_len c.plain.journal) → acks_now ≡ acks → journal_now ≡ journal_len q.journal → now.sink ≡ was.sink → now.marks ≡ was.marks
+      → Progress plan before now more new acks_now journal_now
   quiet_on q answers runs keeps e f h m = record {
-    first = p.first;
     answers = p.answers;
-    plain = q;
-    begins = p.begins;
-    tells = subst (λ (ks : List Ack). Tells first (parsed_lines more) p.answers (lengths_of ks) q) (sym e) (tells_none q answers);
-    runs = runs;
+    course = course-quiet (start_of plan) plan.rows before.disk was.disk now.disk script p.answers old new acks acks_now journal journal_now line told only counts c q answers runs keeps e f;
     written = subst (λ (ks : List Ack). HasWritten before.sink p.answers now.sink now.marks ks) (sym e)
         (subst (λ (o : Option (List ℕ)). HasWritten before.sink p.answers o now.marks acks) (sym h) (subst (λ (ms : List ℕ). HasWritten before.sink p.answers was.sink ms acks) (sym m) p.written));
     in_time = subst (λ (xs : List Answer). AsksInTime before.source before.sink before.asks (replies_of (parsed_lines more) xs) now.asks) (append-nil p.answers) (asked_more []);
-    kept = λ t. subst (λ (ks : List Ack). Kept start before.disk now.disk p.first q.journal ks) (sym e) (goes q (line_on p.plain (parsed false line) [] q answers) keeps t);
-    length_is = f;
   }
 
-  told_on : (a : Answer) (q : Plain) → AnswersLine p.plain (parsed false line) (a ∷ []) q → Runs new now.disk q → Keeps was.disk now.disk q.journal (journal_len p.plain.journal) → acks_now ≡ acks ++ ack_of (journal_len q.journal) ∷ [] → journal_now ≡ journal_len q.journal
-      → Writes {T = Unit {0}} {E = fails.Failed} was.sink was.marks (answer_text a) now.disk.moment (Ok tt) now.sink now.marks → Progress start before now more new acks_now journal_now
-  told_on a q answers runs keeps e f w =
-      subst (λ (ks : List Ack). Progress start before now more new ks journal_now) (sym e) (record {
-        first = p.first;
-        answers = p.answers ++ a ∷ [];
-        plain = q;
-        begins = p.begins;
-        tells = tells_one a q answers;
-        runs = runs;
-        written = written-more before.sink p.answers a was.sink was.marks acks (journal_len q.journal) now.disk.moment now.sink now.marks p.written w;
-        in_time = asked_more (a ∷ []);
-        kept = goes_acked q (line_on p.plain (parsed false line) (a ∷ []) q answers) keeps runs;
-        length_is = f;
-      })
+  told_on : (a : Answer) (q : Plain) → AnswersLine c.plain (parsed false line) (a ∷ []) q → Runs new now.disk q → Keeps was.disk now.disk q.journal (journal_len c.plain.journal) → acks_now ≡ acks ++ ack_of (journal_len q.journal) ∷ [] → journal_now ≡ journal_len q.journal
+      → Writes {T = Unit {0}} {E = fails.Failed} was.sink was.marks (answer_text a) now.disk.moment (Ok tt) now.sink now.marks → Progress plan before now more new acks_now journal_now
+  told_on a q answers runs keeps e f w = record {
+    answers = p.answers ++ a ∷ [];
+    course = on_told a q answers runs keeps e f;
+    written = subst (λ (ks : List Ack). HasWritten before.sink (p.answers ++ a ∷ []) now.sink now.marks ks) (sym e)
+        (written-more before.sink p.answers a was.sink was.marks acks (journal_len q.journal) now.disk.moment now.sink now.marks p.written w);
+    in_time = asked_more (a ∷ []);
+  }
 
   -- one line was answered
-  progress_by : QuietTurn p.plain (parsed false line) was.disk acks was.sink was.marks new now.disk acks_now journal_now now.sink now.marks ⊎ ToldTurn p.plain (parsed false line) was.disk acks was.sink was.marks new now.disk acks_now journal_now now.sink now.marks
-      → Progress start before now more new acks_now journal_now
+  progress_by : QuietTurn c.plain (parsed false line) was.disk acks was.sink was.marks new now.disk acks_now journal_now now.sink now.marks ⊎ ToldTurn c.plain (parsed false line) was.disk acks was.sink was.marks new now.disk acks_now journal_now now.sink now.marks
+      → Progress plan before now more new acks_now journal_now
   progress_by (inl t) = quiet_on t.plain t.answers t.runs t.keeps t.acks_are t.length_is t.held_is t.marks_are
   progress_by (inr t) = told_on t.answer t.plain t.answers t.runs t.keeps t.acks_are t.length_is t.writes
 
-  pub progress-more : Turn p.plain (parsed false line) was.disk (record { acks = acks; journal = journal }) (record { held = was.sink; marks = was.marks }) (Ok tt) new now.disk (record { acks = acks_now; journal = journal_now }) (record { held = now.sink; marks = now.marks })
-      → Progress start before now more new acks_now journal_now
-  progress-more t = progress_by (ok_turn p.plain (parsed false line) was.disk acks journal was.sink was.marks (Ok tt) new now.disk acks_now journal_now now.sink now.marks refl t)
+  pub progress-more : Turn c.plain (parsed false line) was.disk (record { acks = acks; journal = journal }) (record { held = was.sink; marks = was.marks }) (Ok tt) new now.disk (record { acks = acks_now; journal = journal_now }) (record { held = now.sink; marks = now.marks })
+      → Progress plan before now more new acks_now journal_now
+  progress-more t = progress_by (ok_turn c.plain (parsed false line) was.disk acks journal was.sink was.marks (Ok tt) new now.disk acks_now journal_now now.sink now.marks refl t)
 
   -- ---- the last line
 
-  unwritten_end : (a : Answer) (q : Plain) (x : fails.Failed) → AnswersLine p.plain (parsed false line) (a ∷ []) q → Runs new now.disk q → Keeps was.disk now.disk q.journal (journal_len p.plain.journal) → acks_now ≡ acks ++ ack_of (journal_len q.journal) ∷ [] → journal_now ≡ journal_len q.journal
-      → Writes {T = Unit {0}} {E = fails.Failed} was.sink was.marks (answer_text a) now.disk.moment (Err x) now.sink now.marks → Answered start before now statuses.WriteFault more acks_now journal_now
-  unwritten_end a q x answers runs keeps e f w =
-      let all : AnswersAll first (parsed_lines more) (p.answers ++ a ∷ []) (lengths_of (acks ++ ack_of (journal_len q.journal) ∷ [])) journal_now q = record { tells = tells_one a q answers; length_is = f } in
-      subst (λ (ks : List Ack). Answered start before now statuses.WriteFault more ks journal_now) (sym e) (record {
-        first = p.first;
-        answers = p.answers ++ a ∷ [];
-        plain = q;
-        begins = p.begins;
-        transcript = whole_transcript _ _ _ _ _ _ all;
-        ended = inl (record { all = all; stays = runs_whole new now.disk q runs });
-        written = written-some before.sink p.answers a was.sink was.marks acks (journal_len q.journal) now.disk.moment now.sink now.marks x p.written w;
-        in_time = asked_more (a ∷ []);
-        kept = goes_acked q (line_on p.plain (parsed false line) (a ∷ []) q answers) keeps runs;
-      })
-
-  to_fault : (a : Answer) (q : Plain) → Faults p.plain (parsed false line) (a ∷ []) q → journal_now ≡ journal_len p.plain.journal
-      → AnswersToFault first (parsed_lines more) (p.answers ++ a ∷ []) (lengths_of (acks ++ ack_of (journal_len p.plain.journal) ∷ [])) journal_now q
-  to_fault a q faults f = record {
-    before = parsed_lines script;
-    line = parsed false line;
-    given = p.answers;
-    last = a ∷ [];
-    told = lengths_of acks;
-    mid = p.plain;
-    lines_are = lines-one script line;
-    answers_are = refl;
-    lengths_are = lengths-one acks (ack_of (journal_len p.plain.journal));
-    tells = p.tells;
-    faults = faults;
-    length_is = f;
+  unwritten_end : (a : Answer) (q : Plain) (x : fails.Failed) → AnswersLine c.plain (parsed false line) (a ∷ []) q → Runs new now.disk q → Keeps was.disk now.disk q.journal (journal_len c.plain.journal) → acks_now ≡ acks ++ ack_of (journal_len q.journal) ∷ [] → journal_now ≡ journal_len q.journal
+      → Writes {T = Unit {0}} {E = fails.Failed} was.sink was.marks (answer_text a) now.disk.moment (Err x) now.sink now.marks → Answered plan before now statuses.WriteFault more acks_now journal_now
+  unwritten_end a q x answers runs keeps e f w = record {
+    answers = p.answers ++ a ∷ [];
+    plain = (on_told a q answers runs keeps e f).plain;
+    served = course-end (start_of plan) plan.rows before.disk now.disk more (p.answers ++ a ∷ []) new acks_now journal_now statuses.WriteFault (on_told a q answers runs keeps e f);
+    written = subst (λ (ks : List Ack). IsWritten statuses.WriteFault before (p.answers ++ a ∷ []) now ks) (sym e)
+        (written-some before.sink p.answers a was.sink was.marks acks (journal_len q.journal) now.disk.moment now.sink now.marks x p.written w);
+    in_time = asked_more (a ∷ []);
   }
 
-  lost_end : (status : Status) (a : Answer) (q : Plain) → Faults p.plain (parsed false line) (a ∷ []) q → Keeps was.disk now.disk q.journal (journal_len p.plain.journal) → acks_now ≡ acks ++ ack_of (journal_len p.plain.journal) ∷ [] → journal_now ≡ journal_len p.plain.journal
-      → IsFault status → Rose before.disk.faults now.disk.faults → IsWritten status before (p.answers ++ a ∷ []) now (acks ++ ack_of (journal_len p.plain.journal) ∷ []) → Answered start before now status more acks_now journal_now
-  lost_end status a q faults keeps e f fault rose written =
-      let cut = to_fault a q faults f in
-      subst (λ (ks : List Ack). Answered start before now status more ks journal_now) (sym e) (record {
-        first = p.first;
-        answers = p.answers ++ a ∷ [];
-        plain = q;
-        begins = p.begins;
-        transcript = cut_transcript _ _ _ _ _ _ cut;
-        ended = inr (record { cut = cut; says = fault; rose = rose });
-        written = written;
-        in_time = asked_more (a ∷ []);
-        kept = loses_acked q (fault_on p.plain (parsed false line) (a ∷ []) q faults) keeps;
-      })
+  lost_end : (status : Status) (a : Answer) (q : Plain) → Faults c.plain (parsed false line) (a ∷ []) q → Keeps was.disk now.disk q.journal (journal_len c.plain.journal) → acks_now ≡ acks ++ ack_of (journal_len c.plain.journal) ∷ [] → journal_now ≡ journal_len c.plain.journal
+      → IsFault status → Rose before.disk.faults now.disk.faults → IsWritten status before (p.answers ++ a ∷ []) now (acks ++ ack_of (journal_len c.plain.journal) ∷ []) → Answered plan before now status more acks_now journal_now
+  lost_end status a q faults keeps e f fault rose written = record {
+    answers = p.answers ++ a ∷ [];
+    plain = q;
+    served = course-lost (start_of plan) plan.rows before.disk was.disk now.disk script p.answers old new acks acks_now journal journal_now line told only counts c status a q faults keeps e f fault rose;
+    written = subst (λ (ks : List Ack). IsWritten status before (p.answers ++ a ∷ []) now ks) (sym e) written;
+    in_time = asked_more (a ∷ []);
+  }
 
   -- the sink failed at the answer
   pub write_end : before.disk.faults ≤ was.disk.faults
-      → Turn p.plain (parsed false line) was.disk (record { acks = acks; journal = journal }) (record { held = was.sink; marks = was.marks }) (Err ends.Write) new now.disk (record { acks = acks_now; journal = journal_now }) (record { held = now.sink; marks = now.marks })
-      → Answered start before now statuses.WriteFault more acks_now journal_now
+      → Turn c.plain (parsed false line) was.disk (record { acks = acks; journal = journal }) (record { held = was.sink; marks = was.marks }) (Err ends.Write) new now.disk (record { acks = acks_now; journal = journal_now }) (record { held = now.sink; marks = now.marks })
+      → Answered plan before now statuses.WriteFault more acks_now journal_now
   write_end le (Quiet q r answers runs keeps n s) = cc
   write_end le (Told a q r answers runs keeps n w) = cc
   write_end le (Unwritten a q x r answers runs keeps n w) = unwritten_end a q x answers runs keeps (ap (λ (x : Noted). x.acks) n) (ap (λ (x : Noted). x.journal) n) w
   write_end le (Lost a q r faults keeps n w) = cc
   write_end le (LostUnwritten a q x r faults keeps rose n w) =
       lost_end statuses.WriteFault a q faults keeps (ap (λ (x : Noted). x.acks) n) (ap (λ (x : Noted). x.journal) n) tt (omega (arith, le, rose))
-      (written-some before.sink p.answers a was.sink was.marks acks (journal_len p.plain.journal) now.disk.moment now.sink now.marks x p.written w)
+      (written-some before.sink p.answers a was.sink was.marks acks (journal_len c.plain.journal) now.disk.moment now.sink now.marks x p.written w)
 
   -- the disk failed at the line
   pub disk_end : Rose was.disk.faults now.disk.faults → before.disk.faults ≤ was.disk.faults
-      → Turn p.plain (parsed false line) was.disk (record { acks = acks; journal = journal }) (record { held = was.sink; marks = was.marks }) (Err ends.Disk) new now.disk (record { acks = acks_now; journal = journal_now }) (record { held = now.sink; marks = now.marks })
-      → Answered start before now statuses.DiskFault more acks_now journal_now
+      → Turn c.plain (parsed false line) was.disk (record { acks = acks; journal = journal }) (record { held = was.sink; marks = was.marks }) (Err ends.Disk) new now.disk (record { acks = acks_now; journal = journal_now }) (record { held = now.sink; marks = now.marks })
+      → Answered plan before now statuses.DiskFault more acks_now journal_now
   disk_end rose le (Quiet q r answers runs keeps n s) = cc
   disk_end rose le (Told a q r answers runs keeps n w) = cc
   disk_end rose le (Unwritten a q x r answers runs keeps n w) = cc
   disk_end rose le (Lost a q r faults keeps n w) =
       lost_end statuses.DiskFault a q faults keeps (ap (λ (x : Noted). x.acks) n) (ap (λ (x : Noted). x.journal) n) tt (omega (arith, le, rose))
-      (written-more before.sink p.answers a was.sink was.marks acks (journal_len p.plain.journal) now.disk.moment now.sink now.marks p.written w)
+      (written-more before.sink p.answers a was.sink was.marks acks (journal_len c.plain.journal) now.disk.moment now.sink now.marks p.written w)
   disk_end rose le (LostUnwritten a q x r faults keeps more n w) = cc
 
 -- the run ends between two lines, where the source was asked
-pub progress-end : (start : Start) (before now : World) (source : Option (List ℕ)) (asks : Option (List Ask)) (reads : ℕ) (script : List (List ℕ)) (store : Logged) (acks : List Ack) (journal : ℕ) (status : Status) → (p : Progress start before now script store acks journal)
-    → AsksInTime before.source before.sink before.asks (replies_of (parsed_lines script) p.answers) asks → IsWritten status before p.answers (record now { source = source; asks = asks; reads = reads }) acks → Answered start before (record now { source = source; asks = asks; reads = reads }) status script acks journal
-progress-end start before now source asks reads script store acks journal status p asked written =
-    let all : AnswersAll (opened_store no_savepoint p.first rows_limit) (parsed_lines script) p.answers (lengths_of acks) journal p.plain = record { tells = p.tells; length_is = p.length_is } in
-    record {
-      first = p.first;
-      answers = p.answers;
-      plain = p.plain;
-      begins = p.begins;
-      transcript = whole_transcript _ _ _ _ _ _ all;
-      ended = inl (record { all = all; stays = runs_whole store now.disk p.plain p.runs });
-      written = written;
-      in_time = asked;
-      kept = p.kept;
-    }
+pub progress-end : (plan : Plan) (before now : World) (source : Option (List ℕ)) (asks : Option (List Ask)) (reads : ℕ) (script : List (List ℕ)) (store : Logged) (acks : List Ack) (journal : ℕ) (status : Status) → (p : Progress plan before now script store acks journal)
+    → AsksInTime before.source before.sink before.asks (replies_of (parsed_lines script) p.answers) asks → IsWritten status before p.answers (record now { source = source; asks = asks; reads = reads }) acks → Answered plan before (record now { source = source; asks = asks; reads = reads }) status script acks journal
+progress-end plan before now source asks reads script store acks journal status p asked written = record {
+  answers = p.answers;
+  plain = p.course.plain;
+  served = course-end (start_of plan) plan.rows before.disk now.disk script p.answers store acks journal status p.course;
+  written = written;
+  in_time = asked;
+}

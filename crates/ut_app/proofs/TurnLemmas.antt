@@ -7,8 +7,8 @@ use Rattle.ut_outside.specs.declared.faults.Failed as fails
 use Rattle.ut_plain.specs.declared.statement.Parsed.{Parsed}
 use Rattle.ut_plain.specs.Journal.{journal_len}
 use Rattle.ut_plain.specs.Plain.{Plain}
-use Rattle.ut_logged.specs.Logged.{Logged}
-use Rattle.ut_logged.specs.Runs.{Runs}
+use Rattle.ut_engine.specs.Logged.{Logged}
+use Rattle.ut_engine.specs.Runs.{Runs}
 use Rattle.ut_app.specs.declared.say.Said.{Said}
 use Rattle.ut_app.specs.declared.say.Said.TheVariants as saids
 use Rattle.ut_app.specs.declared.turn.TurnEnd.TheVariants as ends

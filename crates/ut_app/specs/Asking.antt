@@ -1,5 +1,5 @@
 -- When the source is asked for more: by then the replies to all lines that ended in what it gave stand in the sink.
-use Rattle.std.specs.Prelude.{ℕ, ◌≡◌, ◌≤◌, ◌+◌, List, [], ◌∷◌, ◌++◌, length, take, flat_map, Option, None, Some}
+use Rattle.std.specs.Prelude.{ℕ, ◌≡◌, ◌≤◌, ◌+◌, List, [], ◌∷◌, ◌++◌, length, take, flat_map, Option, Some}
 use Rattle.std.specs.List.{AllByRecursion}
 use Rattle.ut_outside.specs.declared.ask.Ask.{Ask}
 use Rattle.ut_plain.specs.declared.statement.Parsed.{Parsed}

@@ -1,24 +1,24 @@
 -- How a run begins: the store is made or opened.
-use Rattle.std.specs.Prelude.{◌≡◌, []}
+use Rattle.std.specs.Prelude.{ℕ, ◌≡◌, []}
 use Rattle.ut_outside.specs.Disk.{View, IsTold}
 use Rattle.ut_outside.specs.Faults.{Rose}
 use Rattle.ut_plain.specs.Journal.{Journal}
 use Rattle.ut_plain.specs.Plain.{opened_store, no_savepoint}
-use Rattle.ut_logged.specs.declared.error.OpenError.{OpenError}
-use Rattle.ut_logged.specs.declared.error.OpenError.TheVariants as errors
-use Rattle.ut_logged.specs.Logged.{Logged}
-use Rattle.ut_logged.specs.Runs.{Runs}
-use Rattle.ut_app.specs.declared.words.Start.{Start}
+use Rattle.ut_engine.specs.declared.error.OpenError.{OpenError}
+use Rattle.ut_engine.specs.declared.error.OpenError.TheVariants as errors
+use Rattle.ut_engine.specs.Logged.{Logged}
+use Rattle.ut_engine.specs.Runs.{Runs}
+use Rattle.ut_app.specs.declared.begin.Start.{Start}
 use Rattle.ut_app.specs.declared.report.Status.{Status}
 use Rattle.ut_app.specs.declared.report.Status.TheVariants.{NoStore, Exists, DiskFault, Damaged, Memory}
 use Rattle.ut_app.specs.Keeping.{Begins, Kept}
-use Rattle.ut_app.specs.Serving.{rows_limit, LosesNothing}
+use Rattle.ut_app.specs.Serving.{LosesNothing}
 use Rattle.ut_app.specs.Ends.{FitsStore, IsEarly}
 
--- the store runs from what it was opened with, and nothing was lost on the way
-pub record Begun (start : Start) (entry now : View) (store : Logged) : Type 0 where
+-- the store runs from what it was opened with, for so many rows at most, and nothing was lost on the way
+pub record Begun (start : Start) (rows : ℕ) (entry now : View) (store : Logged) : Type 0 where
   pub first : Journal
-  pub runs : Runs store now (opened_store no_savepoint first rows_limit)
+  pub runs : Runs store now (opened_store no_savepoint first rows)
   pub begins : IsTold entry → Begins start first entry.seen
   pub kept : IsTold entry → Kept start entry now first first []
 

@@ -1,26 +1,21 @@
 -- Why a run ended, and what that says.
-use Rattle.std.specs.Prelude.{ℕ, ◌≡◌, ◌⊎◌, false, List, Option, None, Some}
+use Rattle.std.specs.Prelude.{ℕ, ◌≡◌, ◌⊎◌, false, List, Some}
 use Rattle.ut_outside.specs.Disk.{Image, IsTold}
 use Rattle.ut_outside.specs.Faults.{Rose}
 use Rattle.ut_outside.specs.declared.ack.Ack.{Ack}
 use Rattle.ut_pages.specs.Layout.{IsMade}
 use Rattle.ut_plain.specs.Journal.{Journal}
-use Rattle.ut_logged.specs.Readings.{HoldsJournal}
-use Rattle.ut_app.specs.declared.words.Start.{Start}
-use Rattle.ut_app.specs.declared.words.Start.TheVariants.{New, Open}
+use Rattle.ut_engine.specs.Files.{HoldsJournal}
+use Rattle.ut_app.specs.declared.begin.Start.{Start}
+use Rattle.ut_app.specs.declared.begin.Start.TheVariants.{New, Open}
 use Rattle.ut_app.specs.declared.report.Status.{Status}
 use Rattle.ut_app.specs.declared.report.Status.TheVariants.{Done, Usage, NoStore, Exists, ReadFault, WriteFault, DiskFault, Damaged, Memory, TooLong}
+use Rattle.ut_words.specs.declared.plan.Plan.{Plan}
 use Rattle.ut_app.specs.World.{World}
+use Rattle.ut_app.specs.Plans.{start_of}
 use Rattle.ut_app.specs.Script.{is_too_long, FitsInput}
 use Rattle.ut_app.specs.Keeping.{Begins}
 use Rattle.ut_app.specs.Serving.{Ran, EndedEarly}
-
--- ---- the words
-
--- the status is Usage exactly where the words aren't taken
-abbrev pub IsUsage : Option Start → Status → Type 0
-IsUsage None status = status ≡ Usage
-IsUsage (Some start) status = status ≡ Usage → ⊥
 
 -- ---- the store
 
@@ -65,20 +60,25 @@ IsLate TooLong = Unit {0}
 IsLate _ = ⊥
 
 -- The run ended before a line was read, or lines were answered.
-pub data RunEnd (start : Start) (before after : World) (status : Status) (lines : ℕ) (acks : List Ack) (journal : ℕ) : Type 0 where
-  Early : IsEarly status → EndedEarly start before after status lines acks journal → RunEnd start before after status lines acks journal
-  Late : IsLate status → Ran start before after status lines acks journal → RunEnd start before after status lines acks journal
+pub data RunEnd (plan : Plan) (before after : World) (status : Status) (lines : ℕ) (acks : List Ack) (journal : ℕ) : Type 0 where
+  Early : IsEarly status → EndedEarly (start_of plan) before after status lines acks journal → RunEnd plan before after status lines acks journal
+  Late : IsLate status → Ran plan before after status lines acks journal → RunEnd plan before after status lines acks journal
 
--- All that holds of a run with words that are taken.
-pub record Run (start : Start) (before after : World) (status : Status) (lines : ℕ) (acks : List Ack) (journal : ℕ) : Type 0 where
-  pub ended : RunEnd start before after status lines acks journal
-  pub store : IsTold before.disk → FitsStore status start before.disk.seen
-  pub input : FitsInput status before.source
+-- Where the files are what the run begins with, the input keeps to the limits and no count of faults rose, the status is Done or Memory.
+pub record IsComplete (plan : Plan) (before after : World) (status : Status) : Type 0 where
+  pub complete : IsTold before.disk → (first : Journal) → Begins (start_of plan) first before.disk.seen → (input : List ℕ) → before.source ≡ Some input → is_too_long plan.lines input ≡ false
+      → (Rose before.reads after.reads → ⊥) → (Rose before.writes after.writes → ⊥) → (Rose before.disk.faults after.disk.faults → ⊥) → (status ≡ Done) ⊎ (status ≡ Memory)
+
+-- All that holds of a run of the source's lines.
+pub record Run (plan : Plan) (before after : World) (status : Status) (lines : ℕ) (acks : List Ack) (journal : ℕ) : Type 0 where
+  -- what was answered, written and acknowledged, and what a crash leaves of it
+  pub ended : RunEnd plan before after status lines acks journal
+  -- NoStore, Exists and Damaged exactly where the files say so
+  pub store : IsTold before.disk → FitsStore status (start_of plan) before.disk.seen
+  -- TooLong only where the input is past the limits, and Done only where it isn't
+  pub input : FitsInput plan.lines status before.source
+  -- a fault only where its count rose
   pub cause : HasRisen status before after
   pub taken : status ≡ Usage → ⊥
-
--- Where the words are taken, the files are what the run begins with, the input keeps to the limits and no count of faults rose, the status is Done or Memory.
-pub record IsComplete (words : Option Start) (before after : World) (status : Status) : Type 0 where
-  pub complete : (start : Start) → words ≡ Some start → IsTold before.disk → (first : Journal) → Begins start first before.disk.seen
-      → (input : List ℕ) → before.source ≡ Some input → is_too_long input ≡ false
-      → (Rose before.reads after.reads → ⊥) → (Rose before.writes after.writes → ⊥) → (Rose before.disk.faults after.disk.faults → ⊥) → (status ≡ Done) ⊎ (status ≡ Memory)
+  -- where nothing is in the way, all is done, but for want of memory
+  pub complete : IsComplete plan before after status

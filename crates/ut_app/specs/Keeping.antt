@@ -6,9 +6,9 @@ use Rattle.ut_outside.specs.declared.ack.Ack.{Ack}
 use Rattle.ut_pages.specs.Layout.{IsMade}
 use Rattle.ut_value.specs.declared.entry.Entry.{Entry}
 use Rattle.ut_plain.specs.Journal.{Journal, empty_journal, journal_len}
-use Rattle.ut_logged.specs.Readings.{HoldsJournal, HoldsPrefix}
-use Rattle.ut_app.specs.declared.words.Start.{Start}
-use Rattle.ut_app.specs.declared.words.Start.TheVariants.{New, Open}
+use Rattle.ut_engine.specs.Files.{HoldsJournal, HoldsPrefix}
+use Rattle.ut_app.specs.declared.begin.Start.{Start}
+use Rattle.ut_app.specs.declared.begin.Start.TheVariants.{New, Open}
 
 -- nothing is pending on a disk: a crash leaves what a read returns
 abbrev pub NothingPending : View → Type 0

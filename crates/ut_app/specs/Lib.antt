@@ -1,4 +1,4 @@
-pub mod Words
+pub mod Plans
 pub mod World
 pub mod Script
 pub mod Writing
@@ -12,4 +12,7 @@ pub mod Ends
 pub mod Beginning
 pub mod Input
 pub mod Going
+pub mod Hearing
+pub mod Figures
+pub mod Benching
 pub mod Top

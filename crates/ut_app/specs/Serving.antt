@@ -1,5 +1,5 @@
 -- How far a run is, and what it came to.
-use Rattle.std.specs.Prelude.{ℕ, ◌≡◌, ◌≤◌, ◌⊎◌, Bool, true, false, List, [], length, map}
+use Rattle.std.specs.Prelude.{ℕ, ◌≡◌, ◌≤◌, ◌⊎◌, true, false, List, [], length, map}
 use Rattle.ut_outside.specs.Disk.{View, Image, IsTold}
 use Rattle.ut_outside.specs.Faults.{Rose}
 use Rattle.ut_outside.specs.Run.{ReadsOnly}
@@ -10,22 +10,20 @@ use Rattle.ut_plain.specs.Journal.{Journal, journal_len}
 use Rattle.ut_plain.specs.Plain.{Plain, opened_store, no_savepoint}
 use Rattle.ut_plain.specs.Transcript.{Answer, Transcript}
 use Rattle.ut_script.specs.Grammar.{parsed}
-use Rattle.ut_logged.specs.Logged.{Logged}
-use Rattle.ut_logged.specs.Runs.{Runs}
-use Rattle.ut_app.specs.declared.words.Start.{Start}
-use Rattle.ut_app.specs.declared.words.Start.TheVariants.{New, Open}
+use Rattle.ut_engine.specs.Logged.{Logged}
+use Rattle.ut_engine.specs.Runs.{Runs}
+use Rattle.ut_app.specs.declared.begin.Start.{Start}
+use Rattle.ut_app.specs.declared.begin.Start.TheVariants.{New, Open}
 use Rattle.ut_app.specs.declared.report.Status.{Status}
 use Rattle.ut_app.specs.declared.report.Status.TheVariants as statuses
 use Rattle.ut_app.specs.World.{World, StreamsStay, DiskStays}
-use Rattle.ut_app.specs.Script.{lines_limit, all_fit, ReadsInput}
+use Rattle.ut_words.specs.declared.plan.Plan.{Plan}
+use Rattle.ut_app.specs.Plans.{start_of}
+use Rattle.ut_app.specs.Script.{all_fit, ReadsInput}
 use Rattle.ut_app.specs.Telling.{Tells, AnswersAll, AnswersToFault}
 use Rattle.ut_app.specs.Writing.{HasWritten, HasFront}
 use Rattle.ut_app.specs.Asking.{replies_of, AsksInTime}
 use Rattle.ut_app.specs.Keeping.{Begins, Kept, HoldsRun, HoldsWhole, NothingPending}
-
--- the greatest id that a run gives
-abbrev pub rows_limit : ℕ
-rows_limit = 2147483648
 
 -- lines as the grammar reads them
 abbrev pub parsed_lines : List (List ℕ) → List Parsed
@@ -35,18 +33,22 @@ parsed_lines script = map (parsed false) script
 abbrev pub lengths_of : List Ack → List ℕ
 lengths_of acks = map (λ (a : Ack). a.journal) acks
 
--- These lines were answered one after the other; what was written, acknowledged and kept meanwhile.
-pub record Progress (start : Start) (before now : World) (script : List (List ℕ)) (store : Logged) (acks : List Ack) (journal : ℕ) : Type 0 where
+-- These lines were answered so one after the other, with so many rows at most; what was acknowledged and kept meanwhile.
+pub record Course (start : Start) (rows : ℕ) (entry now : View) (script : List (List ℕ)) (answers : List Answer) (store : Logged) (acks : List Ack) (journal : ℕ) : Type 0 where
   pub first : Journal
-  pub answers : List Answer
   pub plain : Plain
-  pub begins : IsTold before.disk → Begins start first before.disk.seen
-  pub tells : Tells (opened_store no_savepoint first rows_limit) (parsed_lines script) answers (lengths_of acks) plain
-  pub runs : Runs store now.disk plain
+  pub begins : IsTold entry → Begins start first entry.seen
+  pub tells : Tells (opened_store no_savepoint first rows) (parsed_lines script) answers (lengths_of acks) plain
+  pub runs : Runs store now plain
+  pub kept : IsTold entry → Kept start entry now first plain.journal acks
+  pub length_is : journal ≡ journal_len plain.journal
+
+-- and what was written
+pub record Progress (plan : Plan) (before now : World) (script : List (List ℕ)) (store : Logged) (acks : List Ack) (journal : ℕ) : Type 0 where
+  pub answers : List Answer
+  pub course : Course (start_of plan) plan.rows before.disk now.disk script answers store acks journal
   pub written : HasWritten before.sink answers now.sink now.marks acks
   pub in_time : AsksInTime before.source before.sink before.asks (replies_of (parsed_lines script) answers) now.asks
-  pub kept : IsTold before.disk → Kept start before.disk now.disk first plain.journal acks
-  pub length_is : journal ≡ journal_len plain.journal
 
 -- where the disk failed, the status says so, or that the sink failed too
 abbrev pub IsFault : Status → Type 0
@@ -70,30 +72,34 @@ pub record LastFaulted (p : Plain) (script : List (List ℕ)) (answers : List An
   pub says : IsFault status
   pub rose : Rose entry.faults now.faults
 
--- What was answered to these lines, written, acknowledged and kept.
-pub record Answered (start : Start) (before after : World) (status : Status) (script : List (List ℕ)) (acks : List Ack) (journal : ℕ) : Type 0 where
-  -- the journal at the entry, the answers, and the state after them
+-- What was answered to these lines, acknowledged and kept, and the state after them.
+pub record Served (start : Start) (rows : ℕ) (entry now : View) (status : Status) (script : List (List ℕ)) (answers : List Answer) (acks : List Ack) (journal : ℕ) (plain : Plain) : Type 0 where
+  -- the journal at the entry
   pub first : Journal
+  pub begins : IsTold entry → Begins start first entry.seen
+  pub transcript : Transcript (opened_store no_savepoint first rows) (parsed_lines script) answers plain
+  -- one acknowledgement for each answer, with the length of the journal after its line, or before it where the disk failed
+  pub ended : AllAnswered (opened_store no_savepoint first rows) script answers acks journal plain now
+      ⊎ LastFaulted (opened_store no_savepoint first rows) script answers acks journal plain entry now status
+  pub kept : IsTold entry → Kept start entry now first plain.journal acks
+
+-- and what was written
+pub record Answered (plan : Plan) (before after : World) (status : Status) (script : List (List ℕ)) (acks : List Ack) (journal : ℕ) : Type 0 where
   pub answers : List Answer
   pub plain : Plain
-  pub begins : IsTold before.disk → Begins start first before.disk.seen
-  pub transcript : Transcript (opened_store no_savepoint first rows_limit) (parsed_lines script) answers plain
-  -- one acknowledgement for each answer, with the length of the journal after its line, or before it where the disk failed
-  pub ended : AllAnswered (opened_store no_savepoint first rows_limit) script answers acks journal plain after.disk
-      ⊎ LastFaulted (opened_store no_savepoint first rows_limit) script answers acks journal plain before.disk after.disk status
+  pub served : Served (start_of plan) plan.rows before.disk after.disk status script answers acks journal plain
   pub written : IsWritten status before answers after acks
   -- each reply stands in the sink before the source is asked for more than its line needs
   pub in_time : AsksInTime before.source before.sink before.asks (replies_of (parsed_lines script) answers) after.asks
-  pub kept : IsTold before.disk → Kept start before.disk after.disk first plain.journal acks
 
 -- The first lines of the input were answered, each within the limits. Where the source doesn't tell its bytes, some lines were.
-pub record Ran (start : Start) (before after : World) (status : Status) (lines : ℕ) (acks : List Ack) (journal : ℕ) : Type 0 where
+pub record Ran (plan : Plan) (before after : World) (status : Status) (lines : ℕ) (acks : List Ack) (journal : ℕ) : Type 0 where
   pub script : List (List ℕ)
   pub count : lines ≡ length script
-  pub few : lines ≤ lines_limit
+  pub few : lines ≤ plan.lines
   pub fit : all_fit script ≡ true
-  pub input : ReadsInput before.source after.source status script
-  pub answered : Answered start before after status script acks journal
+  pub input : ReadsInput plan.lines before.source after.source status script
+  pub answered : Answered plan before after status script acks journal
 
 -- a run may not write where a store is to be opened, nor where one is to be made and is there
 abbrev pub MayOnlyRead : Start → Image → Type 0

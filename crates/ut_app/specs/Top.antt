@@ -1,19 +1,56 @@
--- What a run comes to, whatever the words.
-use Rattle.std.specs.Prelude.{ℕ, List, Option, None, Some}
-use Rattle.ut_outside.specs.Disk.{Image}
+-- What the program comes to with some words.
+use Rattle.std.specs.Prelude.{ℕ, ◌≡◌, ◌⊎◌, List}
 use Rattle.ut_outside.specs.declared.ack.Ack.{Ack}
-use Rattle.ut_app.specs.declared.words.Start.{Start}
+use Rattle.ut_words.specs.declared.plan.Mode.{Mode}
+use Rattle.ut_words.specs.declared.plan.Mode.TheVariants as modes
+use Rattle.ut_words.specs.declared.plan.Plan.{Plan}
+use Rattle.ut_words.specs.declared.plan.WordsError.{WordsError}
+use Rattle.ut_words.specs.declared.plan.WordsError.TheVariants as errors
+use Rattle.ut_words.specs.Plans.{Takes, Refuses}
 use Rattle.ut_app.specs.declared.report.Status.{Status}
+use Rattle.ut_app.specs.declared.report.Status.TheVariants.{Usage, Memory}
 use Rattle.ut_app.specs.World.{World}
 use Rattle.ut_app.specs.Serving.{DidNothing}
-use Rattle.ut_app.specs.Ends.{FitsStore, RunEnd}
+use Rattle.ut_app.specs.Ends.{Run}
+use Rattle.ut_app.specs.Benching.{BenchRun}
 
--- what a status says of the files, where the words are taken
-abbrev pub FitsWords : Option Start → Status → Image → Type 0
-FitsWords None status c = Unit {0}
-FitsWords (Some start) status c = FitsStore status start c
+-- The status is Usage, and nothing was done.
+pub record IsTurnedDown (before after : World) (status : Status) (lines : ℕ) (acks : List Ack) (journal : ℕ) : Type 0 where
+  pub says : status ≡ Usage
+  pub nothing : DidNothing before after lines acks journal
 
--- the run with these words; with others nothing is done
-abbrev pub RunsWords : Option Start → World → World → Status → ℕ → List Ack → ℕ → Type 0
-RunsWords None before after status lines acks journal = DidNothing before after lines acks journal
-RunsWords (Some start) before after status lines acks journal = RunEnd start before after status lines acks journal
+-- the run that a plan asks for, by its mode; `crowd` isn't served yet
+abbrev pub RunsMode : Mode → Plan → World → World → Status → ℕ → List Ack → ℕ → Type 0
+RunsMode modes.Run plan before after status lines acks journal = Run plan before after status lines acks journal
+RunsMode modes.Crowd plan before after status lines acks journal = IsTurnedDown before after status lines acks journal
+RunsMode modes.Bench plan before after status lines acks journal = BenchRun plan before after status lines acks journal
+
+abbrev pub RunsPlan : Plan → World → World → Status → ℕ → List Ack → ℕ → Type 0
+RunsPlan plan before after status lines acks journal = RunsMode plan.mode plan before after status lines acks journal
+
+-- The words are refused, or there is no memory to read them, and nothing is done; or their plan is run.
+pub data RunsWords (words : List (List ℕ)) (before after : World) (status : Status) (lines : ℕ) (acks : List Ack) (journal : ℕ) : Type 0 where
+  Refused : Refuses words → IsTurnedDown before after status lines acks journal → RunsWords words before after status lines acks journal
+  Lacking : status ≡ Memory → DidNothing before after lines acks journal → RunsWords words before after status lines acks journal
+  Served : (plan : Plan) → Takes words plan → RunsPlan plan before after status lines acks journal → RunsWords words before after status lines acks journal
+
+-- the mode is one that is served
+abbrev pub IsServed : Mode → Type 0
+IsServed modes.Run = Unit {0}
+IsServed modes.Crowd = ⊥
+IsServed modes.Bench = Unit {0}
+
+-- The words ask for a mode that isn't served yet.
+pub record AsksInVain (words : List (List ℕ)) : Type 0 where
+  pub plan : Plan
+  pub takes : Takes words plan
+  pub unserved : IsServed plan.mode → ⊥
+
+-- `clap`'s definition of the words refuses them, or they ask for a mode that isn't served yet
+abbrev pub AreTurnedDown : List (List ℕ) → Type 0
+AreTurnedDown words = Refuses words ⊎ AsksInVain words
+
+-- the status of words that have no plan
+abbrev pub WordsStatus : WordsError → Status → Type 0
+WordsStatus errors.Usage status = status ≡ Usage
+WordsStatus errors.Memory status = status ≡ Memory

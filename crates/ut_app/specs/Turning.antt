@@ -8,8 +8,8 @@ use Rattle.ut_plain.specs.declared.statement.Parsed.{Parsed}
 use Rattle.ut_plain.specs.Journal.{journal_len}
 use Rattle.ut_plain.specs.Plain.{Plain}
 use Rattle.ut_plain.specs.Transcript.{Answer, AnswersLine, Faults}
-use Rattle.ut_logged.specs.Logged.{Logged}
-use Rattle.ut_logged.specs.Runs.{Runs}
+use Rattle.ut_engine.specs.Logged.{Logged}
+use Rattle.ut_engine.specs.Runs.{Runs}
 use Rattle.ut_app.specs.declared.report.Status.{Status}
 use Rattle.ut_app.specs.declared.report.Status.TheVariants.{WriteFault, DiskFault}
 use Rattle.ut_app.specs.declared.turn.TurnEnd.{TurnEnd}

@@ -1,59 +1,51 @@
 //! Making the store, or opening it.
-ghost use Rattle.std.specs.Prelude.{◌≡◌, ◌≤◌, IfOk, IfErr};
+ghost use Rattle.std.specs.Prelude.{◌≡◌, ◌≤◌, ◌^◌, IfOk, IfErr};
+ghost use Rattle.ut_engine.specs.Beginning.{disk_left, loan_left};
+ghost use Rattle.ut_app.specs.Plans.{start_of};
 ghost use Rattle.ut_app.specs.Beginning.{Begun, NotBegun, OpenStatus};
 
 use crate::report::Status;
-use crate::words::Start;
 use std::alloc::Global;
-use ut_logged::{LoggedStore, OpenError};
+use ut_engine::{Engine, OpenError, Unopened};
 use ut_outside::Disk;
+use ut_words::Plan;
 
-/// The greatest id that is given.
-const ROWS_LIMIT: u32 = 1 << 31;
+/// Whether the store is made, or opened.
+#[derive(Clone, Copy, Debug, PartialEq, Eq)]
+pub enum Start {
+    New,
+    Open,
+}
 
-/// Makes the store or opens it, or says why the run ends.
-pub(crate) fn begin<D: Disk>(
+/// What a plan asks of the store.
+pub(crate) fn start_of(plan: &Plan) -> Start
+    ensures { result ≡ start_of plan.now }
+{
+    if plan.fresh { Start::New } else { Start::Open }
+}
+
+/// Makes the store or opens it, over the disk, for so many rows at most; where it can't, the disk is handed back with the cause.
+pub(crate) fn begin<'d, D: Disk>(
     alloc: Global,
     start: Start,
-    disk: &mut D,
-) -> Result<LoggedStore, Status>
-    ensures begun { IfOk result (Begun start (D.view disk.old) (D.view disk.new)) }
-    ensures not_begun { IfErr result (NotBegun start (D.view disk.old) (D.view disk.new)) }
-    ensures told { (D.view disk.new).told ≡ (D.view disk.old).told }
-    ensures later { (D.view disk.old).faults ≤ (D.view disk.new).faults }
+    rows: u32,
+    disk: &'d mut D,
+) -> Result<Engine<'d, D>, Unopened<'d, D>>
+    requires { rows ≤ 2 ^ 31 }
+    ensures begun { IfOk result (λ e. Begun start rows (D.view disk.old) (D.view e.disk) e.store) }
+    ensures not_begun { IfErr result (λ u. (status : Status) → OpenStatus u.cause status → NotBegun start (D.view disk.old) (D.view u.disk.now) status) }
+    ensures told { (D.view (disk_left result)).told ≡ (D.view disk.old).told }
+    ensures later { (D.view disk.old).faults ≤ (D.view (disk_left result)).faults }
+    ensures loan { loan_left result ≡ disk.entry.ghost_name }
 {
     match start {
-        Start::New => make(alloc, disk),
-        Start::Open => open(alloc, disk),
-    }
-}
-
-fn make<D: Disk>(alloc: Global, disk: &mut D) -> Result<LoggedStore, Status>
-    ensures begun { IfOk result (Begun Start.New (D.view disk.old) (D.view disk.new)) }
-    ensures not_begun { IfErr result (NotBegun Start.New (D.view disk.old) (D.view disk.new)) }
-    ensures told { (D.view disk.new).told ≡ (D.view disk.old).told }
-    ensures later { (D.view disk.old).faults ≤ (D.view disk.new).faults }
-{
-    match LoggedStore::make(alloc, disk, ROWS_LIMIT) {
-        Ok(store) => Ok(store),
-        Err(error) => Err(status_of(error)),
-    }
-}
-
-fn open<D: Disk>(alloc: Global, disk: &mut D) -> Result<LoggedStore, Status>
-    ensures begun { IfOk result (Begun Start.Open (D.view disk.old) (D.view disk.new)) }
-    ensures not_begun { IfErr result (NotBegun Start.Open (D.view disk.old) (D.view disk.new)) }
-    ensures told { (D.view disk.new).told ≡ (D.view disk.old).told }
-    ensures later { (D.view disk.old).faults ≤ (D.view disk.new).faults }
-{
-    match LoggedStore::open(alloc, disk, ROWS_LIMIT) {
-        Ok(store) => Ok(store),
-        Err(error) => Err(status_of(error)),
+        Start::New => Engine::make(alloc, disk, rows),
+        Start::Open => Engine::open(alloc, disk, rows),
     }
 }
 
 /// What the program says where a store can't be made or opened.
-fn status_of(error: OpenError) -> Status
+pub(crate) fn status_of(error: OpenError) -> Status
     ensures { OpenStatus error result }
 {
     match error {

@@ -9,14 +9,11 @@ use std::alloc::{AllocError, Global};
 use ut_outside::{Source, Taken};
 use ut_script::{LineError, Lines};
 
-/// At most so many lines are read.
-const MAX_LINES: u32 = 1 << 20;
-
-/// A reader of a script's lines.
-pub(crate) fn script_lines(alloc: Global) -> Result<Lines, AllocError>
-    ensures { IfOk result (λ lines. lines ≡ record { held = []; line = []; number = 0; limit = 1048576; failed = None }) }
+/// A reader of a script's lines, of so many at most.
+pub(crate) fn script_lines(alloc: Global, limit: u32) -> Result<Lines, AllocError>
+    ensures { IfOk result (λ lines. lines ≡ record { held = []; line = []; number = 0; limit = limit; failed = None }) }
 {
-    Lines::new(alloc, MAX_LINES)
+    Lines::new(alloc, limit)
 }
 
 /// Makes room for one reply more and reads the next line, or says why the run ends.

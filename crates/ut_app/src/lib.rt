@@ -1,16 +1,19 @@
 //! The program's top call: it reads the lines of a script, answers each, and writes the replies.
 #![tactic(auto)]
 
+mod answer;
 mod begin;
+mod bench;
+mod figures;
+mod hear;
 mod input;
 mod program;
 mod report;
+mod run;
 mod say;
-mod serve;
+mod tally;
 mod turn;
-mod words;
 mod write;
 
-pub use program::top;
+pub use program::{serve, top};
 pub use report::{Report, Status};
-pub use words::Start;

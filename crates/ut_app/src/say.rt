@@ -1,15 +1,15 @@
 //! What a line is answered.
 ghost use Rattle.std.specs.Prelude.{◌≡◌, ◌<◌, ◌≤◌, [], ◌∷◌, Some, IsTrue, false, vec_capacity};
-ghost use Rattle.ut_plain.specs.Plain.{Plain};
 ghost use Rattle.ut_plain.specs.Spelled.{is_spelled};
 ghost use Rattle.ut_store.specs.Standing.{suits_session};
-ghost use Rattle.ut_logged.specs.Runs.{Runs};
 ghost use Rattle.ut_script.specs.Grammar.{parsed};
 ghost use Rattle.ut_reply.specs.Texts.{reply_text};
 ghost use Rattle.ut_app.specs.Saying.{Says, IsKnown, IsText, MayFault, said_of};
 
+use crate::answer::answer;
 use std::alloc::Global;
-use ut_logged::LoggedStore;
+use ut_engine::Engine;
+use ut_merge::Build;
 use ut_outside::Disk;
 use ut_plain::{Parsed, Refusal, Reply, Statement};
 use ut_reply::{put_reply, put_small};
@@ -24,68 +24,74 @@ pub enum Said {
 }
 
 /// Answers a line, and puts the text of the answer into an empty buffer.
-pub(crate) fn say<D: Disk>(
+pub(crate) fn say<D: Disk, B: Build>(
     alloc: Global,
-    store: &mut LoggedStore,
-    disk: &mut D,
+    engine: &mut Engine<'_, D>,
+    builder: &B,
     line: &[u8],
     text: &mut Vec<u8>,
 ) -> Said
-    requires runs { (p : Plain) × Runs store.old (D.view disk.old) p }
+    requires up { engine.old.store.down ≡ false }
+    requires ready { B.ready builder.now }
     requires empty { text.old.items ≡ [] }
     requires room { 96 ≤ vec_capacity text.old }
-    ensures says { Says store.old (D.view disk.old) (parsed false line.now) result store.new (D.view disk.new) text.new.items }
+    ensures says { Says engine.old.store (D.view engine.old.disk) (parsed false line.now) result engine.new.store (D.view engine.new.disk) text.new.items }
     ensures room { 96 ≤ vec_capacity text.new }
-    ensures cause { MayFault (D.view disk.old) (D.view disk.new) result }
+    ensures cause { MayFault (D.view engine.old.disk) (D.view engine.new.disk) result }
+    ensures loan { engine.new.loan ≡ engine.old.loan }
 {
     match parse_line(alloc, line, false) {
-        Ok(parsed) => say_parsed(alloc, store, disk, &parsed, text),
+        Ok(parsed) => say_parsed(alloc, engine, builder, &parsed, text),
         Err(lacks) => refuse(text, Some(lacks.session), Refusal::Memory),
     }
 }
 
-fn say_parsed<D: Disk>(
+fn say_parsed<D: Disk, B: Build>(
     alloc: Global,
-    store: &mut LoggedStore,
-    disk: &mut D,
+    engine: &mut Engine<'_, D>,
+    builder: &B,
     line: &Parsed,
     text: &mut Vec<u8>,
 ) -> Said
-    requires runs { (p : Plain) × Runs store.old (D.view disk.old) p }
+    requires up { engine.old.store.down ≡ false }
+    requires ready { B.ready builder.now }
     requires known { IsKnown line.now }
     requires empty { text.old.items ≡ [] }
     requires room { 96 ≤ vec_capacity text.old }
-    ensures says { Says store.old (D.view disk.old) line.now result store.new (D.view disk.new) text.new.items }
+    ensures says { Says engine.old.store (D.view engine.old.disk) line.now result engine.new.store (D.view engine.new.disk) text.new.items }
     ensures room { 96 ≤ vec_capacity text.new }
-    ensures cause { MayFault (D.view disk.old) (D.view disk.new) result }
+    ensures cause { MayFault (D.view engine.old.disk) (D.view engine.new.disk) result }
+    ensures loan { engine.new.loan ≡ engine.old.loan }
 {
     match line {
         Parsed::Comment => Said::Nothing,
         Parsed::Stranger => refuse(text, None, Refusal::Syntax),
         Parsed::Bad(session) => refuse(text, Some(*session), Refusal::Syntax),
-        Parsed::Good(session, st) => say_statement(alloc, store, disk, *session, st, text),
+        Parsed::Good(session, st) => say_statement(alloc, engine, builder, *session, st, text),
     }
 }
 
-fn say_statement<D: Disk>(
+fn say_statement<D: Disk, B: Build>(
     alloc: Global,
-    store: &mut LoggedStore,
-    disk: &mut D,
+    engine: &mut Engine<'_, D>,
+    builder: &B,
     session: u8,
     st: &Statement,
     text: &mut Vec<u8>,
 ) -> Said
-    requires runs { (p : Plain) × Runs store.old (D.view disk.old) p }
+    requires up { engine.old.store.down ≡ false }
+    requires ready { B.ready builder.now }
     requires seat { session < 17 }
     requires suits { IsTrue (suits_session session st.now) }
     requires spelled { IsTrue (is_spelled st.now) }
     requires empty { text.old.items ≡ [] }
     requires room { 96 ≤ vec_capacity text.old }
-    ensures says { Says store.old (D.view disk.old) (Parsed.Good session st.now) result store.new (D.view disk.new) text.new.items }
+    ensures says { Says engine.old.store (D.view engine.old.disk) (Parsed.Good session st.now) result engine.new.store (D.view engine.new.disk) text.new.items }
     ensures room { 96 ≤ vec_capacity text.new }
-    ensures cause { MayFault (D.view disk.old) (D.view disk.new) result }
+    ensures cause { MayFault (D.view engine.old.disk) (D.view engine.new.disk) result }
+    ensures loan { engine.new.loan ≡ engine.old.loan }
 {
-    let reply = store.statement(alloc, disk, session, st);
+    let reply = answer(alloc, engine, builder, session, st);
     put_text(text, session, &reply);
     said_of(&reply)
 }

@@ -1,8 +1,6 @@
 //! One line: its answer, the acknowledgement, and the text on its way to the sink.
 ghost use Rattle.std.specs.Prelude.{◌≡◌, ◌≤◌, ◌∷◌, ◌++◌, [], false, vec_capacity, IfOk, OnOk};
 ghost use Rattle.ut_outside.specs.Faults.{HasCause};
-ghost use Rattle.ut_plain.specs.Plain.{Plain};
-ghost use Rattle.ut_logged.specs.Runs.{Runs};
 ghost use Rattle.ut_script.specs.Grammar.{parsed};
 ghost use Rattle.ut_app.specs.Writing.{Writes};
 ghost use Rattle.ut_app.specs.Turning.{Turns, TurnCauses, EndStatus};
@@ -11,7 +9,8 @@ use crate::report::{Report, Status};
 use crate::say::{Said, say};
 use crate::write::write_all;
 use std::alloc::{AllocError, Global};
-use ut_logged::LoggedStore;
+use ut_engine::Engine;
+use ut_merge::Build;
 use ut_outside::{Ack, AckList, Disk, Failed, Sink};
 
 /// A reply without rows, groups, values and parts has at most so many bytes.
@@ -78,51 +77,53 @@ impl Replies {
     fn give<K: Sink<D>, D: Disk>(
         &mut self,
         journal: u32,
+        engine: &Engine<'_, D>,
         sink: &mut K,
-        disk: &D,
     ) -> Result<(), Failed>
         requires { 1 ≤ self.old.acks.spare }
-        ensures acks { self.new.acks.items ≡ self.old.acks.items ++ record { journal = journal; moment = (D.view disk.now).moment } ∷ [] }
+        ensures acks { self.new.acks.items ≡ self.old.acks.items ++ record { journal = journal; moment = (D.view engine.now.disk).moment } ∷ [] }
         ensures journal { self.new.journal ≡ journal }
-        ensures written { Writes (K.held sink.old) (K.moments sink.old) self.old.text.items (D.view disk.now).moment result (K.held sink.new) (K.moments sink.new) }
+        ensures written { Writes (K.held sink.old) (K.moments sink.old) self.old.text.items (D.view engine.now.disk).moment result (K.held sink.new) (K.moments sink.new) }
         ensures cause { HasCause (K.faults sink.old) (K.faults sink.new) result }
     {
         self.acks.add(Ack {
             journal: journal as u64,
-            moment: disk.calls(),
+            moment: engine.moment(),
         });
         self.journal = journal;
-        write_all(sink, disk, &self.text)
+        write_all(sink, engine.disk(), &self.text)
     }
 }
 
 /// Answers a line, and writes the answer.
-pub(crate) fn turn<K: Sink<D>, D: Disk>(
+pub(crate) fn turn<K: Sink<D>, D: Disk, B: Build>(
     alloc: Global,
-    store: &mut LoggedStore,
-    disk: &mut D,
+    engine: &mut Engine<'_, D>,
+    builder: &B,
     line: &[u8],
     replies: &mut Replies,
     sink: &mut K,
 ) -> Result<(), TurnEnd>
-    requires runs { (p : Plain) × Runs store.old (D.view disk.old) p }
+    requires up { engine.old.store.down ≡ false }
+    requires ready { B.ready builder.now }
     requires spare { 1 ≤ replies.old.acks.spare }
-    ensures turns { Turns store.old (D.view disk.old) (parsed false line.now) (record { acks = replies.old.acks.items; journal = replies.old.journal }) (record { held = K.held sink.old; marks = K.moments sink.old })
-        result store.new (D.view disk.new) (record { acks = replies.new.acks.items; journal = replies.new.journal }) (record { held = K.held sink.new; marks = K.moments sink.new }) }
-    ensures causes { TurnCauses (D.view disk.old) (D.view disk.new) (K.faults sink.old) (K.faults sink.new) result }
+    ensures turns { Turns engine.old.store (D.view engine.old.disk) (parsed false line.now) (record { acks = replies.old.acks.items; journal = replies.old.journal }) (record { held = K.held sink.old; marks = K.moments sink.old })
+        result engine.new.store (D.view engine.new.disk) (record { acks = replies.new.acks.items; journal = replies.new.journal }) (record { held = K.held sink.new; marks = K.moments sink.new }) }
+    ensures causes { TurnCauses (D.view engine.old.disk) (D.view engine.new.disk) (K.faults sink.old) (K.faults sink.new) result }
+    ensures loan { engine.new.loan ≡ engine.old.loan }
 {
-    let before = store.journal_len();
+    let before = engine.journal_len();
     replies.text.clear();
-    match say(alloc, store, disk, line, &mut replies.text) {
+    match say(alloc, engine, builder, line, &mut replies.text) {
         Said::Nothing => {
-            replies.journal = store.journal_len();
+            replies.journal = engine.journal_len();
             Ok(())
         }
-        Said::Reply => match replies.give(store.journal_len(), sink, disk) {
+        Said::Reply => match replies.give(engine.journal_len(), engine, sink) {
             Ok(()) => Ok(()),
             Err(_) => Err(TurnEnd::Write),
         },
-        Said::Fault => match replies.give(before, sink, disk) {
+        Said::Fault => match replies.give(before, engine, sink) {
             Ok(()) => Err(TurnEnd::Disk),
             Err(_) => Err(TurnEnd::Write),
         },

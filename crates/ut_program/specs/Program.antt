@@ -1,16 +1,12 @@
 -- What the program comes to: a run of the top call, and the number that it exits with.
 use Rattle.std.specs.Prelude.{ℕ, ◌≡◌, List, [], Option, None, Some}
-use Rattle.ut_outside.specs.Disk.{IsTold}
 use Rattle.ut_outside.specs.Faults.{Rose}
 use Rattle.ut_outside.specs.declared.ack.Ack.{Ack}
 use Rattle.ut_app.specs.declared.report.Status.{Status}
 use Rattle.ut_app.specs.declared.report.Status.TheVariants.{Done, Usage, NoStore, Exists, ReadFault, WriteFault, DiskFault, Damaged, Memory, TooLong}
-use Rattle.ut_app.specs.Words.{start_of}
 use Rattle.ut_app.specs.World.{World}
 use Rattle.ut_app.specs.Serving.{DidNothing}
-use Rattle.ut_app.specs.Script.{FitsInput}
-use Rattle.ut_app.specs.Ends.{IsUsage, IsComplete}
-use Rattle.ut_app.specs.Top.{FitsWords, RunsWords}
+use Rattle.ut_app.specs.Top.{AreTurnedDown, RunsWords}
 
 -- the number that a status is told by
 abbrev pub exit_number : Status → ℕ
@@ -30,14 +26,11 @@ pub record Tops (words : List (List ℕ)) (before after : World) (status : Statu
   pub lines : ℕ
   pub acks : List Ack
   pub journal : ℕ
-  pub usage : IsUsage (start_of words) status
-  pub store : IsTold before.disk → FitsWords (start_of words) status before.disk.seen
-  pub input : FitsInput status before.source
-  pub ran : RunsWords (start_of words) before after status lines acks journal
+  pub usage : status ≡ Usage → AreTurnedDown words
+  pub ran : RunsWords words before after status lines acks journal
   pub read : status ≡ ReadFault → Rose before.reads after.reads
   pub write : status ≡ WriteFault → Rose before.writes after.writes
   pub disk : status ≡ DiskFault → Rose before.disk.faults after.disk.faults
-  pub complete : IsComplete (start_of words) before after status
 
 -- these are the words, where they are told
 abbrev pub AreTold : Option (List (List ℕ)) → List (List ℕ) → Type 0

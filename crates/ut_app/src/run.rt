@@ -1,29 +1,34 @@
-//! A run with words that are taken.
+//! A run of the source's lines.
 ghost use Rattle.std.specs.Prelude.{◌≡◌, ◌≤◌};
+ghost use Rattle.ut_words.specs.Plans.{IsInRange};
 ghost use Rattle.ut_app.specs.Ends.{Run};
 
-use crate::begin::begin;
+use crate::begin::{begin, start_of, status_of};
 use crate::input::{next_line, script_lines};
 use crate::report::{Report, Status, ended};
 use crate::turn::{Replies, status_at, turn};
-use crate::words::Start;
 use std::alloc::Global;
+use ut_merge::Build;
 use ut_outside::{Disk, Sink, Source};
+use ut_words::Plan;
 
 /// Makes the store or opens it, and answers the lines of the source one after the other.
-pub(crate) fn serve<S: Source<K>, K: Sink<D>, D: Disk>(
+pub(crate) fn run<S: Source<K>, K: Sink<D>, D: Disk, B: Build>(
     alloc: Global,
-    start: Start,
+    plan: &Plan,
+    builder: &B,
     source: &mut S,
     sink: &mut K,
     disk: &mut D,
 ) -> Report
-    ensures { Run start
+    requires ready { B.ready builder.now }
+    requires range { IsInRange plan.now }
+    ensures { Run plan.now
         (record { source = S.left source.old; asks = S.asks source.old; reads = S.faults source.old; sink = K.held sink.old; marks = K.moments sink.old; writes = K.faults sink.old; disk = D.view disk.old })
         (record { source = S.left source.new; asks = S.asks source.new; reads = S.faults source.new; sink = K.held sink.new; marks = K.moments sink.new; writes = K.faults sink.new; disk = D.view disk.new })
         result.status result.lines result.acks.items result.journal }
 {
-    let mut lines = match script_lines(alloc) {
+    let mut lines = match script_lines(alloc, plan.lines) {
         Ok(lines) => lines,
         Err(_) => return ended(alloc, Status::Memory),
     };
@@ -31,21 +36,27 @@ pub(crate) fn serve<S: Source<K>, K: Sink<D>, D: Disk>(
         Ok(replies) => replies,
         Err(_) => return ended(alloc, Status::Memory),
     };
-    let mut store = match begin(alloc, start, disk) {
-        Ok(store) => store,
-        Err(status) => return ended(alloc, status),
+    let mut engine = match begin(alloc, start_of(plan), plan.rows, disk) {
+        Ok(engine) => engine,
+        Err(unopened) => return ended(alloc, status_of(unopened.cause)),
     };
-    replies.opened(store.journal_len());
+    replies.opened(engine.journal_len());
     let mut count = 0u64;
     loop {
         match next_line(&mut replies, &mut lines, source, sink) {
             Ok(()) => {}
-            Err(status) => return replies.report(status, count),
+            Err(status) => {
+                let _disk = engine.release();
+                return replies.report(status, count);
+            }
         }
         let line = lines.line();
-        match turn(alloc, &mut store, disk, line, &mut replies, sink) {
+        match turn(alloc, &mut engine, builder, line, &mut replies, sink) {
             Ok(()) => {}
-            Err(end) => return replies.report(status_at(end), count + 1),
+            Err(end) => {
+                let _disk = engine.release();
+                return replies.report(status_at(end), count + 1);
+            }
         }
         count += 1;
     }
