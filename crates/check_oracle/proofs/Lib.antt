@@ -1,13 +1,8 @@
-pub mod ListedLemmas
-pub mod KnownLemmas
-pub mod ValueLemmas
-pub mod FilterLemmas
-pub mod MadeLemmas
 pub mod StepLemmas
-pub mod StageLemmas
 pub mod SightLemmas
 pub mod TakenLemmas
 pub mod WriteLemmas
-pub mod PartLemmas
 pub mod ShapeLemmas
+pub mod MergeLemmas
+pub mod NeededLemmas
 pub mod ReplayLemmas

@@ -16,7 +16,7 @@ use Rattle.ut_plain.specs.Step.{step}
 use Rattle.ut_plain.proofs.ListLemmas.{position_below}
 use Rattle.ut_plain.proofs.TableLemmas.{IsThere, At, there}
 use Rattle.ut_value.specs.Text.{same_bytes}
-use Rattle.check_oracle.specs.declared.known.Known.{Known}
+use Rattle.check_rows.specs.declared.known.Known.{Known}
 use Rattle.check_oracle.specs.Store.{Gives, Allowed}
 use Rattle.check_oracle.proofs.StepLemmas.{gives_effect}
 use Rattle.check_oracle.proofs.WriteLemmas.{names_passed}
@@ -32,7 +32,7 @@ place_below ts name (At place cs e k) =
     omega (arith, below, is)
 
 -- the place of a table that is there is one of the stages
-staged_place : (p : Plain) (place : ℕ) (ts : List Table) (n name : List ℕ) → IsPlain p → IsThere (current p.journal).tables name → ts ≡ (current p.journal).tables → n ≡ name → place ≡ place_in ts n → place < length p.stages
+pub staged_place : (p : Plain) (place : ℕ) (ts : List Table) (n name : List ℕ) → IsPlain p → IsThere (current p.journal).tables name → ts ≡ (current p.journal).tables → n ≡ name → place ≡ place_in ts n → place < length p.stages
 staged_place p place ts n name h is t e at =
     let below = place_below (current p.journal).tables name is in
     let staged = h.staged in

@@ -18,13 +18,13 @@ use Rattle.ut_plain.specs.Journal.{Journal, after_all, load_of, empty_journal}
 use Rattle.ut_plain.specs.Stages.{Stages}
 use Rattle.ut_plain.specs.Plain.{no_savepoint, Plain, Sessions, Idle, new_store, no_sessions, open_at, open_inserts, inserts_open, seen_by, seen}
 use Rattle.ut_plain.specs.Reached.{IsPlain}
-use Rattle.check_oracle.specs.declared.known.Known.{Known}
+use Rattle.check_rows.specs.declared.known.Known.{Known}
 use Rattle.check_oracle.specs.declared.held.Held.{Held}
-use Rattle.check_oracle.specs.Listed.{listed, listed_all}
-use Rattle.check_oracle.specs.Known.{IsKnown}
+use Rattle.check_rows.specs.Listed.{listed, listed_all}
+use Rattle.check_rows.specs.Known.{IsKnown}
 use Rattle.check_oracle.specs.Store.{plain_of, IsSight}
-use Rattle.check_oracle.proofs.FilterLemmas.{length-filter_le}
-use Rattle.check_oracle.proofs.ListedLemmas.{entries-with_ops}
+use Rattle.check_rows.proofs.FilterLemmas.{length-filter_le}
+use Rattle.check_rows.proofs.ListedLemmas.{entries-with_ops}
 
 -- ---- a store that was just made
 
@@ -95,13 +95,15 @@ seen_rows es t rows known k r =
     r ∙ ap (λ x. listed_all x t.ops) k.rows ∙ sym (entries-with_ops (after_all empty_state (take t.snapshot es)).rows t.ops) ∙ ap (λ n. finmap.entries (with_ops (after_all empty_state (take n es)).rows t.ops)) whole
 
 pub sight_is : (h : Held) (session : ℕ) (now sight : Known) (o : Option OpenTransaction) → IsPlain (plain_of h) → open_at h.sessions.items session ≡ o → IsKnown now (after_all empty_state h.entries.items) → now.commits ≤ length h.entries.items
-    → sight.tables.items ≡ now.tables.items → sight.commits ≡ now.commits → sight.rows.items ≡ finmap.entries (seen_by (plain_of h).journal o) → IsSight sight (plain_of h) session
-sight_is h session now sight o plain own k n t c r =
+    → now.merges ≤ length h.entries.items → sight.tables.items ≡ now.tables.items → sight.commits ≡ now.commits → sight.merges ≡ now.merges → sight.rows.items ≡ finmap.entries (seen_by (plain_of h).journal o) → IsSight sight (plain_of h) session
+sight_is h session now sight o plain own k n m t c d r =
     let rows : sight.rows.items ≡ finmap.entries (seen (plain_of h) session) = r ∙ ap (λ o. finmap.entries (seen_by (plain_of h).journal o)) (sym own) in
     record {
       tables = t ∙ k.tables;
       rows = rows;
       commits = c ∙ k.commits;
+      merges = d ∙ k.merges;
       few = let few = few_seen (plain_of h) session plain in omega (arith, few, ap length rows);
       counted = let short = plain.short in omega (arith, short, n, c);
+      merged = let short = plain.short in omega (arith, short, m, d);
     }

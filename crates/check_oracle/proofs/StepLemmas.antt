@@ -7,7 +7,6 @@ use Rattle.ut_plain.specs.declared.statement.Pred.{Pred}
 use Rattle.ut_plain.specs.declared.statement.Statement.{Statement}
 use Rattle.ut_plain.specs.declared.statement.Statement.TheVariants as statements
 use Rattle.ut_plain.specs.declared.statement.Statement.TheVariants.{Insert, Bulk, Update, Delete, Commit}
-use Rattle.ut_plain.specs.declared.stage.PendingMerge.{PendingMerge}
 use Rattle.ut_plain.specs.declared.reply.Reply.{Reply}
 use Rattle.ut_plain.specs.declared.reply.Refusal.{Refusal}
 use Rattle.ut_plain.specs.declared.reply.Refusal.TheVariants as refusals
@@ -21,7 +20,7 @@ use Rattle.ut_plain.specs.Names.{names_known}
 use Rattle.ut_plain.specs.Kinds.{kinds_fit}
 use Rattle.ut_plain.specs.Refusals.{is_supported, state_why, merge_why, save_why, unless, or_else, conflict, refusal}
 use Rattle.ut_plain.specs.Step.{Stepped, step, step_by, effect_of, committed, committed_by}
-use Rattle.check_oracle.specs.declared.known.Known.{Known}
+use Rattle.check_rows.specs.declared.known.Known.{Known}
 use Rattle.check_oracle.specs.Store.{Gives, Allowed, early, late, refuses, change_by, change_step}
 
 -- ---- early and late refusals
@@ -30,14 +29,7 @@ or_else_else : (a b c : Option Refusal) → or_else a (or_else b c) ≡ or_else 
 or_else_else None b c = refl
 or_else_else (Some why) b c = refl
 
--- a statement that is there asks neither whether a merge is pending
-no_merge : (pending : Option PendingMerge) (st : Statement) → is_supported st ≡ true → merge_why pending st ≡ None
-no_merge None statements.MergeEnd h = cc
-no_merge None _ h = refl
-no_merge (Some m) (statements.MergeBegin name kind) h = cc
-no_merge (Some m) _ h = refl
-
--- nor how far a savepoint is
+-- a statement that is there does not ask how far a savepoint is
 no_save : (phase : Phase) (st : Statement) → is_supported st ≡ true → save_why phase st ≡ None
 no_save Idle (statements.SaveStep n) h = cc
 no_save Idle statements.SaveSeal h = cc
@@ -54,36 +46,38 @@ no_save (Sealed captured pages image) (statements.SaveStep n) h = cc
 no_save (Sealed captured pages image) statements.SaveSeal h = cc
 no_save (Sealed captured pages image) _ h = refl
 
-without_jobs : (pending : Option PendingMerge) (phase : Phase) (st : Statement) (a b c late : Option Refusal)
-    → or_else (unless (is_supported st) refusals.Syntax) (or_else a (or_else b (or_else c (or_else (option_map refusals.State (merge_why pending st)) (or_else (option_map refusals.State (save_why phase st)) late)))))
-    ≡ or_else (unless (is_supported st) refusals.Syntax) (or_else a (or_else b (or_else c late)))
-without_jobs pending phase st a b c late = by (is_supported st) refl
+without_save : (phase : Phase) (st : Statement) (a b c d late : Option Refusal)
+    → or_else (unless (is_supported st) refusals.Syntax) (or_else a (or_else b (or_else c (or_else d (or_else (option_map refusals.State (save_why phase st)) late)))))
+    ≡ or_else (unless (is_supported st) refusals.Syntax) (or_else a (or_else b (or_else c (or_else d late))))
+without_save phase st a b c d late = by (is_supported st) refl
   where
     by : (t : Bool) → is_supported st ≡ t
-        → or_else (unless t refusals.Syntax) (or_else a (or_else b (or_else c (or_else (option_map refusals.State (merge_why pending st)) (or_else (option_map refusals.State (save_why phase st)) late)))))
-        ≡ or_else (unless t refusals.Syntax) (or_else a (or_else b (or_else c late)))
-    by true is = λ i. or_else a (or_else b (or_else c (or_else (option_map refusals.State (no_merge pending st is i)) (or_else (option_map refusals.State (no_save phase st is i)) late))))
+        → or_else (unless t refusals.Syntax) (or_else a (or_else b (or_else c (or_else d (or_else (option_map refusals.State (save_why phase st)) late)))))
+        ≡ or_else (unless t refusals.Syntax) (or_else a (or_else b (or_else c (or_else d late))))
+    by true is = λ i. or_else a (or_else b (or_else c (or_else d (or_else (option_map refusals.State (no_save phase st is i)) late))))
     by false is = refl
 
-refusal_parts : (v : View) (st : Statement) → refusal v st ≡ or_else (early v.tables (is_some v.own) st) (late v st)
+refusal_parts : (v : View) (st : Statement) → refusal v st ≡ or_else (early v.tables (is_some v.own) v.pending st) (late v st)
 refusal_parts v st =
     let a = unless (is_supported st) refusals.Syntax in
     let b = unless (names_known v.tables st) refusals.Name in
     let c = unless (kinds_fit v.tables st) refusals.Kind in
     let d = option_map refusals.State (state_why (is_some v.own) st) in
-    without_jobs v.pending v.phase st b c d (late v st)
-    ∙ ap (λ x. or_else a (or_else b x)) (or_else_else c d (late v st)) ∙ ap (or_else a) (or_else_else b (or_else c d) (late v st)) ∙ or_else_else a (or_else b (or_else c d)) (late v st)
+    let e = option_map refusals.State (merge_why v.pending st) in
+    without_save v.phase st b c d e (late v st)
+    ∙ ap (λ x. or_else a (or_else b (or_else c x))) (or_else_else d e (late v st)) ∙ ap (λ x. or_else a (or_else b x)) (or_else_else c (or_else d e) (late v st)) ∙ ap (or_else a) (or_else_else b (or_else c (or_else d e)) (late v st))
+    ∙ or_else_else a (or_else b (or_else c (or_else d e))) (late v st)
 
 -- a statement that an early refusal meets
-pub gives_early : (p : Plain) (session : ℕ) (st : Statement) (why : Refusal) (reply : Reply) (q : Plain) → early (current p.journal).tables (is_some (open_at p.sessions session)) st ≡ Some why → Gives (refuses p why) reply q → Gives (step p session st) reply q
+pub gives_early : (p : Plain) (session : ℕ) (st : Statement) (why : Refusal) (reply : Reply) (q : Plain) → early (current p.journal).tables (is_some (open_at p.sessions session)) p.pending st ≡ Some why → Gives (refuses p why) reply q → Gives (step p session st) reply q
 gives_early p session st why reply q h g =
     let is : step p session st ≡ refuses p why = ap (λ o. step_by o p session st) (refusal_parts (view p session) st ∙ ap (λ o. or_else o (late (view p session) st)) h) in
     record { answer = g.answer ∙ ap (λ (s : Stepped). s.reply) (sym is); state = g.state ∙ ap (λ (s : Stepped). s.plain) (sym is) }
 
-late_step : (p : Plain) (sight : Known) (session : ℕ) (st : Statement) → Allowed p sight session st → step p session st ≡ step_by (late (view p session) st) p session st
+pub late_step : (p : Plain) (sight : Known) (session : ℕ) (st : Statement) → Allowed p sight session st → step p session st ≡ step_by (late (view p session) st) p session st
 late_step p sight session st h = ap (λ o. step_by o p session st) (refusal_parts (view p session) st ∙ ap (λ o. or_else o (late (view p session) st)) h.clear)
 
-gives_by : (p : Plain) (session : ℕ) (st : Statement) (does : Stepped) (reply : Reply) (q : Plain) → step p session st ≡ does → Gives does reply q → Gives (step p session st) reply q
+pub gives_by : (p : Plain) (session : ℕ) (st : Statement) (does : Stepped) (reply : Reply) (q : Plain) → step p session st ≡ does → Gives does reply q → Gives (step p session st) reply q
 gives_by p session st does reply q is g = record { answer = g.answer ∙ ap (λ (s : Stepped). s.reply) (sym is); state = g.state ∙ ap (λ (s : Stepped). s.plain) (sym is) }
 
 -- a statement that none meets

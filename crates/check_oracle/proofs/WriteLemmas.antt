@@ -30,9 +30,9 @@ use Rattle.ut_plain.proofs.StateLaws.{IsState-current}
 use Rattle.ut_plain.proofs.TableLemmas.{there}
 use Rattle.ut_plain.proofs.PassedLemmas.{IsTable, table_is}
 use Rattle.ut_plain.proofs.MadeLemmas.{inserts_of-inserts, inserts_of-updates}
-use Rattle.check_oracle.specs.declared.known.Known.{Known}
+use Rattle.check_rows.specs.declared.known.Known.{Known}
 use Rattle.check_oracle.specs.Store.{Gives, IsSight, Allowed, refuses, change_by, change_step}
-use Rattle.check_oracle.proofs.FilterLemmas.{length-filter_le}
+use Rattle.check_rows.proofs.FilterLemmas.{length-filter_le}
 use Rattle.check_oracle.proofs.StepLemmas.{makes_same, insert_makes, bulk_makes, update_makes, delete_makes, gives_change}
 
 -- ---- what an allowed statement has passed

@@ -6,7 +6,7 @@ use Rattle.std.specs.FinMap as finmap
 use Rattle.ut_value.specs.declared.entry.Op.{Op}
 use Rattle.ut_value.specs.declared.entry.Entry.{Entry}
 use Rattle.ut_plain.specs.declared.table.Table.{Table}
-use Rattle.ut_plain.specs.declared.stage.TableStages.{TableStages}
+use Rattle.ut_plain.specs.declared.stage.PendingMerge.{PendingMerge}
 use Rattle.ut_plain.specs.declared.statement.Statement.{Statement}
 use Rattle.ut_plain.specs.declared.reply.Reply.{Reply}
 use Rattle.ut_plain.specs.declared.reply.Reply.TheVariants as replies
@@ -21,10 +21,10 @@ use Rattle.ut_plain.specs.View.{View, view}
 use Rattle.ut_plain.specs.Names.{names_known}
 use Rattle.ut_plain.specs.Kinds.{kinds_fit}
 use Rattle.ut_plain.specs.Limits.{has_room, has_ops_room}
-use Rattle.ut_plain.specs.Refusals.{is_supported, state_why, unless, or_else, conflict}
+use Rattle.ut_plain.specs.Refusals.{is_supported, state_why, merge_why, unless, or_else, conflict}
 use Rattle.ut_plain.specs.Reached.{IsPlain}
 use Rattle.ut_plain.specs.Step.{Stepped, with_made, said_changed}
-use Rattle.check_oracle.specs.declared.known.Known.{Known}
+use Rattle.check_rows.specs.declared.known.Known.{Known}
 use Rattle.check_oracle.specs.declared.held.Held.{Held}
 
 -- what the store keeps, as lists
@@ -34,12 +34,13 @@ pub record Kept : Type 0 where
   pub sessions : Sessions
   pub next_id : ℕ
   pub rows_limit : ℕ
+  pub pending : Option PendingMerge
   pub stages : Stages
 
 abbrev pub kept_of : Held → Kept
-kept_of h = record { entries = h.entries.items; opening = h.opening; sessions = h.sessions.items; next_id = h.next_id; rows_limit = h.rows_limit; stages = h.stages.items }
+kept_of h = record { entries = h.entries.items; opening = h.opening; sessions = h.sessions.items; next_id = h.next_id; rows_limit = h.rows_limit; pending = h.pending; stages = h.stages.items }
 
--- its plain state: a journal that begins with nothing, no merge, and no savepoints
+-- its plain state: a journal that begins with nothing, and no savepoints
 abbrev pub plain_with : Kept → Plain
 plain_with k = record {
   journal = record { base = empty_state; entries = k.entries };
@@ -47,7 +48,7 @@ plain_with k = record {
   sessions = k.sessions;
   next_id = k.next_id;
   rows_limit = k.rows_limit;
-  pending = None;
+  pending = k.pending;
   phase = Idle;
   image_pages = no_savepoint.image_pages;
   root_pages = 0;
@@ -57,34 +58,28 @@ plain_with k = record {
 abbrev pub plain_of : Held → Plain
 plain_of h = plain_with (kept_of h)
 
--- no table has a part of main
-abbrev pub has_no_part : TableStages → Bool
-has_no_part t = nat_eq (length t.parts) 0
-
-abbrev pub have_no_part : Stages → Bool
-have_no_part stages = list_all has_no_part stages
-
--- what the store always keeps: the plain state is one that a store reaches, and there is no main
-pub record IsHeld (h : Held) : Type 0 where
-  pub plain : IsPlain (plain_of h)
-  pub parts : IsTrue (have_no_part h.stages.items)
-
 -- a reply and a state are those of a step
 pub record Gives (does : Stepped) (reply : Reply) (new : Plain) : Type 0 where
   pub answer : reply ≡ does.reply
   pub state : new ≡ does.plain
 
--- what a session sees was worked out: the tables, the rows by ascending id, and the number of commits
+-- what a session sees was worked out: the tables, the rows by ascending id, and the numbers of commits and of merges
 pub record IsSight (sight : Known) (p : Plain) (session : ℕ) : Type 0 where
   pub tables : sight.tables.items ≡ (current p.journal).tables
   pub rows : sight.rows.items ≡ finmap.entries (seen p session)
   pub commits : sight.commits ≡ (current p.journal).commits
+  pub merges : sight.merges ≡ (current p.journal).merges
   pub few : length sight.rows.items < 4294967296
   pub counted : sight.commits ≤ 1073741824
+  pub merged : sight.merges ≤ 1073741824
 
 -- the refusals that no limit and no conflict is asked for
-abbrev pub early : List Table → Bool → Statement → Option Refusal
-early tables is_open st = or_else (unless (is_supported st) refusals.Syntax) (or_else (unless (names_known tables st) refusals.Name) (or_else (unless (kinds_fit tables st) refusals.Kind) (option_map refusals.State (state_why is_open st))))
+abbrev pub early : List Table → Bool → Option PendingMerge → Statement → Option Refusal
+early tables is_open pending st =
+    or_else (unless (is_supported st) refusals.Syntax)
+    (or_else (unless (names_known tables st) refusals.Name)
+    (or_else (unless (kinds_fit tables st) refusals.Kind)
+    (or_else (option_map refusals.State (state_why is_open st)) (option_map refusals.State (merge_why pending st)))))
 
 -- the other refusals
 abbrev pub late : View → Statement → Option Refusal
@@ -95,7 +90,7 @@ pub record Allowed (p : Plain) (sight : Known) (session : ℕ) (st : Statement) 
   pub plain : IsPlain p
   pub seat : session < 17
   pub sees : IsSight sight p session
-  pub clear : early (current p.journal).tables (is_some (open_at p.sessions session)) st ≡ None
+  pub clear : early (current p.journal).tables (is_some (open_at p.sessions session)) p.pending st ≡ None
 
 -- a refusal, and the state as it was
 abbrev pub refuses : Plain → Refusal → Stepped

@@ -12,8 +12,9 @@ ghost use Rattle.check_oracle.specs.Store.{plain_of, Gives, change_step, changed
 
 use crate::held::Held;
 use crate::outcome::{Outcome, refused};
-use crate::room::{has_ops_room, inserts_of};
-use crate::stages::{place_all, stages_copied};
+use crate::room::has_ops_room;
+use check_rows::inserts_of;
+use check_stages::{place_all, stages_copied};
 use std::alloc::{AllocError, Global};
 use ut_plain::{OpenTransaction, Refusal, Reply, TableStages};
 use ut_value::{Duplicate, Entry, Op, Seq};

@@ -1,17 +1,17 @@
-//! What the store holds: the entries of its journal, the open transactions, and where rows stand.
+//! What the store holds: the entries of its journal, the open transactions, a pending merge, and where rows stand.
 ghost use Rattle.std.specs.Prelude.{◌≡◌, ◌<◌, length, slice_set, IfOk};
 ghost use Rattle.ut_plain.specs.Plain.{new_store, no_savepoint, no_sessions, open_at, with_entry, with_session};
 ghost use Rattle.check_oracle.specs.Store.{plain_of};
 
-use crate::stages::stages_copied;
+use check_stages::stages_copied;
 use std::alloc::{AllocError, Global};
-use ut_plain::{OpenTransaction, TableStages};
+use ut_plain::{OpenTransaction, PendingMerge, TableStages};
 use ut_value::{Duplicate, Entry};
 
 /// Sixteen sessions, and a first place that is nobody's.
 const PLACES: usize = 17;
 
-/// The entries of the journal, the transaction of each session, and the stages of each table.
+/// The entries of the journal, the transaction of each session, the merge that is pending, and the stages of each table.
 #[derive(Drop)]
 pub struct Held {
     pub entries: Vec<Entry>,
@@ -19,6 +19,7 @@ pub struct Held {
     pub sessions: Vec<Option<OpenTransaction>>,
     pub next_id: u32,
     pub rows_limit: u32,
+    pub pending: Option<PendingMerge>,
     pub stages: Vec<TableStages>,
 }
 
@@ -34,6 +35,7 @@ impl Held {
             sessions,
             next_id: 1,
             rows_limit,
+            pending: None,
             stages: Vec::new(alloc),
         })
     }
@@ -51,6 +53,7 @@ impl Held {
             sessions,
             next_id: self.next_id,
             rows_limit: self.rows_limit,
+            pending: self.pending,
             stages,
         })
     }

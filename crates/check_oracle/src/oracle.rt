@@ -24,11 +24,12 @@ impl Model for Oracle {
 
     ghost Value = { Kept };
 
-    ghost use Rattle.check_oracle.specs.Store.{kept_of, IsHeld};
+    ghost use Rattle.ut_plain.specs.Reached.{IsPlain};
+    ghost use Rattle.check_oracle.specs.Store.{kept_of, plain_of};
 
     ghost view = { λ o. kept_of o.held };
 
-    ghost invariant = { λ o. IsHeld o.held };
+    ghost invariant = { λ o. IsPlain (plain_of o.held) };
 }
 
 impl Oracle {
@@ -42,7 +43,7 @@ impl Oracle {
         Ok(Oracle { held })
     }
 
-    /// The store that is opened with this one's journal, its open transactions forgotten.
+    /// The store that is opened with this one's journal: its open transactions are forgotten, and a pending merge is lost.
     pub fn reopened(&self, alloc: Global, rows_limit: u32) -> Result<Oracle, AllocError>
         requires { rows_limit ≤ 2147483648 }
         ensures { IfOk result (λ oracle. plain_with oracle ≡ opened_store no_savepoint (plain_with self.now).journal rows_limit) }

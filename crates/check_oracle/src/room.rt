@@ -4,12 +4,12 @@ ghost use Rattle.std.specs.List.{sum_by};
 ghost use Rattle.ut_value.specs.declared.entry.Op.{Op};
 ghost use Rattle.ut_value.specs.declared.entry.Entry.TheVariants.{Txn};
 ghost use Rattle.ut_value.specs.Spelling.{value_len, op_len, ops_len, entry_len};
-ghost use Rattle.ut_plain.specs.Rows.{op_inserts, inserts_of};
 ghost use Rattle.ut_plain.specs.View.{view, own_ops};
 ghost use Rattle.ut_plain.specs.Limits.{has_ops_room};
 ghost use Rattle.check_oracle.specs.Store.{plain_of};
 
 use crate::held::Held;
+use check_rows::inserts_of;
 use ut_plain::OpenTransaction;
 use ut_value::{Op, Value};
 
@@ -113,26 +113,6 @@ fn has_entry_room(own: &Option<OpenTransaction>, ops: &[Op]) -> bool
         None => has_bytes(&[], ops),
         Some(open) => has_bytes(open.ops.as_slice(), ops),
     }
-}
-
-fn op_inserts(op: &Op) -> usize
-    ensures { result ≡ op_inserts op.now }
-{
-    match op {
-        Op::Insert { .. } => 1,
-        Op::Delete { .. } => 0,
-    }
-}
-
-/// How many rows operations insert.
-pub fn inserts_of(ops: &[Op]) -> usize
-    ensures { result ≡ inserts_of ops.now }
-{
-    let mut count = 0;
-    for op in ops {
-        count += op_inserts(op);
-    }
-    count
 }
 
 /// Whether operations keep to the limits.

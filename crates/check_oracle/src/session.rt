@@ -2,15 +2,15 @@
 ghost use Rattle.std.specs.Prelude.{◌≡◌, ◌≤◌, ◌<◌, length, IfOk};
 ghost use Rattle.ut_plain.specs.Step.{step, created, committed_by};
 ghost use Rattle.ut_plain.specs.Journal.{current};
-ghost use Rattle.ut_plain.specs.Stages.{no_stages};
 ghost use Rattle.check_oracle.specs.Store.{plain_of, Allowed, Gives};
 
 use crate::held::Held;
-use crate::known::Known;
 use crate::outcome::{Outcome, refused, stays};
 use crate::room::has_journal_room;
+use check_rows::Known;
+use check_stages::no_stages;
 use std::alloc::{AllocError, Global};
-use ut_plain::{OpenTransaction, Refusal, Reply, Statement, TableStages};
+use ut_plain::{OpenTransaction, Refusal, Reply, Statement};
 use ut_value::{Column, Duplicate, Entry, Name, Op, Seq};
 
 /// The most tables.
@@ -53,19 +53,6 @@ fn created(
         reply: Reply::Committed(commits + 1),
         held: next,
     })
-}
-
-/// A table without rows.
-pub fn no_stages(alloc: Global) -> TableStages
-    ensures { result ≡ no_stages }
-{
-    TableStages {
-        l1: Seq::new(alloc),
-        l2: Seq::new(alloc),
-        closed: None,
-        parts: Seq::new(alloc),
-        keep: Seq::new(alloc),
-    }
 }
 
 /// `begin`

@@ -6,12 +6,11 @@ ghost use Rattle.ut_plain.specs.Reached.{IsPlain};
 ghost use Rattle.check_oracle.specs.Store.{plain_of, IsSight};
 
 use crate::held::Held;
-use crate::known::{Known, state_after};
-use crate::rows::apply_all;
+use check_rows::{Known, apply_all, state_after};
 use std::alloc::{AllocError, Global};
 use ut_plain::OpenTransaction;
 
-/// The tables and commits of the journal, and the rows that a session sees.
+/// The tables, commits and merges of the journal, and the rows that a session sees.
 pub fn sight_of(alloc: Global, held: &Held, session: u8) -> Result<Known, AllocError>
     requires plain { IsPlain (plain_of held.now) }
     requires seat { session < 17 }
@@ -37,6 +36,7 @@ fn seen_inside(
     requires since { own.now.snapshot ≤ length held.now.entries.items }
     ensures tables { IfOk result (λ sight. sight.tables.items ≡ now.tables.items) }
     ensures commits { IfOk result (λ sight. sight.commits ≡ now.commits) }
+    ensures merges { IfOk result (λ sight. sight.merges ≡ now.merges) }
     ensures rows { IfOk result (λ sight. sight.rows.items ≡ finmap.entries (seen_by (plain_of held.now).journal (Some own.now))) }
 {
     let then = state_after(alloc, &held.entries[..own.snapshot as usize])?;
@@ -46,5 +46,6 @@ fn seen_inside(
         tables: now.tables,
         rows,
         commits: now.commits,
+        merges: now.merges,
     })
 }

@@ -1,18 +1,22 @@
 //! One statement of a session: its refusals in order, and then what it does.
 ghost use Rattle.std.specs.Prelude.{◌≡◌, ◌<◌, IfOk};
 ghost use Rattle.ut_plain.specs.Step.{step};
-ghost use Rattle.check_oracle.specs.Store.{plain_of, early, IsHeld, Allowed, Gives};
+ghost use Rattle.ut_plain.specs.Reached.{IsPlain};
+ghost use Rattle.check_oracle.specs.Store.{plain_of, early, Allowed, Gives};
 
-use crate::answers::told;
 use crate::held::Held;
-use crate::known::Known;
+use crate::merges::{merge_begin, merge_end};
 use crate::outcome::{Outcome, refused, stays};
 use crate::session::{abort, begin, commit, create};
 use crate::shapes::{merge_l1, shape};
 use crate::sight::sight_of;
 use crate::writes::{bulk, delete, insert, update};
+use check_rows::{Known, told};
 use std::alloc::{AllocError, Global};
-use ut_plain::{Query, Refusal, Statement, Table, is_supported, kinds_fit, names_known, state_why};
+use ut_plain::{
+    PendingMerge, Query, Refusal, Statement, Table, is_supported, kinds_fit, merge_why,
+    names_known, state_why,
+};
 
 /// What a statement of a session comes to.
 pub fn stepped(
@@ -21,13 +25,13 @@ pub fn stepped(
     session: u8,
     st: &Statement,
 ) -> Result<Outcome, AllocError>
-    requires held { IsHeld held.now }
+    requires plain { IsPlain (plain_of held.now) }
     requires seat { session < 17 }
     ensures { IfOk result (λ out. Gives (step (plain_of held.now) session st.now) out.reply (plain_of out.held)) }
 {
     let sight = sight_of(alloc, held, session)?;
     let is_open = held.own(session).is_some();
-    match early(sight.tables.as_slice(), is_open, st) {
+    match early(sight.tables.as_slice(), is_open, held.pending, st) {
         Some(why) => {
             let out = refused(alloc, held, why)?;
             Ok(out)
@@ -37,8 +41,13 @@ pub fn stepped(
 }
 
 /// The refusal that no limit and no conflict is asked for.
-fn early(tables: &[Table], is_open: bool, st: &Statement) -> Option<Refusal>
-    ensures { result ≡ early tables.now is_open st.now }
+fn early(
+    tables: &[Table],
+    is_open: bool,
+    pending: Option<PendingMerge>,
+    st: &Statement,
+) -> Option<Refusal>
+    ensures { result ≡ early tables.now is_open pending st.now }
 {
     if !is_supported(st) {
         return Some(Refusal::Syntax);
@@ -49,7 +58,10 @@ fn early(tables: &[Table], is_open: bool, st: &Statement) -> Option<Refusal>
     if !kinds_fit(tables, st) {
         return Some(Refusal::Kind);
     }
-    match state_why(is_open, st) {
+    if let Some(why) = state_why(is_open, st) {
+        return Some(Refusal::State(why));
+    }
+    match merge_why(pending, st) {
         None => None,
         Some(why) => Some(Refusal::State(why)),
     }
@@ -62,7 +74,7 @@ fn allowed(
     session: u8,
     st: &Statement,
 ) -> Result<Outcome, AllocError>
-    requires held { IsHeld held.now }
+    requires plain { IsPlain (plain_of held.now) }
     requires allowed { Allowed (plain_of held.now) sight.now session st.now }
     ensures { IfOk result (λ out. Gives (step (plain_of held.now) session st.now) out.reply (plain_of out.held)) }
 {
@@ -85,8 +97,10 @@ fn allowed(
         Statement::Abort => abort(alloc, held, sight, session),
         Statement::MergeL1 { table, n } => merge_l1(alloc, held, sight, session, table, *n),
         Statement::Shape { table } => shape(alloc, held, sight, session, table),
-        Statement::MergeBegin { .. } => refused(alloc, held, Refusal::Syntax),
-        Statement::MergeEnd => refused(alloc, held, Refusal::Syntax),
+        Statement::MergeBegin { table, kind } => {
+            merge_begin(alloc, held, sight, session, table, *kind)
+        }
+        Statement::MergeEnd => merge_end(alloc, held, sight, session),
         Statement::SaveBegin => refused(alloc, held, Refusal::Syntax),
         Statement::SaveStep { .. } => refused(alloc, held, Refusal::Syntax),
         Statement::SaveSeal => refused(alloc, held, Refusal::Syntax),

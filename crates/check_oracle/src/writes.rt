@@ -6,12 +6,10 @@ ghost use Rattle.check_oracle.specs.Store.{plain_of, Allowed, Gives};
 
 use crate::change::{Change, make};
 use crate::held::Held;
-use crate::known::Known;
-use crate::made;
 use crate::outcome::{Outcome, refused};
-use crate::query::found;
 use crate::room::has_ids;
 use crate::taken::first_taken;
+use check_rows::{Known, found, made};
 use std::alloc::{AllocError, Global};
 use ut_plain::{Pred, Refusal, Statement, Table, columns_in, place_of};
 use ut_value::{Name, Seq, Value};

@@ -3,13 +3,16 @@ use crate::apart::{Apart, apart_from};
 use crate::run::{RUN, RUN_NEW, run_on};
 use crate::told::Script;
 use check_oracle::Oracle;
-use check_scripts::{LINES, script_line};
+use check_scripts::{LINES, StoreLines, script_line};
 use std::alloc::{AllocError, Global};
 use std::thread::Threads;
 use ut_outside::MemDisk;
 
 /// Ids enough for any script.
 pub const AMPLE: u32 = 1_000_000;
+
+/// Which statements of the store the scripts have: merges into main of all kinds, too.
+const STORE_LINES: StoreLines = StoreLines::OfMain;
 
 /// Asks for all that is there of the tables of the scripts.
 const QUESTIONS: [&str; 6] = [
@@ -76,7 +79,7 @@ fn lines_of(
     let mut script = Script::new(alloc);
     for number in from..to {
         let mut line = Vec::new(alloc);
-        script_line(seed, number, &mut line)?;
+        script_line(STORE_LINES, seed, number, &mut line)?;
         script.ask(alloc, &line, store)?;
     }
     Ok(script)

@@ -147,7 +147,7 @@ impl<'a> Follower<'a> {
         let is_told = self.rest.is_empty();
         match status {
             Status::Done => is_told && self.answered == lines && self.before.is_none(),
-            Status::Memory => is_told && self.before.is_none(),
+            Status::Memory | Status::ReadFault => is_told && self.before.is_none(),
             Status::DiskFault => is_told && (self.answered == 0 || self.before.is_some()),
             Status::WriteFault => is_told && self.before.is_some(),
             _ => false,

@@ -1,4 +1,5 @@
 //! Worked scripts for runs with a refused allocation.
+use check_scripts::merge_rows;
 use check_scripts::rows::{self, Row};
 use std::alloc::{AllocError, Global};
 
@@ -33,15 +34,19 @@ const A_LOAD_IN_A_TRANSACTION: Lines = &[
 ];
 
 /// So many scripts there are.
-pub const COUNT: usize = 7;
+pub const COUNT: usize = 11;
 
 /// The tables of rows that are run, and then the scripts without replies.
-const TABLES: [&[Row]; 5] = [
+const TABLES: [&[Row]; 9] = [
     rows::A_ROW_IS_SELECTED,
     rows::A_SNAPSHOT_SEES_NO_LATER_COMMIT,
     rows::ROWS_STAND_IN_TWO_STAGES,
     rows::AN_UPDATE_MOVES_A_ROW_TO_THE_END,
     rows::PAIRS_ARE_JOINED_AND_GROUPS_SUMMED,
+    merge_rows::A_MERGE_KEEPS_WHAT_A_SNAPSHOT_SEES,
+    merge_rows::A_PARTIAL_MERGE_LEAVES_THE_FIRST_PART,
+    merge_rows::A_RESORTED_PART_IS_READ_BY_ID,
+    merge_rows::ROWS_OF_TWO_VALUES_ARE_MERGED,
 ];
 
 /// The lines of the script of a number.

@@ -1,6 +1,6 @@
 //! Stores that answer lines, and the first line that is answered otherwise than a table says.
 use crate::rows::Row;
-use crate::scripts::{LINES, script_line};
+use crate::scripts::{LINES, StoreLines, script_line};
 use check_oracle::{Oracle, is_spelled};
 use std::alloc::{AllocError, Global};
 use ut_plain::{Parsed, Refusal, Reply, Statement};
@@ -74,11 +74,12 @@ pub fn first_apart<A: Answers, B: Answers>(
     alloc: Global,
     left: &mut A,
     right: &mut B,
+    lines: StoreLines,
     seed: u64,
 ) -> Result<Option<u32>, AllocError> {
     for number in 0..LINES {
         let mut line = Vec::new(alloc);
-        script_line(seed, number, &mut line)?;
+        script_line(lines, seed, number, &mut line)?;
         let mut one = Vec::new(alloc);
         left.answer(alloc, line.as_slice(), &mut one)?;
         let mut other = Vec::new(alloc);

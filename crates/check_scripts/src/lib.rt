@@ -3,13 +3,14 @@
 
 pub mod answer_rows;
 mod answers;
+pub mod merge_rows;
 pub mod refusal_rows;
 pub mod rows;
 mod scripts;
 pub mod stage_rows;
 
 pub use answers::{Answers, first_apart, first_wrong};
-pub use scripts::{LINES, script_line};
+pub use scripts::{LINES, StoreLines, script_line};
 
 #[cfg(test)]
 mod script_tests;

@@ -1,8 +1,9 @@
 //! What random scripts are made of, and what they meet on the slow store.
 use crate::answers::{Answers, first_apart};
-use crate::scripts::{LINES, script_line};
+use crate::scripts::{LINES, StoreLines, script_line};
 use check_oracle::Oracle;
 use std::alloc::{AllocError, Global};
+use std::process::Abort;
 use std::test::Fail;
 use ut_plain::Parsed;
 use ut_script::parse_line;
@@ -41,6 +42,19 @@ const WORDS: [(&str, usize); 24] = [
     (" >= ", 20),
 ];
 
+/// What the lines of those with merges into main must have.
+const WORDS_OF_MAIN: [(&str, usize); 9] = [
+    ("0 merge begin T", 60),
+    ("0 merge begin U", 20),
+    ("0 merge end", 80),
+    (" classic", 8),
+    (" resort", 10),
+    (" partial", 20),
+    (" extend", 40),
+    ("0 merge l1", 20),
+    ("0 shape", 20),
+];
+
 /// What they must be answered, and how often at least.
 const ANSWERS: [(&str, usize); 8] = [
     (" refused conflict", 30),
@@ -51,6 +65,16 @@ const ANSWERS: [(&str, usize); 8] = [
     (" ok commit", 30),
     (" ok 0", 30),
     (" ok 1 commit", 40),
+];
+
+/// What those with merges into main must be answered: a closed stage, several parts, and the refusals of merges.
+const ANSWERS_OF_MAIN: [(&str, usize); 6] = [
+    (" refused busy", 30),
+    (" refused none", 30),
+    (" refused conflict", 25),
+    (" ok commit", 25),
+    (" closed 4", 5),
+    (" parts 4 ", 2),
 ];
 
 /// How often questions of a transaction must be answered otherwise than outside one.
@@ -73,15 +97,32 @@ fn counted(texts: &[Vec<u8>], word: &str) -> usize {
         .count()
 }
 
-#[test]
-fn scripts_are_lines_of_the_grammar(rt: HostRuntime) -> Result<(), Fail> {
+fn check_grammar(rt: &impl Abort, alloc: Global, lines: StoreLines) -> Result<(), AllocError> {
     for seed in 0..SCRIPTS {
         for number in 0..LINES {
-            let mut line = Vec::new(rt.alloc());
-            script_line(seed, number, &mut line)?;
-            let parsed = parse_line(rt.alloc(), line.as_slice(), false)?;
-            assert!(rt; matches!(parsed, Parsed::Good(_, _)), "line {number}");
+            let mut line = Vec::new(alloc);
+            script_line(lines, seed, number, &mut line)?;
+            match parse_line(alloc, line.as_slice(), false) {
+                Ok(Parsed::Good(_, _)) => {}
+                _ => assert!(rt; false, "line {number}"),
+            }
         }
+    }
+    Ok(())
+}
+
+/// Whether texts have each word so often.
+fn check_counts(rt: &impl Abort, texts: &[Vec<u8>], words: &[(&str, usize)]) {
+    for (word, least) in words {
+        let count = counted(texts, word);
+        assert!(rt; count >= *least, "{word}: {count} times");
+    }
+}
+
+#[test]
+fn scripts_are_lines_of_the_grammar(rt: HostRuntime) -> Result<(), Fail> {
+    for lines in [StoreLines::OfDelta, StoreLines::OfMain] {
+        check_grammar(&rt, rt.alloc(), lines)?;
     }
     Ok(())
 }
@@ -90,50 +131,77 @@ fn scripts_are_lines_of_the_grammar(rt: HostRuntime) -> Result<(), Fail> {
 fn alike_stores_answer_alike(rt: HostRuntime) -> Result<(), Fail> {
     let mut one = Oracle::new(rt.alloc(), AMPLE)?;
     let mut other = Oracle::new(rt.alloc(), AMPLE)?;
-    assert_eq!(rt; first_apart(rt.alloc(), &mut one, &mut other, 7)?, None);
+    let apart = first_apart(rt.alloc(), &mut one, &mut other, StoreLines::OfMain, 7)?;
+    assert_eq!(rt; apart, None);
     Ok(())
+}
+
+/// All lines of the scripts but the first ones.
+fn all_lines(alloc: Global, lines: StoreLines) -> Result<Vec<Vec<u8>>, AllocError> {
+    let mut all = Vec::new(alloc);
+    for seed in 0..SCRIPTS {
+        for number in 6..LINES {
+            let mut line = Vec::new(alloc);
+            script_line(lines, seed, number, &mut line)?;
+            all.push(line)?;
+        }
+    }
+    Ok(all)
 }
 
 #[test]
 fn scripts_have_each_statement_and_comparison(rt: HostRuntime) -> Result<(), Fail> {
-    let mut lines = Vec::new(rt.alloc());
-    for seed in 0..SCRIPTS {
-        for number in 6..LINES {
-            let mut line = Vec::new(rt.alloc());
-            script_line(seed, number, &mut line)?;
-            lines.push(line)?;
-        }
-    }
-    for (word, least) in WORDS {
-        let count = counted(lines.as_slice(), word);
-        assert!(rt; count >= least, "{word}: {count} times");
-    }
+    let lines = all_lines(rt.alloc(), StoreLines::OfDelta)?;
+    check_counts(&rt, lines.as_slice(), &WORDS);
     Ok(())
 }
 
 #[test]
-fn scripts_meet_conflicts_and_snapshots(rt: HostRuntime) -> Result<(), Fail> {
-    let alloc = rt.alloc();
+fn scripts_have_each_kind_of_merge(rt: HostRuntime) -> Result<(), Fail> {
+    let lines = all_lines(rt.alloc(), StoreLines::OfMain)?;
+    check_counts(&rt, lines.as_slice(), &WORDS_OF_MAIN);
+    Ok(())
+}
+
+/// What the scripts are answered by the slow store, and how often a question of a transaction is answered otherwise than
+/// outside one.
+#[derive(Drop)]
+struct Met {
+    answers: Vec<Vec<u8>>,
+    apart: usize,
+}
+
+fn met_by(alloc: Global, lines: StoreLines) -> Result<Met, AllocError> {
     let mut answers = Vec::new(alloc);
-    let mut apart = Vec::new(alloc);
+    let mut apart: usize = 0;
     for seed in 0..SCRIPTS {
         let mut store = Oracle::new(alloc, AMPLE)?;
         for number in 0..LINES {
             let mut line = Vec::new(alloc);
-            script_line(seed, number, &mut line)?;
+            script_line(lines, seed, number, &mut line)?;
             if is_seen_apart(alloc, &mut store, line.as_slice())? {
-                apart.push(number)?;
+                apart = apart.saturating_add(1);
             }
             let mut answer = Vec::new(alloc);
             store.answer(alloc, line.as_slice(), &mut answer)?;
             answers.push(answer)?;
         }
     }
-    for (word, least) in ANSWERS {
-        let count = counted(answers.as_slice(), word);
-        assert!(rt; count >= least, "{word}: {count} times");
-    }
-    let apart = apart.len();
+    Ok(Met { answers, apart })
+}
+
+#[test]
+fn scripts_meet_conflicts_and_snapshots(rt: HostRuntime) -> Result<(), Fail> {
+    let Met { answers, apart } = met_by(rt.alloc(), StoreLines::OfDelta)?;
+    check_counts(&rt, answers.as_slice(), &ANSWERS);
+    assert!(rt; apart >= VIEWS_APART, "{apart} times");
+    Ok(())
+}
+
+#[test]
+fn scripts_meet_merges_and_their_refusals(rt: HostRuntime) -> Result<(), Fail> {
+    let Met { answers, apart } = met_by(rt.alloc(), StoreLines::OfMain)?;
+    check_counts(&rt, answers.as_slice(), &ANSWERS_OF_MAIN);
     assert!(rt; apart >= VIEWS_APART, "{apart} times");
     Ok(())
 }

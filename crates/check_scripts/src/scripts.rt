@@ -16,6 +16,15 @@ const FIRST: [&str; 6] = [
     "2 begin",
 ];
 
+/// Which statements of the store a script has.
+#[derive(Clone, Copy, Debug, PartialEq, Eq)]
+pub enum StoreLines {
+    /// Merges of the first stage, and shapes.
+    OfDelta,
+    /// Merges into main of all kinds besides.
+    OfMain,
+}
+
 /// Numbers that follow from a seed, by xorshift.
 #[derive(Drop)]
 struct Dice {
@@ -67,13 +76,27 @@ enum Table {
 }
 
 /// Puts a line of the script of a seed at the end of `out`.
-pub fn script_line(seed: u64, line: u32, out: &mut Vec<u8>) -> Result<(), AllocError> {
-    if line < 6 {
-        return put(out, FIRST[line as usize]);
+pub fn script_line(
+    lines: StoreLines,
+    seed: u64,
+    number: u32,
+    out: &mut Vec<u8>,
+) -> Result<(), AllocError> {
+    if number < 6 {
+        return put(out, FIRST[number as usize]);
     }
-    let mut dice = Dice::new(seed, line);
-    if dice.is_once_in(8) {
-        return put_store(&mut dice, out);
+    let mut dice = Dice::new(seed, number);
+    match lines {
+        StoreLines::OfDelta => {
+            if dice.is_once_in(8) {
+                return put_delta(&mut dice, out);
+            }
+        }
+        StoreLines::OfMain => {
+            if dice.is_once_in(3) {
+                return put_main(&mut dice, out);
+            }
+        }
     }
     put_digit(out, 1 + dice.digit(4))?;
     match dice.digit(4) {
@@ -169,7 +192,8 @@ fn put_condition(
     Ok(())
 }
 
-fn put_store(dice: &mut Dice, out: &mut Vec<u8>) -> Result<(), AllocError> {
+/// A merge of the first stage, or a shape.
+fn put_delta(dice: &mut Dice, out: &mut Vec<u8>) -> Result<(), AllocError> {
     let table = any_table(dice);
     if dice.is_once_in(2) {
         put(out, "0 shape")?;
@@ -179,6 +203,36 @@ fn put_store(dice: &mut Dice, out: &mut Vec<u8>) -> Result<(), AllocError> {
     put_table(dice, table, out)?;
     put(out, " ")?;
     put_digit(out, 1 + dice.digit(3))
+}
+
+/// The begin of a merge into main or its end, and now and then another line. Sessions go on between the two.
+fn put_main(dice: &mut Dice, out: &mut Vec<u8>) -> Result<(), AllocError> {
+    match dice.digit(8) {
+        0 => put_delta(dice, out),
+        1 => put_delta(dice, out),
+        2 => put(out, "0 merge end"),
+        3 => put(out, "0 merge end"),
+        4 => put(out, "0 merge end"),
+        _ => put_merge(dice, out),
+    }
+}
+
+/// A merge mostly of one table and of a kind that leaves parts as they are, so that there are several.
+fn put_merge(dice: &mut Dice, out: &mut Vec<u8>) -> Result<(), AllocError> {
+    let table = if dice.is_once_in(4) {
+        Table::U
+    } else {
+        Table::T
+    };
+    put(out, "0 merge begin")?;
+    put_table(dice, table, out)?;
+    match dice.digit(8) {
+        0 => put(out, " classic"),
+        1 => put(out, " resort"),
+        2 => put(out, " partial"),
+        3 => put(out, " partial"),
+        _ => put(out, " extend"),
+    }
 }
 
 fn put_transaction(dice: &mut Dice, out: &mut Vec<u8>) -> Result<(), AllocError> {

@@ -1,7 +1,7 @@
 //! Each table of rows on the slow store.
 use crate::answers::first_wrong;
 use crate::rows::{self, Row};
-use crate::{answer_rows, refusal_rows, stage_rows};
+use crate::{answer_rows, merge_rows, refusal_rows, stage_rows};
 use check_oracle::Oracle;
 use std::alloc::{AllocError, Global};
 use std::process::Abort;
@@ -299,8 +299,17 @@ fn rows_stand_and_come_in_their_order(rt: HostRuntime) -> Result<(), Fail> {
 }
 
 #[test]
+fn rows_are_merged_into_main(rt: HostRuntime) -> Result<(), Fail> {
+    check_tables(&rt, rt.alloc(), merge_rows::TABLES)?;
+    Ok(())
+}
+
+#[test]
 fn stores_are_opened_again(rt: HostRuntime) -> Result<(), Fail> {
-    for (made, opened) in stage_rows::OPENED_AGAIN {
+    for (made, opened) in stage_rows::OPENED_AGAIN
+        .iter()
+        .chain(merge_rows::OPENED_AGAIN)
+    {
         let mut store = Oracle::new(rt.alloc(), AMPLE)?;
         assert_eq!(rt; first_wrong(rt.alloc(), &mut store, made)?, None);
         let mut again = store.reopened(rt.alloc(), AMPLE)?;

@@ -1,5 +1,5 @@
-//! Crashes at every moment of a run: what is opened then is a front of its commits, with each one that was told.
-use crate::run::{A_ROW, CHANGES, Case, Left, RUN_NEW, TEARS, has_kept, left_on, run_on};
+//! Crashes at every moment of a run: what is opened then is a front of its journal, with each entry that was told.
+use crate::run::{A_ROW, CHANGES, Case, Left, MERGES, RUN_NEW, TEARS, has_kept, left_on, run_on};
 use std::alloc::{AllocError, Global};
 use std::process::Abort;
 use std::test::Fail;
@@ -7,7 +7,7 @@ use std::thread::Threads;
 use ut_app::Status;
 use ut_outside::{Ack, Disk, MemDisk, Tear};
 
-/// How many commits were told where so many calls of the disk had returned.
+/// How many entries the journal had at the last reply that was given where so many calls of the disk had returned.
 fn told_by(acks: &[Ack], moment: u64) -> u64 {
     let mut told = 0;
     for ack in acks {
@@ -50,9 +50,9 @@ fn check_tears(
 }
 
 #[test]
-fn a_crash_leaves_each_commit_that_was_told(rt: HostRuntime) -> Result<(), Fail> {
+fn a_crash_leaves_each_entry_that_was_told(rt: HostRuntime) -> Result<(), Fail> {
     let alloc = rt.alloc();
-    for case in [A_ROW, CHANGES] {
+    for case in [A_ROW, CHANGES, MERGES] {
         let mut disk = MemDisk::of(alloc, &[], &[], &[])?;
         let ran = run_on(&rt, alloc, RUN_NEW, case.script, &mut disk)?;
         assert_eq!(rt; ran.status, Status::Done);
@@ -75,9 +75,9 @@ fn a_torn_gate_is_open_or_closed(rt: HostRuntime) -> Result<(), Fail> {
     };
     assert!(rt; insert.moment > 2);
     let before_gate = insert.moment - 2;
-    for (byte, commits) in [(0x00, 1), (0xA7, 2), (0x33, 1)] {
+    for (byte, entries) in [(0x00, 1), (0xA7, 2), (0x33, 1)] {
         let left = left_by_crash(&rt, alloc, A_ROW, &disk, before_gate, Tear::Fill(byte))?;
-        assert_eq!(rt; left, Left::Commits(commits), "with {byte}");
+        assert_eq!(rt; left, Left::Entries(entries), "with {byte}");
     }
     Ok(())
 }

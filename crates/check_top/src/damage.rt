@@ -105,7 +105,7 @@ fn a_log_that_switches_goes_on_in_its_other_file(rt: HostRuntime) -> Result<(), 
     let alloc = rt.alloc();
     let mut disk = switched_disk(&rt, alloc)?;
     assert_eq!(rt; disk.bytes(Which::Redo2).len(), 31);
-    assert_eq!(rt; left_on(&rt, alloc, A_ROW, &mut disk)?, Left::Commits(2));
+    assert_eq!(rt; left_on(&rt, alloc, A_ROW, &mut disk)?, Left::Entries(2));
     Ok(())
 }
 
@@ -149,7 +149,7 @@ fn a_file_that_no_frame_names_may_hold_anything(rt: HostRuntime) -> Result<(), F
     let others: [&[u8]; 4] = [&[], &[0], &[OPEN_GATE, 9], redo];
     for other in others {
         let mut beside = MemDisk::of(alloc, redo, other, pages)?;
-        assert_eq!(rt; left_on(&rt, alloc, A_ROW, &mut beside)?, Left::Commits(2));
+        assert_eq!(rt; left_on(&rt, alloc, A_ROW, &mut beside)?, Left::Entries(2));
     }
     Ok(())
 }
@@ -158,14 +158,14 @@ fn a_file_that_no_frame_names_may_hold_anything(rt: HostRuntime) -> Result<(), F
 fn a_closed_gate_ends_the_log(rt: HostRuntime) -> Result<(), Fail> {
     let alloc = rt.alloc();
     let disk = script_disk(&rt, alloc)?;
-    for (place, commits) in [(0, 0), (15, 1), (45, 2)] {
+    for (place, entries) in [(0, 0), (15, 1), (45, 2)] {
         let mut redo = Vec::from_slice(alloc, disk.bytes(Which::Redo))?;
         assert!(rt; place < redo.len());
         redo[place] = 0x33;
         let mut closed = MemDisk::of(alloc, &redo, &[], disk.bytes(Which::Pages))?;
         assert_eq!(rt;
             left_on(&rt, alloc, A_ROW, &mut closed)?,
-            Left::Commits(commits)
+            Left::Entries(entries)
         );
         redo[place] = OPEN_GATE;
         redo.truncate(place + 1);

@@ -1,5 +1,7 @@
 //! Faults of the disk at each of its calls: the replies are a front, and what was told is there again.
-use crate::run::{A_ROW, CHANGES, Case, Left, RUN, RUN_NEW, Ran, TEARS, has_kept, left_on, run_on};
+use crate::run::{
+    A_ROW, CHANGES, Case, Left, MERGES, RUN, RUN_NEW, Ran, TEARS, has_kept, left_on, run_on,
+};
 use std::alloc::{AllocError, Global};
 use std::process::Abort;
 use std::test::Fail;
@@ -18,7 +20,7 @@ fn are_front(whole: &[u8], replies: &[u8]) -> bool {
     whole.starts_with(told)
 }
 
-/// How many commits a run told.
+/// How many entries the journal had at a run's last reply.
 fn told_in(ran: &Ran) -> u64 {
     ran.acks.as_slice().last().map_or(0, |ack| ack.journal)
 }
@@ -53,7 +55,7 @@ fn check_left(
 #[test]
 fn a_fault_of_the_disk_is_told_and_loses_nothing(rt: HostRuntime) -> Result<(), Fail> {
     let alloc = rt.alloc();
-    for case in [A_ROW, CHANGES] {
+    for case in [A_ROW, CHANGES, MERGES] {
         let mut whole = MemDisk::of(alloc, &[], &[], &[])?;
         let all = run_on(&rt, alloc, RUN_NEW, case.script, &mut whole)?;
         assert_eq!(rt; all.status, Status::Done);
@@ -128,10 +130,10 @@ fn a_failed_sync_leaves_its_commit_open(rt: HostRuntime) -> Result<(), Fail> {
         b"1 ok commit 1\n1 fault disk\n".as_slice()
     );
     let lefts = [1, 2, 1, 2, 1];
-    for (tear, commits) in TEARS.iter().zip(&lefts) {
+    for (tear, entries) in TEARS.iter().zip(&lefts) {
         let mut image = disk.image(disk.calls(), *tear)?;
         let left = left_on(&rt, alloc, A_ROW, &mut image)?;
-        assert_eq!(rt; left, Left::Commits(*commits), "with {tear:?}");
+        assert_eq!(rt; left, Left::Entries(*entries), "with {tear:?}");
     }
     Ok(())
 }

@@ -40,7 +40,7 @@ fn a_store_outlives_a_run_that_would_make_it(rt: HostRuntime) -> Result<(), Fail
         run_beside(&rt, alloc, WRONG, &mut disk)?,
         (Status::Usage, true)
     );
-    assert_eq!(rt; left_on(&rt, alloc, A_ROW, &mut disk)?, Left::Commits(2));
+    assert_eq!(rt; left_on(&rt, alloc, A_ROW, &mut disk)?, Left::Entries(2));
     Ok(())
 }
 

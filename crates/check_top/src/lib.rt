@@ -2,6 +2,8 @@
 #![tactic(auto)]
 
 #[cfg(test)]
+mod bench;
+#[cfg(test)]
 mod crashes;
 #[cfg(test)]
 mod damage;
@@ -19,3 +21,5 @@ mod run;
 mod sizes;
 #[cfg(test)]
 mod streams;
+#[cfg(test)]
+mod words;

@@ -57,26 +57,3 @@ fn a_store_is_made_once_and_opened_where_it_is(rt: HostRuntime) -> Result<(), Fa
     assert_eq!(rt; made.replies.len(), 0);
     Ok(())
 }
-
-#[test]
-fn other_words_are_usage(rt: HostRuntime) -> Result<(), Fail> {
-    let alloc = rt.alloc();
-    let mut disk = MemDisk::of(alloc, &[], &[], &[])?;
-    let all: [&[&str]; 7] = [
-        &[],
-        &["ut"],
-        &["ut", "x"],
-        &["ut", "--new"],
-        &["ut", "run", "x"],
-        &["ut", "--new", "run"],
-        &["ut", "run", "--new", "--new"],
-    ];
-    for words in all {
-        assert_eq!(rt;
-            run_on(&rt, alloc, words, SCRIPT, &mut disk)?.status,
-            Status::Usage
-        );
-    }
-    assert_eq!(rt; disk.bytes(Which::Redo).len(), 0);
-    Ok(())
-}

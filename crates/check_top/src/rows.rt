@@ -2,7 +2,9 @@
 use crate::run::{RUN, RUN_NEW, run_on};
 use check_oracle::Oracle;
 use check_scripts::rows::{self, Row};
-use check_scripts::{Answers, LINES, answer_rows, refusal_rows, script_line, stage_rows};
+use check_scripts::{
+    Answers, LINES, StoreLines, answer_rows, merge_rows, refusal_rows, script_line, stage_rows,
+};
 use std::alloc::{AllocError, Global};
 use std::process::Abort;
 use std::test::Fail;
@@ -12,6 +14,9 @@ use ut_outside::MemDisk;
 
 /// Ids enough for any script.
 const AMPLE: u32 = 1000;
+
+/// Which statements of the store the random scripts have.
+const STORE_LINES: StoreLines = StoreLines::OfMain;
 
 /// What a table's rows are as a script, and as its replies.
 fn joined(alloc: Global, table: &[Row]) -> Result<(Vec<u8>, Vec<u8>), AllocError> {
@@ -66,6 +71,7 @@ fn each_table_of_rows_is_answered(rt: HostRuntime) -> Result<(), Fail> {
         .chain(refusal_rows::TABLES)
         .chain(answer_rows::TABLES)
         .chain(stage_rows::TABLES)
+        .chain(merge_rows::TABLES)
     {
         let mut disk = MemDisk::of(alloc, &[], &[], &[])?;
         check_rows(&rt, alloc, RUN_NEW, table, &mut disk)?;
@@ -83,7 +89,11 @@ fn each_store_of_rows_is_opened_again(rt: HostRuntime) -> Result<(), Fail> {
             rows::ALL_ROWS_STAND_IN_THE_FIRST_STAGE,
         ),
     ];
-    for (made, opened) in tables.iter().chain(stage_rows::OPENED_AGAIN) {
+    for (made, opened) in tables
+        .iter()
+        .chain(stage_rows::OPENED_AGAIN)
+        .chain(merge_rows::OPENED_AGAIN)
+    {
         let mut disk = MemDisk::of(alloc, &[], &[], &[])?;
         check_rows(&rt, alloc, RUN_NEW, made, &mut disk)?;
         check_rows(&rt, alloc, RUN, opened, &mut disk)?;
@@ -101,7 +111,7 @@ fn scripted(
     let mut replies = Vec::new(alloc);
     for number in 0..LINES {
         let mut line = Vec::new(alloc);
-        script_line(seed, number, &mut line)?;
+        script_line(STORE_LINES, seed, number, &mut line)?;
         store.answer(alloc, &line, &mut replies)?;
         script.extend_from_slice(&line)?;
         script.push(b'\n')?;

@@ -9,7 +9,7 @@ pub const RUN: &[&str] = &["ut", "run"];
 
 pub const RUN_NEW: &[&str] = &["ut", "run", "--new"];
 
-/// A script, its replies, and what its store answers to the question after none, one, two and more of its commits.
+/// A script, its replies, and what its store answers to the question after none, one, two and more of its journal's entries.
 #[derive(Clone, Copy)]
 pub struct Case {
     pub script: &'static [u8],
@@ -26,9 +26,9 @@ pub const A_ROW: Case = Case {
     script: SCRIPT,
     replies: REPLIES,
     answers: &[
-        b"1 refused name\n1 ok commit 1\n",
-        b"1 rows 0\n1 ok commit 2\n",
-        b"1 rows 1\n5 'a'\n1 ok commit 3\n",
+        b"1 refused name\n0 refused name\n1 ok commit 1\n",
+        b"1 rows 0\n0 ok 1\n1 ok commit 2\n",
+        b"1 rows 1\n5 'a'\n0 ok 1\n1 ok commit 3\n",
     ],
 };
 
@@ -53,12 +53,52 @@ pub const CHANGES: Case = Case {
         1 ok commit 4\n\
         2 ok 1 commit 5\n",
     answers: &[
-        b"1 refused name\n1 ok commit 1\n",
-        b"1 rows 0\n1 ok commit 2\n",
-        b"1 rows 2\n1 'a'\n2 'b'\n1 ok commit 3\n",
-        b"1 rows 3\n1 'a'\n2 'b'\n3 'd'\n1 ok commit 4\n",
-        b"1 rows 4\n2 'b'\n1 'c'\n3 'd'\n4 ''\n1 ok commit 5\n",
-        b"1 rows 3\n1 'c'\n3 'd'\n4 ''\n1 ok commit 6\n",
+        b"1 refused name\n0 refused name\n1 ok commit 1\n",
+        b"1 rows 0\n0 ok 1\n1 ok commit 2\n",
+        b"1 rows 2\n1 'a'\n2 'b'\n0 ok 1\n1 ok commit 3\n",
+        b"1 rows 3\n1 'a'\n2 'b'\n3 'd'\n0 ok 1\n1 ok commit 4\n",
+        b"1 rows 4\n2 'b'\n1 'c'\n3 'd'\n4 ''\n0 ok 1\n1 ok commit 5\n",
+        b"1 rows 3\n1 'c'\n3 'd'\n4 ''\n0 ok 1\n1 ok commit 6\n",
+    ],
+};
+
+/// Two merges into main, each with a change between its begin and its end, and a snapshot that is open through both.
+pub const MERGES: Case = Case {
+    script: b"1 create T k:int v:text\n\
+        1 bulk T 1 'a' 2 'b'\n\
+        2 begin\n\
+        0 merge begin T classic\n\
+        1 update T set v 'c' where k = 1\n\
+        0 merge end\n\
+        2 select T *\n\
+        1 insert T 3 'd'\n\
+        0 merge begin T partial\n\
+        1 delete T where k = 2\n\
+        0 merge end\n\
+        2 select T *\n",
+    replies: b"1 ok commit 1\n\
+        1 ok 2 commit 2\n\
+        2 ok\n\
+        0 ok 1\n\
+        1 ok 1 commit 3\n\
+        0 ok 1\n\
+        2 rows 2\n1 'a'\n2 'b'\n\
+        1 ok 1 commit 4\n\
+        0 ok 2\n\
+        1 ok 1 commit 5\n\
+        0 ok 2\n\
+        2 rows 2\n1 'a'\n2 'b'\n",
+    answers: &[
+        b"1 refused name\n0 refused name\n1 ok commit 1\n",
+        b"1 rows 0\n0 ok 1\n1 ok commit 2\n",
+        b"1 rows 2\n1 'a'\n2 'b'\n0 ok 1\n1 ok commit 3\n",
+        b"1 rows 2\n1 'a'\n2 'b'\n0 ok 2\n1 ok commit 3\n",
+        b"1 rows 2\n2 'b'\n1 'c'\n0 ok 2\n1 ok commit 4\n",
+        b"1 rows 2\n2 'b'\n1 'c'\n0 ok 2\n1 ok commit 4\n",
+        b"1 rows 3\n2 'b'\n1 'c'\n3 'd'\n0 ok 2\n1 ok commit 5\n",
+        b"1 rows 3\n2 'b'\n1 'c'\n3 'd'\n0 ok 3\n1 ok commit 5\n",
+        b"1 rows 2\n1 'c'\n3 'd'\n0 ok 3\n1 ok commit 6\n",
+        b"1 rows 2\n1 'c'\n3 'd'\n0 ok 3\n1 ok commit 6\n",
     ],
 };
 
@@ -71,8 +111,8 @@ pub const TEARS: [Tear; 5] = [
     Tear::Fill(0x33),
 ];
 
-/// Asks a script's store for its rows and the number of its commits.
-const QUESTION: &[u8] = b"1 select T *\n1 create Z k:int\n";
+/// Asks a script's store for its rows, the number of its merges and that of its commits.
+const QUESTION: &[u8] = b"1 select T *\n0 merge begin T classic\n1 create Z k:int\n";
 
 /// The bytes that a source gives in one call.
 const PIECE: usize = 4096;
@@ -89,8 +129,9 @@ pub struct Ran {
 #[derive(Clone, Copy, Debug, PartialEq, Eq)]
 pub enum Left {
     NoStore,
-    Commits(u64),
-    /// No front of its commits.
+    /// The first so many entries of its journal, or more that look the same.
+    Entries(u64),
+    /// No front of its journal.
     Else,
 }
 
@@ -131,26 +172,27 @@ pub fn left_on(
     let ran = run_on(rt, alloc, RUN, QUESTION, disk)?;
     let left = match ran.status {
         Status::NoStore => Left::NoStore,
-        Status::Done => commits_told(case, &ran.replies),
+        Status::Done => entries_told(case, &ran.replies),
         _ => Left::Else,
     };
     Ok(left)
 }
 
-fn commits_told(case: Case, replies: &[u8]) -> Left {
-    for (commits, answer) in case.answers.iter().enumerate() {
+fn entries_told(case: Case, replies: &[u8]) -> Left {
+    let mut left = Left::Else;
+    for (entries, answer) in case.answers.iter().enumerate() {
         if replies == *answer {
-            return Left::Commits(commits as u64);
+            left = Left::Entries(entries as u64); // the end of a merge doesn't show
         }
     }
-    Left::Else
+    left
 }
 
-/// Whether so many commits are there, or more.
+/// Whether so many entries are there, or more.
 pub fn has_kept(left: Left, least: u64) -> bool {
     match left {
         Left::NoStore => least == 0,
-        Left::Commits(commits) => least <= commits,
+        Left::Entries(entries) => least <= entries,
         Left::Else => false,
     }
 }

@@ -2,8 +2,8 @@ use Rattle.std.proofs.Common.{ap, ◌∙◌, take, arith}
 use Rattle.std.proofs.lemmas.Grind.{common_steps}
 use Rattle.ut_plain.specs.State.{empty_state}
 use Rattle.ut_plain.specs.Journal.{after_all}
-use Rattle.check_oracle.specs.Listed.{listed_all}
-use Rattle.check_oracle.specs.Known.{IsKnown}
+use Rattle.check_rows.specs.Listed.{listed_all}
+use Rattle.check_rows.specs.Known.{IsKnown}
 use Rattle.check_oracle.proofs.SightLemmas.{seen_rows}
 use Rattle.check_oracle.proofs.sight.seen_inside.Goals as goal
 

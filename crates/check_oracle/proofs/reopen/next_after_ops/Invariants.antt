@@ -1,6 +1,0 @@
-use Rattle.std.proofs.Common.{◌≡◌, take}
-use Rattle.ut_plain.specs.Rows.{next_after}
-use Rattle.check_oracle.proofs.reopen.next_after_ops.Given as goal
-
-abbrev pub invariant-loop-op : goal.invariant-loop-op
-invariant-loop-op l = l.last ≡ next_after l.next (take l.op-index l.ops)

@@ -1,6 +1,0 @@
-use Rattle.std.proofs.Common.{◌≡◌, map, take}
-use Rattle.ut_plain.specs.Restart.{buried}
-use Rattle.check_oracle.proofs.replay.parts_buried.Given as goal
-
-abbrev pub invariant-loop-part : goal.invariant-loop-part
-invariant-loop-part l = l.copies ≡ map (map (buried l.id)) (take l.part-index l.parts)

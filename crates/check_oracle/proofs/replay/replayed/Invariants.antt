@@ -1,6 +1,0 @@
-use Rattle.std.proofs.Common.{◌≡◌, [], take}
-use Rattle.ut_plain.specs.Restart.{replayed}
-use Rattle.check_oracle.proofs.replay.replayed.Given as goal
-
-abbrev pub invariant-loop-entry : goal.invariant-loop-entry
-invariant-loop-entry l = l.stages.items ≡ replayed [] (take l.entry-index l.entries)

@@ -1,6 +1,0 @@
-use Rattle.std.proofs.Common.{◌≡◌, take}
-use Rattle.check_oracle.specs.Listed.{listed_all}
-use Rattle.check_oracle.proofs.rows.apply_all.Given as goal
-
-abbrev pub invariant-loop-op : goal.invariant-loop-op
-invariant-loop-op l = l.rows.items ≡ listed_all l.fn.rows.items (take l.op-index l.ops)

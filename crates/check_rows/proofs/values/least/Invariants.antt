@@ -1,0 +1,8 @@
+use Rattle.std.proofs.Common.{◌≡◌, drop, Some}
+use Rattle.std.specs.Ordering.{is_lt}
+use Rattle.ut_plain.specs.Query.{best, best_from}
+use Rattle.check_rows.proofs.values.least.Given as goal
+
+-- the best so far, and then of those that are left
+abbrev pub invariant-loop-value : goal.invariant-loop-value
+invariant-loop-value l = Some (best_from is_lt l.best (drop l.value-index l.rest)) ≡ best is_lt l.fn.values

@@ -1,0 +1,4 @@
+pub mod StageLemmas
+pub mod ReplayLemmas
+pub mod KeptLemmas
+pub mod SortedLemmas
