@@ -1,5 +1,5 @@
 -- What each call does to what is known of the files, by what the log's and the pages' calls do to them.
-use Rattle.std.proofs.Common.{◌≡◌, ◌⊎◌, ℕ, List, [], ◌∷◌, sym, subst}
+use Rattle.std.proofs.Common.{◌≡◌, ◌⊎◌, ℕ, List, [], ◌∷◌, subst}
 use Rattle.std.specs.Prelude.{IsTrue}
 use Rattle.ut_outside.specs.declared.disk.Which.TheVariants.{Pages}
 use Rattle.ut_outside.specs.Disk.{View, Image, IsTold}

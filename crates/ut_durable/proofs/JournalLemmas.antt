@@ -1,6 +1,6 @@
 -- Parts of journals.
-use Rattle.std.proofs.Common.{◌≡◌, ℕ, ◌+◌, ◌-◌, ◌≤◌, List, [], ◌∷◌, ◌++◌, length, take, drop, refl, sym, ◌∙◌, ap, arith}
-use Rattle.std.proofs.lemmas.List.{length-drop, drop_all}
+use Rattle.std.proofs.Common.{◌≡◌, ℕ, ◌-◌, ◌≤◌, List, [], ◌∷◌, ◌++◌, ◌∙◌, ap, arith}
+use Rattle.std.proofs.lemmas.List.{drop_all}
 use Rattle.ut_value.specs.declared.entry.Entry.{Entry}
 use Rattle.ut_plain.specs.State.{State}
 use Rattle.ut_plain.specs.Journal.{Journal, journal_len, state_at, entries_after, prefix, appended, since, part}

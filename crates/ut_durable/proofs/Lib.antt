@@ -7,3 +7,6 @@ pub mod PlaceLemmas
 pub mod RestLemmas
 pub mod PlanLemmas
 pub mod SavingLemmas
+pub mod MomentLemmas
+pub mod DistinctLemmas
+pub mod CaptureLemmas

@@ -1,24 +1,23 @@
 -- A store that is opened knows of its files what a running one does.
-use Rattle.std.proofs.Common.{◌≡◌, ◌⊎◌, inl, inr, ⊎_elim, ℕ, zero, suc, ◌+◌, ◌-◌, ◌*◌, ◌≤◌, ◌<◌, List, [], ◌∷◌, ◌++◌, length, take, drop, refl, sym, ◌∙◌, ap, subst, arith}
+use Rattle.std.proofs.Common.{◌≡◌, inl, inr, ℕ, ◌-◌, ◌≤◌, List, [], length, take, drop, refl, sym, ◌∙◌, ap, subst, arith}
 use Rattle.std.specs.Prelude.{Contains, Option, None, Some}
 use Rattle.std.specs.Ordering.{nat_cmp}
 use Rattle.ut_outside.specs.declared.disk.Which.TheVariants.{Redo, Pages}
 use Rattle.ut_plain.specs.declared.table.Stored.{Stored}
 use Rattle.ut_plain.specs.declared.stage.Placed.{Placed}
 use Rattle.std.specs.FinMap as finmap
-use Rattle.ut_outside.specs.Disk.{Image, View, IsTold, content}
-use Rattle.ut_outside.specs.Run.{Always, ComesFrom, ReadsOnly}
+use Rattle.ut_outside.specs.Disk.{Image, View, content}
+use Rattle.ut_outside.specs.Run.{ComesFrom, ReadsOnly}
 use Rattle.ut_value.specs.declared.entry.Entry.{Entry}
 use Rattle.ut_plain.specs.State.{State, empty_state}
 use Rattle.ut_plain.specs.Stages.{all_places, no_stages}
-use Rattle.ut_plain.specs.Journal.{Journal, journal_len, state_at, entries_after, current, empty_journal}
+use Rattle.ut_plain.specs.Journal.{Journal, state_at, entries_after, current, empty_journal}
 use Rattle.ut_plain.specs.Reached.{MayOpen}
 use Rattle.ut_plain.specs.Capture.{Directory, StandsInTable}
 use Rattle.ut_durable.specs.Bytes.{no_directory}
 use Rattle.ut_plain.specs.Plain.{Opening, Idle, opened_store}
 use Rattle.ut_plain.proofs.OpenedLaws.{IsPlain-opened}
 use Rattle.ut_redo.specs.Appends.{Place, IsClosedAt}
-use Rattle.ut_redo.specs.Frames.{Holds}
 use Rattle.ut_redo.specs.Logs.{LogHolds}
 use Rattle.ut_redo.specs.Logs.LogHolds.{Straight}
 use Rattle.ut_pages.specs.Selection.{Selection}

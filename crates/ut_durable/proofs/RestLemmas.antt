@@ -1,17 +1,14 @@
 -- What a crash leaves of a store's files, call by call.
-use Rattle.std.proofs.Common.{◌≡◌, ◌⊎◌, inl, inr, ⊎_elim, ℕ, ◌+◌, ◌≤◌, List, [], ◌∷◌, ◌++◌, length, refl, sym, ◌∙◌, ap, subst, arith}
-use Rattle.std.specs.Prelude.{Contains}
+use Rattle.std.proofs.Common.{◌≡◌, ◌⊎◌, ⊎_elim, ℕ, ◌≤◌, List, [], ◌∷◌, sym, subst, arith}
 use Rattle.ut_value.specs.declared.entry.Entry.{Entry}
-use Rattle.ut_outside.specs.declared.disk.Which.{Which}
 use Rattle.ut_outside.specs.declared.disk.Which.TheVariants.{Pages}
 use Rattle.ut_outside.specs.Disk.{Image, View, Others, content}
 use Rattle.ut_outside.specs.Run.{Always, ComesFrom, ComesBy}
-use Rattle.ut_plain.specs.State.{State}
-use Rattle.ut_plain.specs.Journal.{Journal, journal_len, state_at, entries_after, appended, since, part}
+use Rattle.ut_plain.specs.Journal.{Journal, journal_len, entries_after, appended, since, part}
 use Rattle.ut_plain.specs.Reached.{MayOpen}
 use Rattle.ut_plain.proofs.JournalLaws.{state_at-appended, journal_len-appended}
 use Rattle.ut_redo.specs.Appends.{Place, IsClosedAt, BeforeOrAfter, After}
-use Rattle.ut_redo.specs.Logs.{IsLogFile, LogHolds, MaySwitch, IsSwitched, switched_place}
+use Rattle.ut_redo.specs.Logs.{LogHolds, MaySwitch, IsSwitched, switched_place}
 use Rattle.ut_redo.proofs.LogLemmas.{log_same, log_more, log_more_or_same, log_empty, log_switched, log_may_switch, end_is_log, not_pages}
 use Rattle.ut_pages.specs.declared.slot.Slot.{Slot}
 use Rattle.ut_pages.specs.declared.root.Root.{Root}
@@ -20,7 +17,7 @@ use Rattle.ut_pages.specs.Crash.{Stands, Keeps, Selects, Seals}
 use Rattle.ut_plain.specs.Capture.{Directory}
 use Rattle.ut_durable.specs.Directories.{IsBase}
 use Rattle.ut_durable.specs.Images.{HasImage, AreThere}
-use Rattle.ut_durable.specs.Journals.{place_of, IsReading, HoldsJournal, HoldsPrefix}
+use Rattle.ut_durable.specs.Journals.{place_of, HoldsJournal, HoldsPrefix}
 use Rattle.ut_durable.specs.Files.{IsImageOf, LogBehind, HasSelected, Rests, IsSealed, IsStaged}
 use Rattle.ut_durable.proofs.PlaceLemmas.{is_log}
 use Rattle.ut_durable.proofs.JournalLemmas.{entries_after-appended, entries_after-all, part-appended, part-all}

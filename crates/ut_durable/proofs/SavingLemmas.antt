@@ -1,14 +1,12 @@
 -- What each call does to all that a store knows of its files.
-use Rattle.std.proofs.Common.{◌≡◌, ◌≢◌, ℕ, zero, suc, ◌+◌, ◌≤◌, ◌<◌, Bool, true, false, List, [], ◌∷◌, ◌++◌, length, take, Option, None, Some, refl, sym, ◌∙◌, ap, subst, arith}
-use Rattle.std.specs.Prelude.{IsTrue, Contains, slice_get}
+use Rattle.std.proofs.Common.{◌≡◌, ◌≢◌, ℕ, zero, suc, ◌+◌, ◌≤◌, ◌<◌, true, false, List, [], ◌∷◌, ◌++◌, length, take, Option, None, Some, refl, sym, ◌∙◌, ap, subst, arith}
+use Rattle.std.specs.Prelude.{IsTrue, slice_get}
 use Rattle.std.specs.List.{AllByRecursion}
 use Rattle.std.specs.FinMap as finmap
 use Rattle.std.proofs.lemmas.List.{take_all}
 use Rattle.ut_value.specs.declared.entry.Entry.{Entry}
-use Rattle.ut_outside.specs.declared.disk.Which.{Which}
 use Rattle.ut_outside.specs.declared.disk.Which.TheVariants.{Pages}
-use Rattle.ut_outside.specs.Disk.{Image, View, IsTold, OnFile, Others, content}
-use Rattle.ut_outside.specs.Run.{Always}
+use Rattle.ut_outside.specs.Disk.{View, IsTold, OnFile, content}
 use Rattle.ut_plain.specs.State.{State}
 use Rattle.ut_plain.specs.Stages.{all_places}
 use Rattle.ut_plain.specs.Journal.{Journal, journal_len, state_at, appended, part}
@@ -17,7 +15,6 @@ use Rattle.ut_plain.proofs.JournalLaws.{state_at-appended}
 use Rattle.ut_plain.proofs.PartLaws.{may_open_part}
 use Rattle.ut_plain.specs.Capture.{Directory}
 use Rattle.ut_plain.specs.Plain.{Plain, Phase, Idle, Writing, Sealed}
-use Rattle.ut_redo.specs.Appends.{Place, IsClosedAt}
 use Rattle.ut_redo.specs.Logs.{IsLogFile, other_log}
 use Rattle.ut_redo.proofs.LogLemmas.{other_differs}
 use Rattle.ut_pages.specs.declared.slot.Slot.{Slot}
@@ -25,9 +22,9 @@ use Rattle.ut_pages.specs.declared.root.Root.{Root}
 use Rattle.ut_pages.specs.Layout.{HasPage, other}
 use Rattle.ut_pages.specs.Crash.{ChangesOnly}
 use Rattle.ut_durable.specs.Journals.{place_of}
-use Rattle.ut_durable.specs.Files.{IsImageOf, IsStaged, LogBehind}
+use Rattle.ut_durable.specs.Files.{IsImageOf, IsStaged}
 use Rattle.ut_durable.specs.Calls.{Held, IsSettled, IsRested, IsFollowed, IsReady}
-use Rattle.ut_durable.specs.Saving.{Planned, IsWritten, MayWrite, Saving, IsPlan, IsWriting, IsWaiting, IsSaving, IsStored}
+use Rattle.ut_durable.specs.Saving.{Planned, IsWritten, MayWrite, Saving, IsPlan, IsSaving, IsStored}
 use Rattle.ut_durable.proofs.PlaceLemmas.{is_log}
 use Rattle.ut_durable.specs.Laws.{AppendIsStored, SwitchIsStored, BeginIsStored, NextMayBeWritten, PageIsStored, SealIsStored, FlipIsStored, DropIsStored, StoredHoldsAll}
 use Rattle.ut_durable.proofs.CallLemmas.{settled}
@@ -178,7 +175,7 @@ stored_dropped j f selected d saving phase v stored = record { image = stored.im
 -- ---- the laws
 
 -- behind a root each part of the longer journal can be opened
-may_more : (p : Plain) (j : Journal) (e : Entry) → IsPlain p → p.journal ≡ appended j e → (root : Root) (c : Directory) → IsImageOf j root c → (n : ℕ) → root.length ≤ n → n ≤ journal_len (appended j e) → MayOpen c.stages (part (appended j e) root.length n)
+pub may_more : (p : Plain) (j : Journal) (e : Entry) → IsPlain p → p.journal ≡ appended j e → (root : Root) (c : Directory) → IsImageOf j root c → (n : ℕ) → root.length ≤ n → n ≤ journal_len (appended j e) → MayOpen c.stages (part (appended j e) root.length n)
 may_more p j e is next root c of n from until =
     let here = of.may root.length (omega arith) of.within in
     let same : state_at j root.length ≡ state_at p.journal root.length = sym (state_at-appended j e root.length of.within) ∙ ap (λ (k : Journal). state_at k root.length) (sym next) in

@@ -1,5 +1,5 @@
 -- What a running store knows of its files, whatever a crash makes of them.
-use Rattle.std.specs.Prelude.{ℕ, ◌≡◌, ◌≤◌, List}
+use Rattle.std.specs.Prelude.{ℕ, ◌≤◌, List}
 use Rattle.ut_outside.specs.Disk.{Image}
 use Rattle.ut_plain.specs.Journal.{Journal, journal_len, state_at, entries_after, part}
 use Rattle.ut_plain.specs.Reached.{MayOpen}

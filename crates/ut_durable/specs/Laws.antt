@@ -1,14 +1,16 @@
 -- Laws of a store's files over a savepoint: from each phase to the next, and from what is known to what is promised.
 -- Each speaks of the states of a disk, of which `view` is what is known.
 use Rattle.std.specs.Prelude.{ℕ, ◌≡◌, ◌≢◌, ◌<◌, ◌+◌, true, false, List, [], ◌++◌, length, map, Contains, Option, None, Some, slice_get}
-use Rattle.std.specs.List.{AllByRecursion}
+use Rattle.std.specs.List.{AllByRecursion, AllPairs, AllZip}
 use Rattle.ut_value.specs.declared.entry.Entry.{Entry}
 use Rattle.ut_value.specs.Spelling.{Spells}
 use Rattle.ut_outside.specs.declared.disk.Which.TheVariants.{Pages}
 use Rattle.ut_outside.specs.Disk.{Image, View, IsTold, OnFile}
 use Rattle.ut_outside.specs.Run.{Always}
 use Rattle.ut_plain.specs.Journal.{Journal, journal_len, current, appended, empty_journal}
-use Rattle.ut_plain.specs.Capture.{Directory, capture, AreHeldBy, AreDistinct, ids_of}
+use Rattle.ut_plain.specs.declared.table.Table.{Table}
+use Rattle.ut_plain.specs.declared.stage.TableStages.{TableStages}
+use Rattle.ut_plain.specs.Capture.{Directory, capture, AreHeldBy}
 use Rattle.ut_plain.specs.Plain.{Plain, Phase, Idle, Writing, Sealed}
 use Rattle.ut_plain.specs.Reached.{IsPlain, MayOpen}
 use Rattle.ut_redo.specs.Appends.{behind}
@@ -19,6 +21,7 @@ use Rattle.ut_pages.specs.Layout.{IsMade, IsSelected, IsRoot, HasPage, empty_roo
 use Rattle.ut_pages.specs.Crash.{ChangesOnly}
 use Rattle.ut_pages.specs.Free.{AreFree}
 use Rattle.ut_durable.specs.Bytes.{Describes, no_directory}
+use Rattle.ut_durable.specs.Rules.{image_ids, IsImageRow, IsDirectory}
 use Rattle.ut_durable.specs.Images.{HasImage, AreThere}
 use Rattle.ut_durable.specs.Directories.{IsBase}
 use Rattle.ut_durable.specs.Journals.{place_of, HoldsPrefix}
@@ -109,10 +112,21 @@ MadeIsStored {D} view = (f : Held) (v : D) → f ≡ made_held → MayOpen [] em
 
 -- ---- images
 
+-- the rows of a table's parts, dead or live, have ids and values of its columns
+abbrev pub HaveRows : Table → TableStages → Type 0
+HaveRows t s = AllByRecursion (AllByRecursion (IsImageRow t.columns)) s.parts
+
+-- What is captured may be an image's directory, where no two of its rows have one id.
+abbrev pub CapturedIsDirectory : Type 0
+CapturedIsDirectory = (p : Plain) → IsPlain p → AreHeldBy p.stages (current p.journal).rows
+    → AllZip HaveRows (current p.journal).tables p.stages
+    → AllPairs (λ a b. a ≢ b) (image_ids (capture (current p.journal) p.stages).stages)
+    → IsDirectory (current p.journal).next (current p.journal).commits (capture (current p.journal) p.stages)
+
 -- A root of the journal's length and counts, and what is captured, are an image of the journal.
 abbrev pub CapturedIsImage : Type 0
 CapturedIsImage = (p : Plain) (root : Root) → IsPlain p → AreHeldBy p.stages (current p.journal).rows
-    → AreDistinct (ids_of (capture (current p.journal) p.stages).stages) → IsRoot root
+    → AllPairs (λ a b. a ≢ b) (image_ids (capture (current p.journal) p.stages).stages) → IsRoot root
     → root.length ≡ journal_len p.journal → (current p.journal).length ≡ root.length
     → (current p.journal).next ≡ root.next → (current p.journal).commits ≡ root.commits
     → (current p.journal).merges ≡ root.merges
@@ -124,7 +138,7 @@ ChainsArePlan = (directory : Draft) (parts : List Draft) (root : Root) (d : Dire
     → IsDraft directory → AllByRecursion IsDraft parts → Ascend 3 (reached_of parts ++ directory.pages)
     → ((k : ℕ) → Contains (reached_of parts ++ directory.pages) k → Contains reached k → ⊥)
     → first_of directory.pages ≡ root.first_page → length directory.bytes ≡ root.image_len
-    → Describes directory.bytes (map chain_of parts) d
+    → Describes root directory.bytes (map chain_of parts) d
     → IsPlan (planned_of parts ++ plan directory.pages directory.bytes) reached (reached_of parts ++ directory.pages) root d
 
 -- The least free pages are such.

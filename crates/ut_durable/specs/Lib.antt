@@ -1,4 +1,4 @@
-pub mod Parts
+pub mod Rules
 pub mod Bytes
 pub mod Calls
 pub mod Directories
@@ -9,3 +9,4 @@ pub mod Saving
 pub mod Plans
 pub mod Made
 pub mod Laws
+pub mod Moments

@@ -1,5 +1,5 @@
 //! The log's end and the selected root, with the pages that it reaches.
-ghost use Rattle.std.specs.Prelude.{◌≡◌, ◌+◌, ◌^◌, ◌≤◌, Contains, length, OnOk, MatchResult};
+ghost use Rattle.std.specs.Prelude.{◌≡◌, ◌+◌, ◌^◌, ◌<◌, ◌≤◌, Contains, length, IfOk, IfSome, IfNone, OnOk, MatchResult};
 ghost use Rattle.ut_outside.specs.Disk.{IsTold, OnFile};
 ghost use Rattle.ut_outside.specs.Faults.{HasCause};
 ghost use Rattle.ut_outside.specs.declared.disk.Which.TheVariants.{Pages as PagesFile};
@@ -7,8 +7,10 @@ ghost use Rattle.ut_redo.specs.Appends.{behind};
 ghost use Rattle.ut_redo.specs.Logs.{IsLogFile, switched_place};
 ghost use Rattle.ut_pages.specs.Layout.{IsRoot, HasPage, other};
 ghost use Rattle.ut_pages.specs.Crash.{ChangesOnly};
+ghost use Rattle.ut_pages.specs.Free.{AreFree};
 ghost use Rattle.ut_durable.specs.Calls.{IsSettled, Gains, MayGain, Stays, BecomesReady, Flips, MayFlip, Moves, MayMove};
 
+use std::alloc::{AllocError, Global};
 use std::marker::Model;
 use ut_outside::{Disk, Failed};
 use ut_pages::{Pages, Root};
@@ -53,6 +55,16 @@ impl Durable {
     {
         self.redo.append(disk, frame)?;
         Ok(())
+    }
+
+    /// The n least numbers of pages that the selected root doesn't reach. There are none where page numbers would pass their limit.
+    pub fn free_pages(&self, alloc: Global, n: u32) -> Result<Option<Vec<u32>>, AllocError>
+        ensures free { IfOk result (λ o. IfSome o (λ v. AreFree (Contains self.now.reached) 3 v.items)) }
+        ensures len { IfOk result (λ o. IfSome o (λ v. length v.items ≡ n)) }
+        ensures some { IfOk result (λ o. IfSome o (λ _. 3 + n + length self.now.reached < 2 ^ 32)) }
+        ensures none { IfOk result (λ o. IfNone o (2 ^ 32 ≤ 3 + n + length self.now.reached)) }
+    {
+        self.pages.free_pages(alloc, n)
     }
 
     /// Writes a page of a savepoint, which the selected root doesn't reach.

@@ -1,5 +1,6 @@
 //! What a store knows of its files, as laws that a program above may rest on.
-ghost use Rattle.ut_durable.specs.Laws.{AppendIsStored, SwitchIsStored, BeginIsStored, NextMayBeWritten, PageIsStored, SealIsStored, FlipIsStored, DropIsStored, StoredHoldsAll, OpenedIsStored, MadeIsStored, CapturedIsImage, ChainsArePlan, FreePagesAscend};
+ghost use Rattle.ut_durable.specs.Laws.{AppendIsStored, SwitchIsStored, BeginIsStored, NextMayBeWritten, PageIsStored, SealIsStored, FlipIsStored, DropIsStored, StoredHoldsAll, OpenedIsStored, MadeIsStored, CapturedIsDirectory, CapturedIsImage, ChainsArePlan, FreePagesAscend};
+ghost use Rattle.ut_durable.specs.Moments.{AppendLeaves, StayLeaves, SwitchLeaves, FlipLeaves, PrefixOfMore, PrefixOfFewer};
 
 use ut_outside::Disk;
 
@@ -22,8 +23,23 @@ pub fn stored_laws<D: Disk>()
     ensures holds { StoredHoldsAll D.view }
 {}
 
+/// At each moment of a call a crash leaves the journal.
+pub fn moment_laws<D: Disk>()
+    ensures append { AppendLeaves D.view }
+    ensures stay { StayLeaves D.view }
+    ensures switch { SwitchLeaves D.view }
+    ensures flip { FlipLeaves D.view }
+{}
+
+/// Prefixes of journals.
+pub fn prefix_laws()
+    ensures more { PrefixOfMore }
+    ensures fewer { PrefixOfFewer }
+{}
+
 /// What is captured and planned is the image of the journal.
 pub fn image_laws()
+    ensures directory { CapturedIsDirectory }
     ensures captured { CapturedIsImage }
     ensures planned { ChainsArePlan }
     ensures free { FreePagesAscend }

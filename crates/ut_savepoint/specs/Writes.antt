@@ -1,5 +1,5 @@
 -- Pages in memory as those that are to be written.
-use Rattle.std.specs.Prelude.{ℕ, List, [], ◌∷◌}
+use Rattle.std.specs.Prelude.{List, [], ◌∷◌}
 use Rattle.ut_durable.specs.Saving.{Planned}
 use Rattle.ut_savepoint.specs.declared.cut.PageWrite.{PageWrite}
 

@@ -1,5 +1,6 @@
 //! Bytes cut into pages.
 ghost use Rattle.std.specs.Prelude.{◌≡◌, ◌++◌, OnOk};
+ghost use Rattle.ut_durable.specs.Bytes.{pages_for};
 ghost use Rattle.ut_durable.specs.Plans.{Fills, plan, first_of};
 ghost use Rattle.ut_savepoint.specs.Writes.{planned_in};
 
@@ -16,8 +17,15 @@ pub struct PageWrite {
     pub bytes: Vec<u8>,
 }
 
+/// How many pages so many bytes take.
+pub(crate) fn pages_for(len: usize) -> usize
+    ensures { result ≡ pages_for len }
+{
+    len / PAYLOAD_LEN + usize::from(len % PAYLOAD_LEN > 0)
+}
+
 // The first of these pages, 0 where there is none.
-fn first_of(pages: &[u32]) -> u32
+pub(crate) fn first_of(pages: &[u32]) -> u32
     ensures { result ≡ first_of pages.now }
 {
     match pages {

@@ -1,4 +1,4 @@
-use Rattle.std.proofs.Common.{◌≡◌, ℕ, List, sym, ◌∙◌, ap, subst}
+use Rattle.std.proofs.Common.{sym, ◌∙◌, ap, subst}
 use Rattle.ut_outside.specs.declared.disk.Which.TheVariants.{Pages}
 use Rattle.ut_redo.specs.Appends.{Place, behind}
 use Rattle.ut_redo.specs.Logs.{IsLogFile}

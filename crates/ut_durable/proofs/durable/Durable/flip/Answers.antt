@@ -1,4 +1,4 @@
-use Rattle.std.proofs.Common.{◌≡◌, ℕ, List, sym, ◌∙◌, ap, subst}
+use Rattle.std.proofs.Common.{ℕ, List, sym, ◌∙◌, ap, subst}
 use Rattle.ut_pages.specs.declared.slot.Slot.{Slot}
 use Rattle.ut_pages.specs.Layout.{other}
 use Rattle.ut_outside.specs.Disk.{View}

@@ -1,4 +1,4 @@
-use Rattle.std.proofs.Common.{◌≡◌, sym, ◌∙◌, ap, subst}
+use Rattle.std.proofs.Common.{sym, ◌∙◌, ap, subst}
 use Rattle.ut_redo.specs.Appends.{Place}
 use Rattle.ut_redo.specs.Logs.{switched_place}
 use Rattle.ut_outside.specs.Disk.{View}

@@ -1,0 +1,11 @@
+pub mod ListLemmas
+pub mod KeyLemmas
+pub mod OneLemmas
+pub mod PartLemmas
+pub mod RuleLemmas
+pub mod DrawLemmas
+pub mod SameLemmas
+pub mod BaseLemmas
+pub mod StoreLemmas
+pub mod FindLemmas
+pub mod ImageLemmas

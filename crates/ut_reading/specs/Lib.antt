@@ -1,0 +1,4 @@
+pub mod Standing
+pub mod Found
+pub mod Reading
+pub mod Laws

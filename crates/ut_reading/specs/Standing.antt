@@ -1,0 +1,83 @@
+-- A directory's tables and parts as they stand in a page file, in keys.
+use Rattle.std.specs.Prelude.{ℕ, ◌≡◌, ◌⊎◌, List, [], ◌∷◌, ◌++◌, length, map, Contains}
+use Rattle.std.specs.List.{items_where_true, AllZip}
+use Rattle.ut_value.specs.declared.value.Column.{Column}
+use Rattle.ut_l2.specs.KeyRows.{KeyRow}
+use Rattle.ut_main.specs.Parts.{PartValue, MainValue, dicts_behind}
+use Rattle.ut_main.specs.Spelling.{part_bytes, MayStand}
+use Rattle.ut_image.specs.declared.drawn.PartRef.{PartRef}
+use Rattle.ut_image.specs.declared.drawn.Drawn.{Drawn}
+use Rattle.ut_image.specs.Bytes.{image_bytes}
+use Rattle.ut_image.specs.Rules.{AreDrawn, AreOwnIds, ids_of}
+use Rattle.ut_pages.specs.declared.root.Root.{Root}
+use Rattle.ut_durable.specs.Bytes.{Chain}
+use Rattle.ut_durable.specs.Images.{StandsIn, IsWithin, AreThere}
+
+-- rows as a part behind main
+abbrev pub part_of : MainValue → List KeyRow → PartValue
+part_of main rows = record { before = dicts_behind main; rows = rows }
+
+abbrev pub with_part : MainValue → List KeyRow → MainValue
+with_part main rows = record main { parts = main.parts ++ rows ∷ [] }
+
+abbrev pub no_parts : ℕ → MainValue
+no_parts width = record { width = width; parts = [] }
+
+-- ---- which part a directory names
+
+-- These rows are the part that the directory names: a chain on reached pages has their bytes.
+pub record StandsPart (columns : List Column) (main : MainValue) (ref : PartRef) (rows : List KeyRow) (reached file : List ℕ) : Type 0 where
+  pub chain : Chain
+  pub stands : StandsIn file chain
+  pub within : IsWithin reached chain
+  pub first : chain.first ≡ ref.first
+  pub long : length chain.bytes ≡ ref.length
+  pub bytes : chain.bytes ≡ part_bytes (part_of main rows)
+  pub may : MayStand columns main (part_of main rows)
+  pub count : length rows ≡ ref.rows
+
+-- parts, each behind those before it
+abbrev pub StandParts : List Column → MainValue → List PartRef → List (List KeyRow) → (reached file : List ℕ) → Type 0
+StandParts columns main [] [] reached file = Unit {0}
+StandParts columns main [] (rows ∷ parts) reached file = ⊥
+StandParts columns main (ref ∷ refs) [] reached file = ⊥
+StandParts columns main (ref ∷ refs) (rows ∷ parts) reached file = StandsPart columns main ref rows reached file × StandParts columns (with_part main rows) refs parts reached file
+
+-- the parts of a table
+pub record StandsMain (reached file : List ℕ) (t : Drawn) (main : MainValue) : Type 0 where
+  pub width : main.width ≡ length t.table.columns
+  pub parts : StandParts t.table.columns (no_parts (length t.table.columns)) t.parts main.parts reached file
+
+-- ---- the ids of rows
+
+-- those of the live rows of parts
+abbrev pub live_in : PartRef → List KeyRow → List ℕ
+live_in ref rows = map (λ (r : KeyRow). r.id) (items_where_true ref.live rows)
+
+abbrev pub live_in_parts : List PartRef → List (List KeyRow) → List ℕ
+live_in_parts [] parts = []
+live_in_parts (ref ∷ refs) [] = []
+live_in_parts (ref ∷ refs) (rows ∷ parts) = live_in ref rows ++ live_in_parts refs parts
+
+-- those of the live rows of all tables' parts
+abbrev pub live_in_mains : List Drawn → List MainValue → List ℕ
+live_in_mains [] mains = []
+live_in_mains (t ∷ ts) [] = []
+live_in_mains (t ∷ ts) (main ∷ mains) = live_in_parts t.parts main.parts ++ live_in_mains ts mains
+
+-- ---- the whole image
+
+-- the tables of a directory's bytes, which may be none
+abbrev pub AreDrawnIn : Root → List ℕ → List Drawn → Type 0
+AreDrawnIn root bytes tables = ((bytes ≡ []) × (tables ≡ [])) ⊎ ((bytes ≡ image_bytes tables) × AreDrawn root.next root.commits tables)
+
+-- These tables are the directory's, these mains their parts, and no two rows have one id.
+pub record StandsImage (root : Root) (bytes : List ℕ) (tables : List Drawn) (mains : List MainValue) (reached file : List ℕ) : Type 0 where
+  pub drawn : AreDrawnIn root bytes tables
+  pub parts : AllZip (StandsMain reached file) tables mains
+  pub ids : AreOwnIds root.next (ids_of tables ++ live_in_mains tables mains)
+
+-- More pages are reached than before, all of them there where those before were.
+pub record ReachMore (file old new : List ℕ) : Type 0 where
+  pub keeps : (k : ℕ) → Contains old k → Contains new k
+  pub there : AreThere old file → AreThere new file

@@ -1,0 +1,61 @@
+//! Whether the ids of all rows of an image are given ones, and no two equal.
+ghost use Rattle.std.specs.Prelude.{◌≡◌, ◌≢◌, ◌↔◌, ◌<◌, ◌≤◌, ◌++◌, IsTrue, IfOk, OnOk, nat_eq, map};
+ghost use Rattle.std.specs.Bool.{Decides};
+ghost use Rattle.std.specs.List.{All, AllPairs};
+ghost use Rattle.std.specs.HashSet.{IsFromIterResult};
+ghost use Rattle.ut_image.specs.Rules.{AreOwnIds, ids_of};
+
+use std::alloc::{AllocError, Global};
+use std::collections::HashSet;
+use ut_image::Drawn;
+use ut_value::Row;
+
+/// The ids of the rows in the deltas.
+pub(crate) fn delta_ids(alloc: Global, tables: &[Drawn]) -> Result<Vec<u32>, AllocError>
+    ensures { IfOk result (λ ids. ids.items ≡ ids_of tables.now) }
+{
+    let mut ids = Vec::new(alloc);
+    for drawn in tables {
+        add_ids(&mut ids, drawn.l2.as_slice())?;
+        add_ids(&mut ids, drawn.l1.as_slice())?;
+    }
+    Ok(ids)
+}
+
+fn add_ids(ids: &mut Vec<u32>, rows: &[Row]) -> Result<(), AllocError>
+    ensures { OnOk result (ids.new.items ≡ ids.old.items ++ map (λ r. r.id) rows.now) }
+{
+    for row in rows {
+        ids.push(row.id)?;
+    }
+    Ok(())
+}
+
+/// Whether these are ids from 1 to the one before the next, no two equal.
+pub(crate) fn are_own_ids(alloc: Global, ids: &[u32], next: u32) -> Result<bool, AllocError>
+    ensures { IfOk result (λ b. IsTrue b ↔ AreOwnIds next ids.now) }
+{
+    if !are_within(ids, next) {
+        return Ok(false);
+    }
+    do_differ(alloc, ids)
+}
+
+fn are_within(ids: &[u32], next: u32) -> bool
+    ensures { IsTrue result ↔ All (λ id. (1 ≤ id) × (id < next)) ids.now }
+{
+    ids.iter().all(|id| *id >= 1 && *id < next)
+}
+
+fn set_of(alloc: Global, ids: &[u32]) -> Result<HashSet<u32>, AllocError>
+    ensures { IfOk result (IsFromIterResult nat_eq ids.now) }
+{
+    ids.iter().copied().collect(alloc)
+}
+
+fn do_differ(alloc: Global, ids: &[u32]) -> Result<bool, AllocError>
+    ensures { IfOk result (λ b. Decides b (AllPairs (λ a b. a ≢ b) ids.now)) }
+{
+    let set = set_of(alloc, ids)?;
+    Ok(set.len() == ids.len())
+}

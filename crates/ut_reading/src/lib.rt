@@ -1,0 +1,12 @@
+//! Reads the image that the selected root names: its directory, and the parts that this names.
+#![tactic(auto)]
+
+mod ids;
+mod image;
+mod laws;
+mod parts;
+#[cfg(test)]
+mod tests;
+
+pub use image::{Image, read_image};
+pub use laws::reading_laws;
