@@ -3,6 +3,8 @@
 #include <errno.h>
 #include <stdio.h>
 #include <stdlib.h>
+#include <sys/syscall.h>
+#include <unistd.h>
 
 extern void *__libc_malloc(size_t);
 extern void *__libc_realloc(void *, size_t);
@@ -19,8 +21,15 @@ __attribute__((destructor)) static void end(void) {
     fprintf(stderr, "allocations %lu\n", calls);
 }
 
+/* A program that may start threads ends by this call, which passes over destructors. */
+void _exit(int status) {
+    end();
+    syscall(SYS_exit_group, status);
+    __builtin_unreachable();
+}
+
 static int is_refused(void) {
-    if (++calls != refused) return 0;
+    if (__atomic_add_fetch(&calls, 1, __ATOMIC_RELAXED) != refused) return 0;
     errno = ENOMEM;
     return 1;
 }
