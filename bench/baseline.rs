@@ -527,6 +527,16 @@ impl CodeVec {
         }
     }
 
+    fn keep_in(&self, ranges: &[(u32, u32)], mask: &mut [u64]) {
+        for k in 0..mask.len() as u32 {
+            let mut bits = 0;
+            for i in (64 * k..self.len().min(64 * k + 64)).rev() {
+                bits = bits << 1 | u64::from(is_in(self.get(i), ranges));
+            }
+            mask[k as usize] &= bits;
+        }
+    }
+
     fn bytes_of(&self, out: &mut Vec<u8>) {
         match &self.shape {
             Shape::Packed(vector) => {
@@ -607,6 +617,15 @@ fn time_codes(subject: &str, pattern: Pattern, count: u32, reach: u32) {
     let start = Instant::now();
     vector.places_in(&[(0, reach / 2)], &mut places);
     say(subject, "places_in_low", start, places.len() as u64);
+    let places = |mask: &[u64]| mask.iter().map(|word| u64::from(word.count_ones())).sum();
+    let mut mask = vec![u64::MAX; (vector.len() as usize + 63) / 64];
+    let start = Instant::now();
+    vector.keep_in(&[(reach / 4, reach / 2)], &mut mask);
+    say(subject, "keep_in", start, places(&mask));
+    let mut mask = vec![u64::MAX; (vector.len() as usize + 63) / 64];
+    let start = Instant::now();
+    vector.keep_in(&[(0, reach / 4), (reach / 2, reach)], &mut mask);
+    say(subject, "keep_in_but", start, places(&mask));
     let mut bytes = Vec::new();
     let start = Instant::now();
     vector.bytes_of(&mut bytes);

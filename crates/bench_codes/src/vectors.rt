@@ -9,6 +9,7 @@ use std::alloc::Global;
 use std::rt::Clock;
 use std::time::Instant;
 use ut_codes::{CodeVec, width_of};
+use ut_mask::Mask;
 use ut_packed::Packed;
 
 /// The sum of all codes, read in order.
@@ -55,6 +56,25 @@ fn time_packing<R: Print + Eprint + Clock>(
     say(rt, subject, "pack", start, u64::from(packed.len()))
 }
 
+/// Times the scans that narrow a mask, by one range and by two.
+fn time_masks<R: Print + Eprint + Clock>(
+    rt: &R,
+    alloc: Global,
+    subject: &str,
+    vector: &CodeVec,
+    reach: u32,
+) -> Result<()> {
+    let rows = vector.len();
+    let mut mask = Mask::new(alloc, rows)?;
+    let start = Instant::now(rt)?;
+    vector.keep_in(&[(reach / 4, reach / 2)], &mut mask);
+    say(rt, subject, "keep_in", start, u64::from(mask.count()))?;
+    let mut but = Mask::new(alloc, rows)?;
+    let start = Instant::now(rt)?;
+    vector.keep_in(&[(0, reach / 4), (reach / 2, reach)], &mut but);
+    say(rt, subject, "keep_in_but", start, u64::from(but.count()))
+}
+
 fn time_calls<R: Print + Eprint + Clock>(
     rt: &R,
     alloc: Global,
@@ -79,6 +99,7 @@ fn time_calls<R: Print + Eprint + Clock>(
     let start = Instant::now(rt)?;
     vector.places_in(&[(0, reach / 2)], &mut low)?;
     say(rt, subject, "places_in_low", start, low.len() as u64)?;
+    time_masks(rt, alloc, subject, &vector, reach)?;
     let mut bytes = Vec::new(alloc);
     let start = Instant::now(rt)?;
     vector.bytes_of(&mut bytes)?;

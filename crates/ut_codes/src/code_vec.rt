@@ -1,6 +1,7 @@
-ghost use Rattle.std.specs.Prelude.{◌≡◌, ◌^◌, ◌<◌, ◌≤◌, length, slice_index, take, List, ℕ, ◌≢◌, IfOk, IfSome, IfNone, OnOk, OnErr, ◌++◌};
+ghost use Rattle.std.specs.Prelude.{◌≡◌, ◌^◌, ◌<◌, ◌≤◌, length, slice_index, take, map, List, ℕ, ◌≢◌, IfOk, IfSome, IfNone, OnOk, OnErr, ◌++◌};
 ghost use Rattle.ut_bits.specs.Bits.{AllBelow};
 ghost use Rattle.ut_bits.specs.Places.{is_in, places_where};
+ghost use Rattle.ut_mask.specs.Mask.{both};
 ghost use Rattle.ut_codes.specs.Sizes.{code_width};
 ghost use Rattle.ut_codes.specs.Forms.{form_of, code_bytes, byte_of, bytes_in};
 ghost use Rattle.ut_codes.specs.Shapes.{coded_in, form_in};
@@ -10,6 +11,7 @@ use crate::form::{Form, width_of};
 use crate::reading::{is_least, shape_from};
 use std::alloc::{AllocError, Global};
 use std::marker::Model;
+use ut_mask::Mask;
 use ut_packed::Packed;
 use ut_rle::Runs;
 use ut_sparse::Sparse;
@@ -129,6 +131,18 @@ impl CodeVec {
             Shape::Packed(vector) => vector.places_in(ranges, out),
             Shape::Runs(vector) => vector.places_in(ranges, out),
             Shape::Sparse(vector) => vector.places_in(ranges, out),
+        }
+    }
+
+    /// Keeps of a mask the places whose code stands in one of the ranges.
+    pub fn keep_in(&self, ranges: &[(u32, u32)], mask: &mut Mask)
+        requires { length mask.old ≡ length self.now.codes }
+        ensures { mask.new ≡ both mask.old (map (is_in ranges.now) self.now.codes) }
+    {
+        match &self.shape {
+            Shape::Packed(vector) => vector.keep_in(ranges, mask),
+            Shape::Runs(vector) => vector.keep_in(ranges, mask),
+            Shape::Sparse(vector) => vector.keep_in(ranges, mask),
         }
     }
 

@@ -3,6 +3,7 @@ use crate::choice::{are_below, count_runs};
 use std::alloc::Global;
 use std::process::Abort;
 use std::test::Fail;
+use ut_mask::Mask;
 use ut_sparse::most_frequent;
 
 /// The sizes in bits of the packed form, of runs and of the sparse form.
@@ -85,5 +86,45 @@ fn few_exceptions_are_sparse(rt: HostRuntime) -> Result<(), Fail> {
     assert_eq!(rt; sizes(&rt, alloc, codes, 11)?, [400, 1344, 140]);
     let bytes = written(&rt, alloc, codes, 11, Form::Sparse)?;
     assert_eq!(rt; bytes.len(), 1 + 4 + 13 + 5);
+    Ok(())
+}
+
+/// How many places a mask keeps of a vector of the codes.
+fn kept(
+    rt: &impl Abort,
+    alloc: Global,
+    codes: &[u32],
+    form: Form,
+    ranges: &[(u32, u32)],
+) -> Result<u32, Fail> {
+    assert!(rt; codes.len() <= 1 << 31);
+    assert!(rt; are_below(codes, 128));
+    let vector = CodeVec::from_codes(alloc, codes, 128)?;
+    assert_eq!(rt; vector.form(), form);
+    let mut mask = Mask::new(alloc, vector.len())?;
+    assert!(rt; mask.len() == vector.len());
+    vector.keep_in(ranges, &mut mask);
+    Ok(mask.count())
+}
+
+#[test]
+fn a_mask_keeps_the_places_in_ranges(rt: HostRuntime) -> Result<(), Fail> {
+    let alloc = rt.alloc();
+    let mut cycles = Vec::new(alloc);
+    let mut steps = Vec::new(alloc);
+    let mut zeros = Vec::new(alloc);
+    for i in 0..1000u32 {
+        cycles.push(i % 128)?;
+        steps.push(i / 100)?;
+        zeros.push(if i % 20 == 0 { i / 20 + 1 } else { 0 })?;
+    }
+    for (codes, form, ranges, count) in [
+        (cycles.as_slice(), Form::Packed, [(0, 5), (100, 101)], 48),
+        (steps.as_slice(), Form::Runs, [(0, 5), (100, 101)], 500),
+        (zeros.as_slice(), Form::Sparse, [(0, 5), (100, 101)], 954),
+        (zeros.as_slice(), Form::Sparse, [(3, 9), (40, 60)], 17),
+    ] {
+        assert_eq!(rt; kept(&rt, alloc, codes, form, &ranges)?, count);
+    }
     Ok(())
 }

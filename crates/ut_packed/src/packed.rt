@@ -1,10 +1,13 @@
-ghost use Rattle.std.specs.Prelude.{◌≡◌, ◌^◌, ◌<◌, ◌≤◌, length, slice_index, IfOk, IfSome, IfNone, OnOk, OnErr, ◌++◌, ◌∷◌, [], ◌≢◌, List, ℕ, take};
+ghost use Rattle.std.specs.Prelude.{◌≡◌, ◌^◌, ◌<◌, ◌≤◌, length, slice_index, IfOk, IfSome, IfNone, OnOk, OnErr, ◌++◌, ◌∷◌, [], ◌≢◌, List, ℕ, take, map};
 ghost use Rattle.ut_bits.specs.Bits.{AllBelow, packed_bytes};
 ghost use Rattle.ut_bits.specs.Places.{is_in, places_where};
+ghost use Rattle.ut_mask.specs.Mask.{both};
 
+use crate::masks::keep_words;
 use std::alloc::{AllocError, Global};
 use std::marker::Model;
 use ut_bits::{BitList, is_in};
+use ut_mask::Mask;
 
 /// A vector of codes of `width` bits each, one behind the other.
 #[derive(Drop)]
@@ -65,6 +68,14 @@ impl Packed {
             return places_between(&self.list, ranges[0], out);
         }
         places_among(&self.list, ranges, out)
+    }
+
+    /// Keeps of a mask the places whose code stands in one of the ranges.
+    pub fn keep_in(&self, ranges: &[(u32, u32)], mask: &mut Mask)
+        requires { length mask.old ≡ length self.now.codes }
+        ensures { mask.new ≡ both mask.old (map (is_in ranges.now) self.now.codes) }
+    {
+        keep_words(&self.list, ranges, mask);
     }
 
     /// Appends all codes in order.

@@ -227,3 +227,13 @@ below-codes limit other at (r ∷ rs) h =
     first : (limit n c : ℕ) (ys : List ℕ) → 0 < n → AllBelow limit (copies n c ++ ys) → c < limit
     first limit zero c ys pos h = absurd (omega arith)
     first limit (suc n) c ys pos h = h.0
+
+-- no run ends behind the last one
+end-behind : (at : ℕ) (rs : List Run) → Ascend at rs → at ≤ end_from at rs
+end-behind at [] h = omega arith
+end-behind at (r ∷ rs) h = omega (arith, h.0, end-behind r.end rs h.1)
+
+pub end-within : (at : ℕ) (rs : List Run) (k : ℕ) (d : Run) → Ascend at rs → k < length rs → (get_or rs k d).end ≤ end_from at rs
+end-within at [] k d h within = absurd (omega (arith, within))
+end-within at (r ∷ rs) zero d h within = end-behind r.end rs h.1
+end-within at (r ∷ rs) (suc k) d h within = end-within r.end rs k d h.1 (omega (arith, within))

@@ -1,14 +1,18 @@
-ghost use Rattle.std.specs.Prelude.{◌≡◌, ◌^◌, ◌<◌, ◌≤◌, ◌↔◌, IsTrue, length, slice_index, IfOk, IfSome, IfNone, OnOk, OnErr, ◌++◌, ◌∷◌, [], ◌≢◌, List, ℕ, take};
+ghost use Rattle.std.specs.Prelude.{◌≡◌, ◌^◌, ◌<◌, ◌≤◌, ◌↔◌, IsTrue, length, slice_index, IfOk, IfSome, IfNone, OnOk, OnErr, ◌++◌, ◌∷◌, [], ◌≢◌, List, ℕ, take, map};
 ghost use Rattle.ut_bits.specs.Bits.{AllBelow};
 ghost use Rattle.ut_bits.specs.Places.{is_in, places_where};
 ghost use Rattle.ut_rle.specs.Runs.{runs_of, run_bytes};
+ghost use Rattle.ut_mask.specs.Mask.{both};
 
 use crate::reading::read_runs;
 use crate::run::Run;
-use crate::scan::{append_codes, append_entries, append_places_in, codes_are_below, run_at};
+use crate::scan::{
+    append_codes, append_entries, append_places_in, codes_are_below, keep_runs, run_at,
+};
 use std::alloc::{AllocError, Global};
 use std::marker::Model;
 use ut_bits::{append_word, read_word};
+use ut_mask::Mask;
 
 /// A vector of codes by its runs, in order.
 #[derive(Drop)]
@@ -109,6 +113,14 @@ impl Runs {
         ensures err { OnErr result (out.new.items ≡ out.old.items) }
     {
         append_places_in(self.runs.as_slice(), ranges, out)
+    }
+
+    /// Keeps of a mask the places whose code stands in one of the ranges, run by run.
+    pub fn keep_in(&self, ranges: &[(u32, u32)], mask: &mut Mask)
+        requires { length mask.old ≡ length self.now.codes }
+        ensures { mask.new ≡ both mask.old (map (is_in ranges.now) self.now.codes) }
+    {
+        keep_runs(self.runs.as_slice(), ranges, mask);
     }
 
     /// Appends all codes in order.

@@ -3,10 +3,12 @@ ghost use Rattle.std.specs.List.{list_all};
 ghost use Rattle.ut_bits.specs.Places.{is_in, places_where};
 ghost use Rattle.ut_rle.specs.Runs.{entries_of, expanded};
 ghost use Rattle.ut_rle.specs.Ends.{lengths_from, end_from, Ascend};
+ghost use Rattle.ut_mask.specs.Mask.{both};
 
 use crate::run::Run;
 use std::alloc::AllocError;
 use ut_bits::{append_range, append_words, is_in};
+use ut_mask::Mask;
 
 /// The place of the run that holds a row.
 pub fn run_at(runs: &[Run], i: u32) -> usize
@@ -60,6 +62,19 @@ pub fn append_places_in(
         from = run.end;
     }
     Ok(())
+}
+
+/// Keeps of a mask the places whose code stands in one of the ranges, run by run.
+pub fn keep_runs(runs: &[Run], ranges: &[(u32, u32)], mask: &mut Mask)
+    requires order { Ascend 0 runs.now }
+    requires length { length mask.old ≡ length (expanded (lengths_from 0 runs.now)) }
+    ensures { mask.new ≡ both mask.old (map (is_in ranges.now) (expanded (lengths_from 0 runs.now))) }
+{
+    let mut from = 0;
+    for run in runs {
+        mask.keep_range(from, run.end, is_in(run.code, ranges));
+        from = run.end;
+    }
 }
 
 /// Appends the codes that the runs stand for.

@@ -1,10 +1,12 @@
-ghost use Rattle.std.specs.Prelude.{◌≡◌, ◌+◌, ◌*◌, ◌<◌, ◌≤◌, ◌++◌, length, take, drop, false, true, OnOk, OnErr};
+ghost use Rattle.std.specs.Prelude.{◌≡◌, ◌+◌, ◌*◌, ◌<◌, ◌≤◌, ◌++◌, length, take, drop, map, false, true, OnOk, OnErr};
 ghost use Rattle.ut_bits.specs.Places.{is_in, places_where, places_from};
+ghost use Rattle.ut_mask.specs.Mask.{both};
 ghost use Rattle.ut_sparse.specs.Sparse.{AreRanks, IsPaired, marked, merged};
 
 use crate::marks::next_mark;
 use std::alloc::AllocError;
 use ut_bits::{BitList, append_range, is_in};
+use ut_mask::Mask;
 
 /// Appends the places whose code stands in one of the ranges, one of which holds the code that is
 /// left out: from one mark to the next, with all rows between them.
@@ -112,4 +114,27 @@ pub fn append_others_in(
         }
     }
     Ok(())
+}
+
+/// Keeps of a mask the places whose code stands in one of the ranges: from one mark to the next.
+pub fn keep_marked(
+    left_out: u32,
+    marks: &BitList,
+    others: &BitList,
+    ranges: &[(u32, u32)],
+    mask: &mut Mask,
+)
+    requires marks { IsPaired marks.now others.now }
+    requires length { length mask.old ≡ length marks.now.codes }
+    ensures { mask.new ≡ both mask.old (map (is_in ranges.now) (merged left_out marks.now.codes others.now.codes)) }
+{
+    let stays = is_in(left_out, ranges);
+    let mut from = 0;
+    for rank in 0..others.len() {
+        let mark = next_mark(marks, from);
+        mask.keep_range(from, mark, stays);
+        mask.keep_range(mark, mark + 1, is_in(others.get(rank), ranges));
+        from = mark + 1;
+    }
+    mask.keep_range(from, marks.len(), stays);
 }

@@ -1,15 +1,17 @@
-ghost use Rattle.std.specs.Prelude.{◌≡◌, ◌+◌, ◌^◌, ◌<◌, ◌≤◌, length, slice_index, IfOk, IfSome, IfNone, OnOk, OnErr, ◌++◌, ◌≢◌, List, ℕ, take};
+ghost use Rattle.std.specs.Prelude.{◌≡◌, ◌+◌, ◌^◌, ◌<◌, ◌≤◌, length, slice_index, IfOk, IfSome, IfNone, OnOk, OnErr, ◌++◌, ◌≢◌, List, ℕ, take, map};
 ghost use Rattle.ut_bits.specs.Bits.{AllBelow};
 ghost use Rattle.ut_bits.specs.Places.{is_in, places_where};
+ghost use Rattle.ut_mask.specs.Mask.{both};
 ghost use Rattle.ut_sparse.specs.Frequent.{count_of, most_frequent, IsMostFrequent};
 ghost use Rattle.ut_sparse.specs.Sparse.{sparse_bytes, marked, merged};
 
 use crate::frequent::{Frequency, most_frequent};
 use crate::marks::{code_here, marked_rows, merged_codes, rank_at, ranks_of};
-use crate::scan::{append_all_in, append_others_in};
+use crate::scan::{append_all_in, append_others_in, keep_marked};
 use std::alloc::{AllocError, Global};
 use std::marker::Model;
 use ut_bits::{BitList, BitListWriter, append_word, is_in, read_word};
+use ut_mask::Mask;
 
 /// A vector of codes without the most frequent one: a bit for each row marks where another code
 /// stands, and these codes follow in order.
@@ -135,6 +137,14 @@ impl Sparse {
             ranges,
             out,
         )
+    }
+
+    /// Keeps of a mask the places whose code stands in one of the ranges.
+    pub fn keep_in(&self, ranges: &[(u32, u32)], mask: &mut Mask)
+        requires { length mask.old ≡ length self.now.codes }
+        ensures { mask.new ≡ both mask.old (map (is_in ranges.now) self.now.codes) }
+    {
+        keep_marked(self.left_out, &self.marks, &self.others, ranges, mask);
     }
 
     /// Appends the code that is left out, the marks and the other codes.

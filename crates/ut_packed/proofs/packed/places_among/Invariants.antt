@@ -1,4 +1,4 @@
-use Rattle.std.proofs.Common.{◌≡◌, ◌++◌, take, [], ◌∷◌}
+use Rattle.std.proofs.Common.{◌≡◌, ◌++◌, take}
 use Rattle.ut_bits.specs.Places.{places_where, is_in}
 use Rattle.ut_packed.proofs.packed.places_among.Given as goal
 

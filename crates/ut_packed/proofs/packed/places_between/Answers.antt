@@ -1,6 +1,6 @@
-use Rattle.std.proofs.Common.{◌≡◌, ◌+◌, ◌<◌, ◌≤◌, ◌++◌, length, arith, ap, sym, ◌∙◌, ℕ, take, get_or, [], ◌∷◌, true, false, append_assoc, append-nil, List}
+use Rattle.std.proofs.Common.{◌≡◌, ◌+◌, ◌<◌, ◌++◌, length, arith, ap, sym, ◌∙◌, ℕ, take, get_or, [], ◌∷◌, append_assoc, append-nil, List}
 use Rattle.std.proofs.lemmas.List.{take_all}
-use Rattle.ut_bits.specs.Places.{places_from, places_where, is_in}
+use Rattle.ut_bits.specs.Places.{places_from, is_in}
 use Rattle.ut_bits.proofs.PlacesLemmas.{places_from-take, places_from-one, places_from-none}
 use Rattle.ut_packed.proofs.packed.places_between.Goals as goal
 use Rattle.ut_packed.proofs.packed.places_between.Goals.{then-is_between+in-Ok, else-is_between}

@@ -1,0 +1,4 @@
+pub mod BitLemmas
+pub mod KeptLemmas
+pub mod WordsLemmas
+pub mod ScanLemmas
