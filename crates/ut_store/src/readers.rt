@@ -1,13 +1,15 @@
 //! What the store holds, for the layers above.
 ghost use Rattle.std.specs.Prelude.{◌≡◌, IfOk, All, IsSome, length, map, option_map, slice_get};
+ghost use Rattle.ut_table.specs.Contents.{TableValue};
 ghost use Rattle.ut_table.specs.Finds.{AreThere};
 ghost use Rattle.ut_store.specs.Listed.{Lists, row_in};
 ghost use Rattle.ut_store.specs.Standing.{Stands};
 
 use crate::store::Store;
 use std::alloc::{AllocError, Global};
-use ut_plain::place_of;
+use ut_plain::{Table, place_of};
 use ut_scan::Found;
+use ut_stamps::Fates;
 use ut_table::Table as Stages;
 use ut_value::{Name, Row, Seq};
 
@@ -35,6 +37,27 @@ impl Store {
         ensures { result ≡ length self.now.tables }
     {
         self.tables.len()
+    }
+
+    /// The name and the columns of each table, in order of creation.
+    pub fn tables(&self) -> &[Table]
+        ensures { result.now ≡ self.now.tables }
+    {
+        self.tables.as_slice()
+    }
+
+    /// The stages of each table, in the same order.
+    pub fn stages(&self) -> &[Stages]
+        ensures { map (λ (t : TableValue). t.stages) result.now ≡ self.now.staged }
+    {
+        self.stages.as_slice()
+    }
+
+    /// What became of each transaction.
+    pub fn fates(&self) -> &Fates
+        ensures { result.now ≡ self.now.fates }
+    {
+        &self.fates
     }
 
     /// The name of the table at a place in order of creation.
