@@ -12,7 +12,7 @@ ghost use Rattle.ut_durable.specs.Calls.{IsSettled, Gains, MayGain, Stays, Becom
 
 use std::alloc::{AllocError, Global};
 use std::marker::Model;
-use ut_outside::{Disk, Failed};
+use ut_outside::{Disk, Failed, Which};
 use ut_pages::{Pages, Root};
 use ut_redo::{Frame, Redo};
 
@@ -37,6 +37,13 @@ impl Durable {
         ensures { result ≡ record { log = redo; slot = pages.slot; reached = pages.reached } }
     {
         Durable { redo, pages }
+    }
+
+    /// Where the next frame goes.
+    pub fn place(&self) -> (Which, u64)
+        ensures { result ≡ (self.now.log.file, self.now.log.end) }
+    {
+        self.redo.place()
     }
 
     /// Adds a frame's entry to the journal. At Err open the store again.
