@@ -1,0 +1,4 @@
+pub mod StandLemmas
+pub mod InsertLemmas
+pub mod MergeLemmas
+pub mod StepLaws
