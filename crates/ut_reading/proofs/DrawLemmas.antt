@@ -1,5 +1,5 @@
 -- A directory of what stands in a page file in keys.
-use Rattle.std.proofs.Common.{◌≡◌, inl, inr, ℕ, ◌+◌, ◌<◌, ◌≤◌, ◌^◌, Bool, true, false, not, ◌&&◌, nat_eq, nat_le, List, [], ◌∷◌, ◌++◌, length, map, IsTrue, None, refl, sym, ◌∙◌, ap, subst, arith, All}
+use Rattle.std.proofs.Common.{◌≡◌, ◌⊎◌, inl, inr, ℕ, ◌+◌, ◌<◌, ◌≤◌, ◌^◌, Bool, true, false, not, ◌&&◌, nat_eq, nat_le, List, [], ◌∷◌, ◌++◌, length, map, IsTrue, None, refl, sym, ◌∙◌, ap, subst, arith, All}
 use Rattle.std.specs.Prelude.{Contains}
 use Rattle.std.specs.List.{AllByRecursion, AllZip, sum_by, flat_map, list_all}
 use Rattle.std.proofs.lemmas.Bool.{and_parts, eqb-true, ltb-true, leb-true}
@@ -24,15 +24,15 @@ use Rattle.ut_image.specs.Bytes.{image_bytes}
 use Rattle.ut_image.specs.Rules.{is_row, are_rows, are_cells, is_u64, is_part, are_parts, is_head, is_drawn, ids_in, ids_of, AreOwnIds, drawn_differ}
 use Rattle.ut_pages.specs.declared.slot.Slot.{Slot}
 use Rattle.ut_pages.specs.declared.root.Root.{Root}
-use Rattle.ut_pages.specs.Layout.{IsRead}
-use Rattle.ut_durable.specs.Rules.{IsImageRow, IsDelta, IsImageTable, image_ids}
-use Rattle.ut_durable.specs.Bytes.{Chain, row_in, key_rows, main_of, part_ref, part_refs, live_marks, HoldsPart, HoldParts, drawn, drawn_all, HoldTables, no_directory}
+use Rattle.ut_pages.specs.Layout.{IsRead, IsRoot}
+use Rattle.ut_durable.specs.Rules.{IsImageRow, IsDelta, IsImageTable, IsDirectory, image_ids}
+use Rattle.ut_durable.specs.Bytes.{Chain, row_in, key_rows, main_of, part_ref, part_refs, live_marks, HoldsPart, HoldParts, drawn, drawn_all, HoldTables, Describes, no_directory}
 use Rattle.ut_durable.specs.Images.{StandsIn, IsWithin, HasImage}
-use Rattle.ut_reading.specs.Standing.{part_of, StandsPart, StandParts, StandsMain, live_in_mains, AreDrawnIn, StandsImage}
-use Rattle.ut_reading.specs.Reading.{mains_of, Show}
-use Rattle.ut_reading.proofs.ListLemmas.{all_places, all_each, all_first, all_last, all_both}
+use Rattle.ut_reading.specs.Standing.{part_of, IsReached, IsAnywhere, PartFits, PartsFit, MainFits, StandsMain, live_in_mains, AreDrawnIn, StandsImage}
+use Rattle.ut_reading.specs.Reading.{mains_of, Show, Begins}
+use Rattle.ut_reading.proofs.ListLemmas.{all_places, all_each, all_first, all_last, all_both, all_map}
 use Rattle.ut_reading.proofs.PartLemmas.{rows_before, one_more}
-use Rattle.ut_reading.proofs.RuleLemmas.{refs_long, all_long, differ_same, deltas_same, live_same}
+use Rattle.ut_reading.proofs.RuleLemmas.{no_rules, refs_long, all_long, differ_same, deltas_same, live_same}
 use Rattle.ut_reading.proofs.KeyLemmas.{cells_of_keys}
 
 -- ---- a row
@@ -73,10 +73,10 @@ rows_keyed columns [] wide kinds = tt
 rows_keyed columns (r ∷ rows) wide kinds = ((wide.0, λ j lt. (kinds j lt).0), rows_keyed columns rows wide.1 (λ j lt. (kinds j lt).1))
 
 -- what was read of a part
-part_drawn : (columns : List Column) (earlier : List (List Placed)) (ref : PartRef) (rows : List KeyRow) (reached file : List ℕ) → IsTrue (is_part ref) → All (HaveKinds columns) (map key_rows earlier)
-    → StandsPart columns (main_of (length columns) earlier) ref rows reached file
-    → (part : List Placed) × (chain : Chain) × AllByRecursion (IsImageRow columns) part × (key_rows part ≡ rows) × (part_ref chain part ≡ ref) × HoldsPart (length columns) earlier chain part × StandsIn file chain × IsWithin reached chain
-part_drawn columns earlier ref rows reached file is kinds s =
+part_drawn : (columns : List Column) (earlier : List (List Placed)) (ref : PartRef) (rows : List KeyRow) (Stands : Chain → Type 0) → IsTrue (is_part ref) → All (HaveKinds columns) (map key_rows earlier)
+    → PartFits Stands columns (main_of (length columns) earlier) ref rows
+    → (part : List Placed) × (chain : Chain) × AllByRecursion (IsImageRow columns) part × (key_rows part ≡ rows) × (part_ref chain part ≡ ref) × HoldsPart (length columns) earlier chain part × Stands chain
+part_drawn columns earlier ref rows Stands is kinds s =
     let rule = and_parts (is_u32 ref.first) (is_u64 ref.length && (is_u32 ref.rows && nat_eq (length ref.live) ref.rows)) is in
     let rule2 = and_parts (is_u64 ref.length) (is_u32 ref.rows && nat_eq (length ref.live) ref.rows) rule.1 in
     let rule3 = and_parts (is_u32 ref.rows) (nat_eq (length ref.live) ref.rows) rule2.1 in
@@ -97,7 +97,6 @@ part_drawn columns earlier ref rows reached file is kinds s =
         long = subst (λ (n : ℕ). n < 2 ^ 64) (sym s.long) (ltb-true ref.length 18446744073709551616 rule2.0);
       },
       s.stands,
-      s.within,
     )
 
 -- ---- parts
@@ -105,35 +104,34 @@ part_drawn columns earlier ref rows reached file is kinds s =
 abbrev AreKinds : List Column → List (List Placed) → Type 0
 AreKinds columns earlier = AllByRecursion (HaveKinds columns) (map key_rows earlier)
 
-record DrawnParts (columns : List Column) (earlier : List (List Placed)) (refs : List PartRef) (rows : List (List KeyRow)) (reached file : List ℕ) : Type 0 where
+record DrawnParts (columns : List Column) (earlier : List (List Placed)) (refs : List PartRef) (rows : List (List KeyRow)) (Stands : Chain → Type 0) : Type 0 where
   parts : List (List Placed)
   chains : List Chain
   are : AllByRecursion (AllByRecursion (IsImageRow columns)) parts
   keys : map key_rows parts ≡ rows
   named : part_refs chains parts ≡ refs
   hold : HoldParts (length columns) earlier chains parts
-  stand : AllByRecursion (StandsIn file) chains
-  within : AllByRecursion (IsWithin reached) chains
+  stand : AllByRecursion Stands chains
   few : sum_by length earlier + sum_by length parts ≤ 2147483647
 
-parts_drawn : (columns : List Column) (earlier : List (List Placed)) (refs : List PartRef) (rows : List (List KeyRow)) (reached file : List ℕ) → IsTrue (list_all is_part refs) → AreKinds columns earlier → sum_by length earlier ≤ 2147483647
-    → StandParts columns (main_of (length columns) earlier) refs rows reached file → DrawnParts columns earlier refs rows reached file
-parts_drawn columns earlier [] [] reached file are kinds few stand = record { parts = []; chains = []; are = tt; keys = refl; named = refl; hold = tt; stand = tt; within = tt; few = omega (arith, few) }
-parts_drawn columns earlier [] (r ∷ rows) reached file are kinds few stand = absurd stand
-parts_drawn columns earlier (ref ∷ refs) [] reached file are kinds few stand = absurd stand
-parts_drawn columns earlier (ref ∷ refs) (r ∷ rows) reached file are kinds few stand =
+parts_drawn : (columns : List Column) (earlier : List (List Placed)) (refs : List PartRef) (rows : List (List KeyRow)) (Stands : Chain → Type 0) → IsTrue (list_all is_part refs) → AreKinds columns earlier → sum_by length earlier ≤ 2147483647
+    → PartsFit Stands columns (main_of (length columns) earlier) refs rows → DrawnParts columns earlier refs rows Stands
+parts_drawn columns earlier [] [] Stands are kinds few stand = record { parts = []; chains = []; are = tt; keys = refl; named = refl; hold = tt; stand = tt; few = omega (arith, few) }
+parts_drawn columns earlier [] (r ∷ rows) Stands are kinds few stand = absurd stand
+parts_drawn columns earlier (ref ∷ refs) [] Stands are kinds few stand = absurd stand
+parts_drawn columns earlier (ref ∷ refs) (r ∷ rows) Stands are kinds few stand =
     let both = and_parts (is_part ref) (list_all is_part refs) are in
     let main : MainValue = main_of (length columns) earlier in
     let all = all_places (HaveKinds columns) (map key_rows earlier) kinds in
-    let p = part_drawn columns earlier ref r reached file both.0 all stand.0 in
+    let p = part_drawn columns earlier ref r Stands both.0 all stand.0 in
     let have : HaveKinds columns r = kinds-follow columns main (part_of main r) refl stand.0.may all in
     let more : map key_rows (earlier ++ p.0 ∷ []) ≡ map key_rows earlier ++ r ∷ [] = map-append key_rows earlier (p.0 ∷ []) ∙ ap (λ (l : List KeyRow). map key_rows earlier ++ l ∷ []) p.3 in
     let now : AreKinds columns (earlier ++ p.0 ∷ []) = subst (AllByRecursion (HaveKinds columns)) (sym more) (all_both (HaveKinds columns) (map key_rows earlier) (r ∷ []) kinds (have, tt)) in
     let stand_few = stand.0.may.few in
     let size : sum_by length (earlier ++ p.0 ∷ []) ≤ 2147483647 =
     omega (arith, sum_by-append length earlier (p.0 ∷ []), sum_by-cons length p.0 [], stand_few, rows_before (length columns) earlier, ap (λ (l : List KeyRow). length l) p.3, length-map p.0 (λ (q : Placed). keyed (row_in q))) in
-    let stand_rest : StandParts columns (main_of (length columns) (earlier ++ p.0 ∷ [])) refs rows reached file = subst (λ (l : List (List KeyRow)). StandParts columns (record { width = length columns; parts = l }) refs rows reached file) (sym more) stand.1 in
-    let rest = parts_drawn columns (earlier ++ p.0 ∷ []) refs rows reached file both.1 now size stand_rest in
+    let stand_rest : PartsFit Stands columns (main_of (length columns) (earlier ++ p.0 ∷ [])) refs rows = subst (λ (l : List (List KeyRow)). PartsFit Stands columns (record { width = length columns; parts = l }) refs rows) (sym more) stand.1 in
+    let rest = parts_drawn columns (earlier ++ p.0 ∷ []) refs rows Stands both.1 now size stand_rest in
     let rest_few = rest.few in
     record {
       parts = p.0 ∷ rest.parts;
@@ -143,7 +141,6 @@ parts_drawn columns earlier (ref ∷ refs) (r ∷ rows) reached file are kinds f
       named = λ i. p.4 i ∷ rest.named i;
       hold = (p.5, rest.hold);
       stand = (p.6, rest.stand);
-      within = (p.7, rest.within);
       few = omega (arith, rest_few, one_more earlier p.0 rest.parts);
     }
 
@@ -181,24 +178,23 @@ delta_drawn columns next rows low is ids =
 
 -- ---- a table
 
-record DrawnTable (t : Drawn) (main : MainValue) (reached file : List ℕ) : Type 0 where
+record DrawnTable (t : Drawn) (main : MainValue) (Stands : Chain → Type 0) : Type 0 where
   stages : TableStages
   chains : List Chain
   is : IsImageTable t.table.columns stages
   drawn : drawn t.table chains stages ≡ t
   keys : main_of (length t.table.columns) stages.parts ≡ main
   hold : HoldParts (length t.table.columns) [] chains stages.parts
-  stand : AllByRecursion (StandsIn file) chains
-  within : AllByRecursion (IsWithin reached) chains
+  stand : AllByRecursion Stands chains
 
-table_drawn : (t : Drawn) (main : MainValue) (next : ℕ) (reached file : List ℕ) → next ≤ 2147483649 → IsTrue (is_drawn t) → AreBelow next (ids_in t) → StandsMain reached file t main → DrawnTable t main reached file
-table_drawn t main next reached file low is ids s =
+table_drawn : (t : Drawn) (main : MainValue) (next : ℕ) (Stands : Chain → Type 0) → next ≤ 2147483649 → IsTrue (is_drawn t) → AreBelow next (ids_in t) → MainFits Stands t main → DrawnTable t main Stands
+table_drawn t main next Stands low is ids s =
     let columns : List Column = t.table.columns in
     let r1 = and_parts (is_head t.table) (are_parts t.parts && (are_rows columns t.l2 && are_rows columns t.l1)) is in
     let r2 = and_parts (are_parts t.parts) (are_rows columns t.l2 && are_rows columns t.l1) r1.1 in
     let r3 = and_parts (are_rows columns t.l2) (are_rows columns t.l1) r2.1 in
     let r4 = and_parts (nat_le (length t.parts) 8) (list_all is_part t.parts) r2.0 in
-    let p = parts_drawn columns [] t.parts main.parts reached file r4.1 tt (omega arith) s.parts in
+    let p = parts_drawn columns [] t.parts main.parts Stands r4.1 tt (omega arith) s.parts in
     let few = p.few in
     let stages : TableStages = record { l1 = map place_in t.l1; l2 = map place_in t.l2; closed = None; parts = p.parts; keep = [] } in
     record {
@@ -215,12 +211,11 @@ table_drawn t main next reached file low is ids s =
       keys = λ i. record { width = sym s.width i; parts = p.keys i };
       hold = p.hold;
       stand = p.stand;
-      within = p.within;
     }
 
 -- ---- all tables
 
-record DrawnTables (ts : List Drawn) (mains : List MainValue) (reached file : List ℕ) : Type 0 where
+record DrawnTables (ts : List Drawn) (mains : List MainValue) (Stands : Chain → Type 0) : Type 0 where
   tables : List Table
   stages : Stages
   chains : List (List Chain)
@@ -229,18 +224,17 @@ record DrawnTables (ts : List Drawn) (mains : List MainValue) (reached file : Li
   drawn : drawn_all tables chains stages ≡ ts
   keys : mains_of tables stages ≡ mains
   hold : HoldTables tables chains stages
-  stand : AllByRecursion (StandsIn file) (flat_map (λ (c : List Chain). c) chains)
-  within : AllByRecursion (IsWithin reached) (flat_map (λ (c : List Chain). c) chains)
+  stand : AllByRecursion Stands (flat_map (λ (c : List Chain). c) chains)
 
-tables_drawn : (ts : List Drawn) (mains : List MainValue) (next : ℕ) (reached file : List ℕ) → next ≤ 2147483649 → IsTrue (list_all is_drawn ts) → AreBelow next (ids_of ts) → AllZip (StandsMain reached file) ts mains → DrawnTables ts mains reached file
-tables_drawn [] [] next reached file low are ids stand = record { tables = []; stages = []; chains = []; heads = refl; are = tt; drawn = refl; keys = refl; hold = tt; stand = tt; within = tt }
-tables_drawn [] (main ∷ mains) next reached file low are ids stand = absurd stand
-tables_drawn (t ∷ ts) [] next reached file low are ids stand = absurd stand
-tables_drawn (t ∷ ts) (main ∷ mains) next reached file low are ids stand =
+tables_drawn : (ts : List Drawn) (mains : List MainValue) (next : ℕ) (Stands : Chain → Type 0) → next ≤ 2147483649 → IsTrue (list_all is_drawn ts) → AreBelow next (ids_of ts) → AllZip (MainFits Stands) ts mains → DrawnTables ts mains Stands
+tables_drawn [] [] next Stands low are ids stand = record { tables = []; stages = []; chains = []; heads = refl; are = tt; drawn = refl; keys = refl; hold = tt; stand = tt }
+tables_drawn [] (main ∷ mains) next Stands low are ids stand = absurd stand
+tables_drawn (t ∷ ts) [] next Stands low are ids stand = absurd stand
+tables_drawn (t ∷ ts) (main ∷ mains) next Stands low are ids stand =
     let both = and_parts (is_drawn t) (list_all is_drawn ts) are in
     let head = and_parts (is_head t.table) (are_parts t.parts && (are_rows t.table.columns t.l2 && are_rows t.table.columns t.l1)) both.0 in
-    let one = table_drawn t main next reached file low both.0 (all_first (λ (id : ℕ). (1 ≤ id) × (id < next)) (ids_in t) (ids_of ts) ids) stand.0 in
-    let rest = tables_drawn ts mains next reached file low both.1 (all_last (λ (id : ℕ). (1 ≤ id) × (id < next)) (ids_in t) (ids_of ts) ids) stand.1 in
+    let one = table_drawn t main next Stands low both.0 (all_first (λ (id : ℕ). (1 ≤ id) × (id < next)) (ids_in t) (ids_of ts) ids) stand.0 in
+    let rest = tables_drawn ts mains next Stands low both.1 (all_last (λ (id : ℕ). (1 ≤ id) × (id < next)) (ids_in t) (ids_of ts) ids) stand.1 in
     let more : List Chain = flat_map (λ (c : List Chain). c) rest.chains in
     record {
       tables = t.table ∷ rest.tables;
@@ -251,8 +245,61 @@ tables_drawn (t ∷ ts) (main ∷ mains) next reached file low are ids stand =
       drawn = λ i. one.drawn i ∷ rest.drawn i;
       keys = λ i. one.keys i ∷ rest.keys i;
       hold = (one.hold, rest.hold);
-      stand = all_both (StandsIn file) one.chains more one.stand rest.stand;
-      within = all_both (IsWithin reached) one.chains more one.within rest.within;
+      stand = all_both Stands one.chains more one.stand rest.stand;
+    }
+
+-- ---- the directory
+
+-- What was read in keys, wherever its parts stand, shows a directory that an image may have.
+pub record DrawnImage (root : Root) (bytes : List ℕ) (tables : List Drawn) (mains : List MainValue) (Stands : Chain → Type 0) : Type 0 where
+  pub directory : Directory
+  pub chains : List (List Chain)
+  pub rules : IsDirectory root.next root.commits directory
+  pub drawn : drawn_all directory.tables chains directory.stages ≡ tables
+  pub keys : mains_of directory.tables directory.stages ≡ mains
+  pub stand : AllByRecursion Stands (flat_map (λ (c : List Chain). c) chains)
+  pub spelled : ((bytes ≡ []) × (directory ≡ no_directory) × (chains ≡ [])) ⊎ ((bytes ≡ image_bytes tables) × HoldTables directory.tables chains directory.stages)
+
+no_mains : (Stands : Chain → Type 0) (ts : List Drawn) (ms : List MainValue) → ts ≡ [] → AllZip (MainFits Stands) ts ms → ms ≡ []
+no_mains Stands [] [] is all = refl
+no_mains Stands [] (m ∷ ms) is all = absurd all
+no_mains Stands (t ∷ ts) ms is all = cc
+
+pub keys_drawn : (root : Root) (bytes : List ℕ) (tables : List Drawn) (mains : List MainValue) (Stands : Chain → Type 0) → root.next ≤ 2147483649 → AreDrawnIn root bytes tables → AllZip (MainFits Stands) tables mains
+    → AreOwnIds root.next (ids_of tables ++ live_in_mains tables mains) → DrawnImage root bytes tables mains Stands
+keys_drawn root bytes tables mains Stands low (inl none) fit ids = record {
+  directory = no_directory;
+  chains = [];
+  rules = no_rules root.next root.commits;
+  drawn = sym none.1;
+  keys = sym (no_mains Stands tables mains none.1 fit);
+  stand = tt;
+  spelled = inl (none.0, refl, refl);
+}
+keys_drawn root bytes tables mains Stands low (inr some) fit ids =
+    let below : AreBelow root.next (ids_of tables) = all_each (λ (id : ℕ). (1 ≤ id) × (id < root.next)) (ids_of tables) some.1.ids.0 in
+    let all = tables_drawn tables mains root.next Stands low some.1.each below fit in
+    let long : length tables ≡ length all.tables = ap (λ (l : List Drawn). length l) (sym all.drawn) ∙ all_long all.tables all.chains all.stages all.hold in
+    let few = some.1.few in
+    let begun = some.1.begun in
+    let own : ids_of tables ++ live_in_mains tables mains ≡ image_ids all.stages =
+    (λ i. ids_of (sym all.drawn i) ++ live_in_mains (sym all.drawn i) (sym all.keys i))
+    ∙ (λ i. deltas_same all.tables all.chains all.stages all.hold i ++ live_same all.tables all.chains all.stages all.hold i) in
+    record {
+      directory = record { tables = all.tables; stages = all.stages };
+      chains = all.chains;
+      rules = record {
+        few = omega (arith, few, long);
+        begun = omega (arith, begun, long);
+        tables = all.heads;
+        names = sym (differ_same all.tables all.chains all.stages all.hold) ∙ ap drawn_differ all.drawn ∙ some.1.names;
+        stages = all.are;
+        ids = subst (AreOwnIds root.next) own ids;
+      };
+      drawn = all.drawn;
+      keys = all.keys;
+      stand = all.stand;
+      spelled = inr (some.0, all.hold);
     }
 
 -- ---- the whole image
@@ -260,15 +307,12 @@ tables_drawn (t ∷ ts) (main ∷ mains) next reached file low are ids stand =
 -- What was read of a page file in keys is its image.
 pub image_drawn : (slot : Slot) (pages reached : List ℕ) (root : Root) (bytes : List ℕ) (tables : List Drawn) (mains : List MainValue) (file : List ℕ) → IsRead slot pages root bytes file → ((k : ℕ) → Contains pages k → Contains reached k)
     → StandsImage root bytes tables mains reached file → (d : Directory) × Show tables mains d × HasImage slot reached root d file
-image_drawn slot pages reached root bytes tables mains file read within stands = by stands.drawn
-  where
-    low : root.next ≤ 2147483649
-    low = let fits = read.has.rules.allowed.next.1 in omega (arith, fits)
-
-    by : AreDrawnIn root bytes tables → (d : Directory) × Show tables mains d × HasImage slot reached root d file
-    by (inl none) = (
-      no_directory,
-      record { chains = []; drawn = none.1; parts = no_mains tables mains none.1 stands.parts },
+image_drawn slot pages reached root bytes tables mains file read within stands =
+    let fits = read.has.rules.allowed.next.1 in
+    let all : DrawnImage root bytes tables mains (IsReached reached file) = keys_drawn root bytes tables mains (IsReached reached file) (omega (arith, fits)) stands.drawn stands.parts stands.ids in
+    let chains : List Chain = flat_map (λ (c : List Chain). c) all.chains in (
+      all.directory,
+      record { chains = all.chains; drawn = sym all.drawn; parts = sym all.keys },
       record {
         has = read.has;
         image = record {
@@ -277,55 +321,29 @@ image_drawn slot pages reached root bytes tables mains file read within stands =
           ends = read.long;
           stands = read.chain;
           reaches = within;
-          parts = [];
-          each = tt;
-          each_reaches = tt;
-          describes = inl (none.0, refl, refl);
+          parts = chains;
+          each = all_map (IsReached reached file) (StandsIn file) chains (λ c is. is.0) all.stand;
+          each_reaches = all_map (IsReached reached file) (IsWithin reached) chains (λ c is. is.1) all.stand;
+          describes = by all all.spelled;
         };
       },
     )
-      where
-        no_mains : (ts : List Drawn) (ms : List MainValue) → ts ≡ [] → AllZip (StandsMain reached file) ts ms → ms ≡ []
-        no_mains [] [] is all = refl
-        no_mains [] (m ∷ ms) is all = absurd all
-        no_mains (t ∷ ts) ms is all = cc
-    by (inr some) =
-        let below : AreBelow root.next (ids_of tables) = all_each (λ (id : ℕ). (1 ≤ id) × (id < root.next)) (ids_of tables) some.1.ids.0 in
-        let all = tables_drawn tables mains root.next reached file low some.1.each below stands.parts in
-        let d : Directory = record { tables = all.tables; stages = all.stages } in
-        let long : length tables ≡ length all.tables = ap (λ (l : List Drawn). length l) (sym all.drawn) ∙ all_long all.tables all.chains all.stages all.hold in
-        let few = some.1.few in
-        let begun = some.1.begun in
-        let own : ids_of tables ++ live_in_mains tables mains ≡ image_ids all.stages =
-        (λ i. ids_of (sym all.drawn i) ++ live_in_mains (sym all.drawn i) (sym all.keys i))
-        ∙ (λ i. deltas_same all.tables all.chains all.stages all.hold i ++ live_same all.tables all.chains all.stages all.hold i) in (
-          d,
-          record { chains = all.chains; drawn = sym all.drawn; parts = sym all.keys },
-          record {
-            has = read.has;
-            image = record {
-              directory = record { pages = pages; first = root.first_page; bytes = bytes };
-              begins = refl;
-              ends = read.long;
-              stands = read.chain;
-              reaches = within;
-              parts = flat_map (λ (c : List Chain). c) all.chains;
-              each = all.stand;
-              each_reaches = all.within;
-              describes = inr (record {
-                rules = record {
-                  few = omega (arith, few, long);
-                  begun = omega (arith, begun, long);
-                  tables = all.heads;
-                  names = sym (differ_same all.tables all.chains all.stages all.hold) ∙ ap drawn_differ all.drawn ∙ some.1.names;
-                  stages = all.are;
-                  ids = subst (AreOwnIds root.next) own stands.ids;
-                };
-                chains = all.chains;
-                flat = refl;
-                spelled = some.0 ∙ ap (λ (l : List Drawn). image_bytes l) (sym all.drawn);
-                hold = all.hold;
-              });
-            };
-          },
-        )
+  where
+    by : (all : DrawnImage root bytes tables mains (IsReached reached file)) → ((bytes ≡ []) × (all.directory ≡ no_directory) × (all.chains ≡ [])) ⊎ ((bytes ≡ image_bytes tables) × HoldTables all.directory.tables all.chains all.directory.stages)
+        → Describes root bytes (flat_map (λ (c : List Chain). c) all.chains) all.directory
+    by all (inl none) = inl (none.0, ap (λ (l : List (List Chain)). flat_map (λ (c : List Chain). c) l) none.2, none.1)
+    by all (inr some) = inr (record {
+      rules = all.rules;
+      chains = all.chains;
+      flat = refl;
+      spelled = some.0 ∙ ap (λ (l : List Drawn). image_bytes l) (sym all.drawn);
+      hold = some.1;
+    })
+
+-- The tables and mains of an image show a directory, and it and the root are the image of a state.
+pub image_begins : (root : Root) (bytes : List ℕ) (tables : List Drawn) (mains : List MainValue) → IsRoot root → AreDrawnIn root bytes tables → AllZip (MainFits IsAnywhere) tables mains
+    → AreOwnIds root.next (ids_of tables ++ live_in_mains tables mains) → (d : Directory) × Begins root tables mains d
+image_begins root bytes tables mains rules drawn fit ids =
+    let fits = rules.allowed.next.1 in
+    let all = keys_drawn root bytes tables mains IsAnywhere (omega (arith, fits)) drawn fit ids in
+    (all.directory, record { rules = rules; shown = record { chains = all.chains; drawn = sym all.drawn; parts = sym all.keys }; directory = all.rules })

@@ -21,7 +21,7 @@ use Rattle.ut_pages.proofs.MadeLemmas.{chain_there}
 use Rattle.ut_durable.specs.Bytes.{Chain}
 use Rattle.ut_durable.specs.Images.{IsWithin}
 use Rattle.ut_reading.specs.declared.parts.Reader.{Reader}
-use Rattle.ut_reading.specs.Standing.{part_of, with_part, no_parts, StandsPart, StandParts, StandsMain, live_in, live_in_parts, live_in_mains, ReachMore}
+use Rattle.ut_reading.specs.Standing.{IsReached, IsAnywhere, PartFits, PartsFit, MainFits, part_of, with_part, no_parts, StandsPart, StandParts, StandsMain, live_in, live_in_parts, live_in_mains, ReachMore}
 use Rattle.ut_reading.specs.Found.{MayRead, Reaches, FoundPart, FoundMain, FoundMains}
 use Rattle.ut_reading.proofs.OneLemmas.{one_part, one_main}
 
@@ -31,7 +31,7 @@ module _ (columns : List Column) (main : MainValue) (ref : PartRef) (rows : List
   -- the bytes that are read are the part's
   pub read_bytes : (pages bytes : List ℕ) → HasChain pages ref.first bytes file → length bytes ≡ ref.length → bytes ≡ part_bytes (part_of main rows)
   read_bytes pages bytes has long =
-      let there : IsChain x.chain.pages ref.first x.chain.bytes file = subst (λ (k : ℕ). IsChain x.chain.pages k x.chain.bytes file) x.first x.stands.chain in
+      let there : IsChain x.chain.pages ref.first x.chain.bytes file = subst (λ (k : ℕ). IsChain x.chain.pages k x.chain.bytes file) x.first x.stands.0.chain in
       (one_chain pages x.chain.pages ref.first bytes x.chain.bytes file has.chain there (long ∙ sym x.long)).1 ∙ x.bytes
 
   pub read_rows : (pages bytes : List ℕ) (read : PartValue) → length columns ≡ main.width → HasChain pages ref.first bytes file → length bytes ≡ ref.length → MayStand columns main read → bytes ≡ part_bytes read → read.rows ≡ rows
@@ -59,7 +59,7 @@ within_more : (chain : Chain) (r r' : List ℕ) → ((k : ℕ) → Contains r k 
 within_more chain r r' keeps within k is = keeps k (within k is)
 
 part_more : (columns : List Column) (main : MainValue) (ref : PartRef) (rows : List KeyRow) (r r' file : List ℕ) → ((k : ℕ) → Contains r k → Contains r' k) → StandsPart columns main ref rows r file → StandsPart columns main ref rows r' file
-part_more columns main ref rows r r' file keeps x = record { chain = x.chain; stands = x.stands; within = within_more x.chain r r' keeps x.within; first = x.first; long = x.long; bytes = x.bytes; may = x.may; count = x.count }
+part_more columns main ref rows r r' file keeps x = record { chain = x.chain; stands = (x.stands.0, within_more x.chain r r' keeps x.stands.1); first = x.first; long = x.long; bytes = x.bytes; may = x.may; count = x.count }
 
 parts_more : (columns : List Column) (main : MainValue) (refs : List PartRef) (parts : List (List KeyRow)) (r r' file : List ℕ) → ((k : ℕ) → Contains r k → Contains r' k) → StandParts columns main refs parts r file → StandParts columns main refs parts r' file
 parts_more columns main [] [] r r' file keeps x = x
@@ -78,13 +78,13 @@ mains_more (t ∷ ts) (m ∷ mains) r r' file keeps x = (main_more t m r r' file
 
 -- ---- one more part
 
-stand_push : (columns : List Column) (main : MainValue) (refs : List PartRef) (parts : List (List KeyRow)) (ref : PartRef) (rows : List KeyRow) (r file : List ℕ) → StandParts columns main refs parts r file
-    → StandsPart columns (record { width = main.width; parts = main.parts ++ parts }) ref rows r file → StandParts columns main (refs ++ ref ∷ []) (parts ++ rows ∷ []) r file
-stand_push columns main [] [] ref rows r file x y = (subst (λ (l : List (List KeyRow)). StandsPart columns (record { width = main.width; parts = l }) ref rows r file) (append-nil main.parts) y, tt)
-stand_push columns main [] (p ∷ parts) ref rows r file x y = absurd x
-stand_push columns main (q ∷ refs) [] ref rows r file x y = absurd x
-stand_push columns main (q ∷ refs) (p ∷ parts) ref rows r file x y =
-    (x.0, stand_push columns (with_part main p) refs parts ref rows r file x.1 (subst (λ (l : List (List KeyRow)). StandsPart columns (record { width = main.width; parts = l }) ref rows r file) (sym (append_assoc main.parts (p ∷ []) parts)) y))
+stand_push : (Stands : Chain → Type 0) (columns : List Column) (main : MainValue) (refs : List PartRef) (parts : List (List KeyRow)) (ref : PartRef) (rows : List KeyRow) → PartsFit Stands columns main refs parts
+    → PartFits Stands columns (record { width = main.width; parts = main.parts ++ parts }) ref rows → PartsFit Stands columns main (refs ++ ref ∷ []) (parts ++ rows ∷ [])
+stand_push Stands columns main [] [] ref rows x y = (subst (λ (l : List (List KeyRow)). PartFits Stands columns (record { width = main.width; parts = l }) ref rows) (append-nil main.parts) y, tt)
+stand_push Stands columns main [] (p ∷ parts) ref rows x y = absurd x
+stand_push Stands columns main (q ∷ refs) [] ref rows x y = absurd x
+stand_push Stands columns main (q ∷ refs) (p ∷ parts) ref rows x y =
+    (x.0, stand_push Stands columns (with_part main p) refs parts ref rows x.1 (subst (λ (l : List (List KeyRow)). PartFits Stands columns (record { width = main.width; parts = l }) ref rows) (sym (append_assoc main.parts (p ∷ []) parts)) y))
 
 parts_long : (columns : List Column) (main : MainValue) (refs : List PartRef) (parts : List (List KeyRow)) (r file : List ℕ) → StandParts columns main refs parts r file → length refs ≡ length parts
 parts_long columns main [] [] r file x = refl
@@ -116,6 +116,7 @@ pub record MainSoFar (t : Drawn) (left : List PartRef) (main : MainValue) (old n
   pub marks : AllByRecursion (λ (ref : PartRef). length ref.live ≡ ref.rows) left
   pub live : new.live.items ≡ old.live.items ++ live_in_parts done main.parts
   pub stand : IsTold v0 → StandParts t.table.columns (no_parts (length t.table.columns)) done main.parts new.pages.reached v0.seen.pages
+  pub fits : PartsFit IsAnywhere t.table.columns (no_parts (length t.table.columns)) done main.parts
   -- each image has what was read, and more for what is left
   pub on : IsTold v0 → (parts : List (List KeyRow)) (reached : List ℕ) → StandParts t.table.columns (no_parts (length t.table.columns)) t.parts parts reached v0.seen.pages
       → (rest : List (List KeyRow)) × (parts ≡ main.parts ++ rest) × StandParts t.table.columns main left rest reached v0.seen.pages
@@ -133,6 +134,7 @@ main_start t main r v0 v1 may is reads = subst (λ (m : MainValue). MainSoFar t 
       marks = may.marks;
       live = sym (append-nil r.live.items);
       stand = λ told. tt;
+      fits = tt;
       on = λ told parts reached stand. (parts, refl, stand);
     })
 
@@ -178,9 +180,13 @@ module _ (t : Drawn) (part : PartRef) (others : List PartRef) (main : MainValue)
             ∙ ap (λ (l : List ℕ). old.live.items ++ l) (sym (live_push so.done main.parts part read.rows so.same_long));
         stand = λ told.
             let width : main ≡ record { width = length t.table.columns; parts = main.parts } = ap (λ (n : ℕ). record { width = n; parts = main.parts }) so.width in
-            stand_push t.table.columns (no_parts (length t.table.columns)) so.done main.parts part read.rows new'.pages.reached v0.seen.pages
+            stand_push (IsReached new'.pages.reached v0.seen.pages) t.table.columns (no_parts (length t.table.columns)) so.done main.parts part read.rows
             (parts_more t.table.columns (no_parts (length t.table.columns)) so.done main.parts new.pages.reached new'.pages.reached v0.seen.pages (reaches.more told).keeps (so.stand told))
             (subst (λ (m : MainValue). StandsPart t.table.columns m part read.rows new'.pages.reached v0.seen.pages) width (stands told));
+        fits =
+            let width : main ≡ record { width = length t.table.columns; parts = main.parts } = ap (λ (n : ℕ). record { width = n; parts = main.parts }) so.width in
+            stand_push IsAnywhere t.table.columns (no_parts (length t.table.columns)) so.done main.parts part read.rows so.fits
+            (subst (λ (m : MainValue). PartFits IsAnywhere t.table.columns m part read.rows) width found.fits);
         on = λ told parts reached stand.
             let n = next_part told parts reached stand in
             let same : n.0 ≡ read.rows = one_part t.table.columns main part n.0 read.rows reached new'.pages.reached v0.seen.pages (sym so.width) n.3 (stands told) in (
@@ -196,16 +202,17 @@ main_done t main old new v0 v1 so =
     record {
       reaches = so.reaches;
       stands = λ told. record { width = so.width; parts = subst (λ (l : List PartRef). StandParts t.table.columns (no_parts (length t.table.columns)) l main.parts new.pages.reached v0.seen.pages) (sym all) (so.stand told) };
+      fits = record { width = so.width; parts = subst (λ (l : List PartRef). PartsFit IsAnywhere t.table.columns (no_parts (length t.table.columns)) l main.parts) (sym all) so.fits };
       live = so.live ∙ ap (λ (l : List PartRef). old.live.items ++ live_in_parts l main.parts) (sym all);
     }
 
 -- ---- the parts of all tables so far
 
-zip_push : (r file : List ℕ) (ts : List Drawn) (ms : List MainValue) (t : Drawn) (m : MainValue) → AllZip (StandsMain r file) ts ms → StandsMain r file t m → AllZip (StandsMain r file) (ts ++ t ∷ []) (ms ++ m ∷ [])
-zip_push r file [] [] t m x y = (y, tt)
-zip_push r file [] (n ∷ ms) t m x y = absurd x
-zip_push r file (u ∷ ts) [] t m x y = absurd x
-zip_push r file (u ∷ ts) (n ∷ ms) t m x y = (x.0, zip_push r file ts ms t m x.1 y)
+zip_push : (Stands : Chain → Type 0) (ts : List Drawn) (ms : List MainValue) (t : Drawn) (m : MainValue) → AllZip (MainFits Stands) ts ms → MainFits Stands t m → AllZip (MainFits Stands) (ts ++ t ∷ []) (ms ++ m ∷ [])
+zip_push Stands [] [] t m x y = (y, tt)
+zip_push Stands [] (n ∷ ms) t m x y = absurd x
+zip_push Stands (u ∷ ts) [] t m x y = absurd x
+zip_push Stands (u ∷ ts) (n ∷ ms) t m x y = (x.0, zip_push Stands ts ms t m x.1 y)
 
 lives_push : (ts : List Drawn) (ms : List MainValue) (t : Drawn) (m : MainValue) → length ts ≡ length ms → live_in_mains (ts ++ t ∷ []) (ms ++ m ∷ []) ≡ live_in_mains ts ms ++ live_in_parts t.parts m.parts
 lives_push [] [] t m long = append-nil (live_in_parts t.parts m.parts)
@@ -223,6 +230,7 @@ pub record MainsSoFar (tables left : List Drawn) (mains : List MainValue) (old n
   pub may : AllByRecursion MayRead left
   pub live : new.live.items ≡ old.live.items ++ live_in_mains done mains
   pub stand : IsTold v0 → AllZip (StandsMain new.pages.reached v0.seen.pages) done mains
+  pub fits : AllZip (MainFits IsAnywhere) done mains
   -- each image has what was read, and more for what is left
   pub on : IsTold v0 → (all : List MainValue) (reached : List ℕ) → AllZip (StandsMain reached v0.seen.pages) tables all
       → (rest : List MainValue) × (all ≡ mains ++ rest) × AllZip (StandsMain reached v0.seen.pages) left rest
@@ -238,6 +246,7 @@ mains_start tables mains r v0 v1 may is reads = subst (λ (ms : List MainValue).
       may = may;
       live = sym (append-nil r.live.items);
       stand = λ told. tt;
+      fits = tt;
       on = λ told all reached stand. (all, refl, stand);
     })
 
@@ -278,7 +287,8 @@ module _ (tables : List Drawn) (t : Drawn) (others : List Drawn) (mains : List M
         may = so.may.1;
         live = found.live ∙ ap (λ (l : List ℕ). l ++ live_in_parts t.parts main.parts) so.live ∙ append_assoc old.live.items (live_in_mains so.done mains) (live_in_parts t.parts main.parts)
             ∙ ap (λ (l : List ℕ). old.live.items ++ l) (sym (lives_push so.done mains t main so.same_long));
-        stand = λ told. zip_push new'.pages.reached v0.seen.pages so.done mains t main (mains_more so.done mains new.pages.reached new'.pages.reached v0.seen.pages (reaches.more told).keeps (so.stand told)) (stands told);
+        stand = λ told. zip_push (IsReached new'.pages.reached v0.seen.pages) so.done mains t main (mains_more so.done mains new.pages.reached new'.pages.reached v0.seen.pages (reaches.more told).keeps (so.stand told)) (stands told);
+        fits = zip_push IsAnywhere so.done mains t main so.fits found.fits;
         on = λ told all reached stand.
             let n = next_main told all reached stand in
             let same : n.0 ≡ main = one_main t n.0 main reached new'.pages.reached v0.seen.pages n.3 (stands told) in
@@ -291,6 +301,7 @@ mains_done tables mains old new v0 v1 so =
     record {
       reaches = so.reaches;
       stands = λ told. subst (λ (l : List Drawn). AllZip (StandsMain new.pages.reached v0.seen.pages) l mains) (sym all) (so.stand told);
+      fits = subst (λ (l : List Drawn). AllZip (MainFits IsAnywhere) l mains) (sym all) so.fits;
       live = so.live ∙ ap (λ (l : List Drawn). old.live.items ++ live_in_mains l mains) (sym all);
     }
 
@@ -333,14 +344,22 @@ found_part columns main ref read bytes old new v slot live chain long may spelle
           let c = chain told in
           record {
             chain = record { pages = c.0; first = ref.first; bytes = bytes };
-            stands = c.2;
-            within = λ k has. subst (λ (l : List ℕ). Contains l k) (sym c.1) (Contains-append_right old.pages.reached c.0 k has);
+            stands = (c.2, λ k has. subst (λ (l : List ℕ). Contains l k) (sym c.1) (Contains-append_right old.pages.reached c.0 k has));
             first = refl;
             long = long;
             bytes = spelled ∙ ap part_bytes is;
             may = subst (MayStand columns main) is may;
             count = count;
           };
+      fits = record {
+        chain = record { pages = []; first = ref.first; bytes = bytes };
+        stands = tt;
+        first = refl;
+        long = long;
+        bytes = spelled ∙ ap part_bytes is;
+        may = subst (MayStand columns main) is may;
+        count = count;
+      };
       behind = is;
       few = may.few;
       live = live;

@@ -99,6 +99,7 @@ found_before tables mains old new v0 v1 reads found = record {
     more = λ told. subst (λ (i : Image). ReachMore i.pages old.pages.reached new.pages.reached) reads.seen (found.reaches.more (reads.told ∙ told));
   };
   stands = λ told. subst (λ (i : Image). AllZip (StandsMain new.pages.reached i.pages) tables mains) reads.seen (found.stands (reads.told ∙ told));
+  fits = found.fits;
   live = found.live;
 }
 

@@ -19,8 +19,8 @@ use Rattle.ut_reading.specs.Standing.{part_of, with_part, no_parts, StandsPart, 
 
 pub one_part : (columns : List Column) (main : MainValue) (ref : PartRef) (a b : List KeyRow) (r r' file : List ℕ) → length columns ≡ main.width → StandsPart columns main ref a r file → StandsPart columns main ref b r' file → a ≡ b
 one_part columns main ref a b r r' file wide x y =
-    let here : IsChain x.chain.pages ref.first x.chain.bytes file = subst (λ (k : ℕ). IsChain x.chain.pages k x.chain.bytes file) x.first x.stands.chain in
-    let there : IsChain y.chain.pages ref.first y.chain.bytes file = subst (λ (k : ℕ). IsChain y.chain.pages k y.chain.bytes file) y.first y.stands.chain in
+    let here : IsChain x.chain.pages ref.first x.chain.bytes file = subst (λ (k : ℕ). IsChain x.chain.pages k x.chain.bytes file) x.first x.stands.0.chain in
+    let there : IsChain y.chain.pages ref.first y.chain.bytes file = subst (λ (k : ℕ). IsChain y.chain.pages k y.chain.bytes file) y.first y.stands.0.chain in
     let chains = one_chain x.chain.pages y.chain.pages ref.first x.chain.bytes y.chain.bytes file here there (x.long ∙ sym y.long) in
     let bytes : part_bytes (part_of main a) ≡ part_bytes (part_of main b) = sym x.bytes ∙ chains.1 ∙ y.bytes in
     ap (λ (p : PartValue). p.rows) (part-one columns main (part_of main a) (part_of main b) wide (dicts-low main) x.may y.may bytes)

@@ -69,8 +69,7 @@ pub part_stands : (columns : List Column) (earlier : List (List Placed)) (chain 
     → sum_by length earlier + length part ≤ 2147483647 → StandsIn file chain → IsWithin reached chain → StandsPart columns (main_of (length columns) earlier) (part_ref chain part) (key_rows part) reached file
 part_stands columns earlier chain part reached file holds are few stands within = record {
   chain = chain;
-  stands = stands;
-  within = within;
+  stands = (stands, within);
   first = refl;
   long = refl;
   bytes = holds.bytes;

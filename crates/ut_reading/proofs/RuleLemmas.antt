@@ -178,7 +178,7 @@ pub record InKeys (reached : List ℕ) (root : Root) (d : Directory) (bytes file
   pub parts : mains_of d.tables d.stages ≡ mains
   pub stands : StandsImage root bytes tables mains reached file
 
-no_rules : (next commits : ℕ) → IsDirectory next commits no_directory
+pub no_rules : (next commits : ℕ) → IsDirectory next commits no_directory
 no_rules next commits = record { few = omega arith; begun = omega arith; tables = refl; names = refl; stages = tt; ids = no_ids next }
 
 pub in_keys : (reached : List ℕ) (root : Root) (d : Directory) (file : List ℕ) (has : HasDirectory reached root d file) → InKeys reached root d has.directory.bytes file

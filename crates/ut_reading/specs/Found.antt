@@ -7,7 +7,7 @@ use Rattle.ut_main.specs.Parts.{PartValue, MainValue, rows_in}
 use Rattle.ut_image.specs.declared.drawn.PartRef.{PartRef}
 use Rattle.ut_image.specs.declared.drawn.Drawn.{Drawn}
 use Rattle.ut_reading.specs.declared.parts.Reader.{Reader}
-use Rattle.ut_reading.specs.Standing.{part_of, StandsPart, StandsMain, live_in, live_in_parts, live_in_mains, ReachMore}
+use Rattle.ut_reading.specs.Standing.{part_of, IsAnywhere, PartFits, MainFits, StandsPart, StandsMain, live_in, live_in_parts, live_in_mains, ReachMore}
 
 -- a table whose parts may be read: there are few, each with a mark for each row
 pub record MayRead (t : Drawn) : Type 0 where
@@ -24,6 +24,8 @@ pub record Reaches (old new : Reader) (v : View) : Type 0 where
 pub record FoundPart (columns : List Column) (main : MainValue) (ref : PartRef) (read : PartValue) (old new : Reader) (v : View) : Type 0 where
   pub reaches : Reaches old new v
   pub stands : IsTold v → StandsPart columns main ref read.rows new.pages.reached v.seen.pages
+  -- whatever the disk tells
+  pub fits : PartFits IsAnywhere columns main ref read.rows
   pub behind : read ≡ part_of main read.rows
   pub few : rows_in main + length read.rows ≤ 2147483647
   pub live : new.live.items ≡ old.live.items ++ live_in ref read.rows
@@ -32,10 +34,12 @@ pub record FoundPart (columns : List Column) (main : MainValue) (ref : PartRef) 
 pub record FoundMain (t : Drawn) (main : MainValue) (old new : Reader) (v : View) : Type 0 where
   pub reaches : Reaches old new v
   pub stands : IsTold v → StandsMain new.pages.reached v.seen.pages t main
+  pub fits : MainFits IsAnywhere t main
   pub live : new.live.items ≡ old.live.items ++ live_in_parts t.parts main.parts
 
 -- the parts of each table
 pub record FoundMains (tables : List Drawn) (mains : List MainValue) (old new : Reader) (v : View) : Type 0 where
   pub reaches : Reaches old new v
   pub stands : IsTold v → AllZip (StandsMain new.pages.reached v.seen.pages) tables mains
+  pub fits : AllZip (MainFits IsAnywhere) tables mains
   pub live : new.live.items ≡ old.live.items ++ live_in_mains tables mains

@@ -5,7 +5,9 @@ use Rattle.ut_image.specs.declared.drawn.Drawn.{Drawn}
 use Rattle.ut_plain.specs.declared.table.Table.{Table}
 use Rattle.ut_plain.specs.Stages.{Stages}
 use Rattle.ut_plain.specs.Capture.{Directory}
-use Rattle.ut_pages.specs.Layout.{IsSelected}
+use Rattle.ut_pages.specs.declared.root.Root.{Root}
+use Rattle.ut_pages.specs.Layout.{IsSelected, IsRoot}
+use Rattle.ut_durable.specs.Rules.{IsDirectory}
 use Rattle.ut_durable.specs.Bytes.{Chain, main_of, drawn_all}
 use Rattle.ut_durable.specs.Images.{HasImage, AreThere}
 use Rattle.ut_reading.specs.declared.image.Image.{Image}
@@ -28,3 +30,9 @@ pub record IsImageIn (image : Image) (d : Directory) (file : List ℕ) : Type 0 
   pub has : HasImage image.pages.slot image.pages.reached image.root d file
   pub there : AreThere image.pages.reached file
   pub shown : Show image.tables image.mains d
+
+-- A root, and tables and mains in memory: they show a directory that an image of the root may have. With it the root is the image of one state (`base` of the laws).
+pub record Begins (root : Root) (tables : List Drawn) (mains : List MainValue) (d : Directory) : Type 0 where
+  pub rules : IsRoot root
+  pub shown : Show tables mains d
+  pub directory : IsDirectory root.next root.commits d

@@ -25,11 +25,18 @@ no_parts width = record { width = width; parts = [] }
 
 -- ---- which part a directory names
 
--- These rows are the part that the directory names: a chain on reached pages has their bytes.
-pub record StandsPart (columns : List Column) (main : MainValue) (ref : PartRef) (rows : List KeyRow) (reached file : List ℕ) : Type 0 where
+-- A chain stands on reached pages of a page file,
+abbrev pub IsReached : (reached file : List ℕ) → Chain → Type 0
+IsReached reached file chain = StandsIn file chain × IsWithin reached chain
+
+-- or wherever it may.
+abbrev pub IsAnywhere : Chain → Type 0
+IsAnywhere chain = Unit {0}
+
+-- These rows are the part that the directory names: a chain that stands so has their bytes.
+pub record PartFits (Stands : Chain → Type 0) (columns : List Column) (main : MainValue) (ref : PartRef) (rows : List KeyRow) : Type 0 where
   pub chain : Chain
-  pub stands : StandsIn file chain
-  pub within : IsWithin reached chain
+  pub stands : Stands chain
   pub first : chain.first ≡ ref.first
   pub long : length chain.bytes ≡ ref.length
   pub bytes : chain.bytes ≡ part_bytes (part_of main rows)
@@ -37,16 +44,26 @@ pub record StandsPart (columns : List Column) (main : MainValue) (ref : PartRef)
   pub count : length rows ≡ ref.rows
 
 -- parts, each behind those before it
-abbrev pub StandParts : List Column → MainValue → List PartRef → List (List KeyRow) → (reached file : List ℕ) → Type 0
-StandParts columns main [] [] reached file = Unit {0}
-StandParts columns main [] (rows ∷ parts) reached file = ⊥
-StandParts columns main (ref ∷ refs) [] reached file = ⊥
-StandParts columns main (ref ∷ refs) (rows ∷ parts) reached file = StandsPart columns main ref rows reached file × StandParts columns (with_part main rows) refs parts reached file
+abbrev pub PartsFit : (Chain → Type 0) → List Column → MainValue → List PartRef → List (List KeyRow) → Type 0
+PartsFit Stands columns main [] [] = Unit {0}
+PartsFit Stands columns main [] (rows ∷ parts) = ⊥
+PartsFit Stands columns main (ref ∷ refs) [] = ⊥
+PartsFit Stands columns main (ref ∷ refs) (rows ∷ parts) = PartFits Stands columns main ref rows × PartsFit Stands columns (with_part main rows) refs parts
 
 -- the parts of a table
-pub record StandsMain (reached file : List ℕ) (t : Drawn) (main : MainValue) : Type 0 where
+pub record MainFits (Stands : Chain → Type 0) (t : Drawn) (main : MainValue) : Type 0 where
   pub width : main.width ≡ length t.table.columns
-  pub parts : StandParts t.table.columns (no_parts (length t.table.columns)) t.parts main.parts reached file
+  pub parts : PartsFit Stands t.table.columns (no_parts (length t.table.columns)) t.parts main.parts
+
+-- the same in a page file
+abbrev pub StandsPart : List Column → MainValue → PartRef → List KeyRow → (reached file : List ℕ) → Type 0
+StandsPart columns main ref rows reached file = PartFits (IsReached reached file) columns main ref rows
+
+abbrev pub StandParts : List Column → MainValue → List PartRef → List (List KeyRow) → (reached file : List ℕ) → Type 0
+StandParts columns main refs parts reached file = PartsFit (IsReached reached file) columns main refs parts
+
+abbrev pub StandsMain : (reached file : List ℕ) → Drawn → MainValue → Type 0
+StandsMain reached file t main = MainFits (IsReached reached file) t main
 
 -- ---- the ids of rows
 

@@ -8,7 +8,7 @@ ghost use Rattle.ut_pages.specs.declared.slot.Slot.{Slot};
 ghost use Rattle.ut_pages.specs.Layout.{IsMade, IsSelected};
 ghost use Rattle.ut_image.specs.declared.drawn.Drawn.{Drawn};
 ghost use Rattle.ut_durable.specs.Images.{HasImage};
-ghost use Rattle.ut_reading.specs.Reading.{IsImageIn};
+ghost use Rattle.ut_reading.specs.Reading.{IsImageIn, Begins};
 ghost use Rattle.ut_reading.specs.Standing.{AreDrawnIn};
 
 use crate::ids::{are_own_ids, delta_ids};
@@ -45,6 +45,8 @@ pub fn read_image<D: Disk>(alloc: Global, disk: &mut D) -> Result<Image, PageErr
     requires made { IsTold (D.view disk.old) → IsMade (D.view disk.old).seen.pages }
     ensures found { IfOk result (λ image. IsTold (D.view disk.old)
         → (d : Directory) × IsImageIn image d (D.view disk.old).seen.pages) }
+    // Whatever the disk tells, what is in memory shows a directory that an image may have.
+    ensures begins { IfOk result (λ image. (d : Directory) × Begins image.root image.tables image.mains d) }
     // Damaged exactly where no image is there.
     ensures damaged { IsErrOf result PageError.Damaged → IsTold (D.view disk.old)
         → (slot : Slot) (reached : List ℕ) (root : Root) (d : Directory) → IsSelected slot (D.view disk.old).seen.pages

@@ -10,6 +10,7 @@ use Rattle.ut_reading.specs.declared.image.Image.{Image as ReadImage}
 use Rattle.ut_reading.specs.Standing.{StandsMain, live_in_mains, AreDrawnIn}
 use Rattle.ut_reading.specs.Found.{MayRead, FoundMains}
 use Rattle.ut_reading.proofs.FindLemmas.{same_error}
+use Rattle.ut_reading.proofs.DrawLemmas.{image_begins}
 use Rattle.ut_reading.proofs.ImageLemmas.{false_true, may_read_all, found_before, no_tables, no_mains, no_ids_of, image_found}
 use Rattle.ut_reading.proofs.image.read_image.Goals as goal
 
@@ -75,3 +76,17 @@ returns-clause-found g c = λ told.
     let deltas : first.live.items ≡ ids_of tables = c.in_ok-live.ensures ∙ ap ids_of c.as_slice.ensures in
     let own : AreOwnIds c.in_ok-pages.root.next last.live.items = subst (AreOwnIds c.in_ok-pages.root.next) c.deref-2.ensures.value (c.in_ok-are_own_ids.ensures.0 c.if-not-branch.false) in
     image_found image first last c.in_ok-pages.bytes.items v0 refl (λ now. c.in_ok-pages.ensures.found now) drawn deltas found own told
+
+pub returns-clause-begins : goal.returns-clause-begins
+returns-clause-begins g c =
+    let tables : List Drawn = c.in-Some.tables in
+    let mains : List MainValue = c.in_ok-mains.mains in
+    let first : Reader = record { pages = c.in_ok-pages.pages; live = c.in_ok-live.live } in
+    let last : Reader = c.read_mains.new.self in
+    let read = rw c.in-Some.is at c.in_ok-tables.ensures.found in
+    let drawn : AreDrawnIn c.in_ok-pages.root c.in_ok-pages.bytes.items tables = subst (λ (l : List ℕ). AreDrawnIn c.in_ok-pages.root l tables) c.deref.ensures.value read in
+    let v1 : View = g.D.Disk.view c.read.new.disk in
+    let found : FoundMains tables mains first last v1 = subst (λ (ts : List Drawn). FoundMains ts mains first last v1) c.as_slice-2.ensures c.in_ok-mains.ensures.found in
+    let live : last.live.items ≡ ids_of tables ++ live_in_mains tables mains = found.live ∙ ap (λ (l : List ℕ). l ++ live_in_mains tables mains) (c.in_ok-live.ensures ∙ ap ids_of c.as_slice.ensures) in
+    let own : AreOwnIds c.in_ok-pages.root.next last.live.items = subst (AreOwnIds c.in_ok-pages.root.next) c.deref-2.ensures.value (c.in_ok-are_own_ids.ensures.0 c.if-not-branch.false) in
+    image_begins c.in_ok-pages.root c.in_ok-pages.bytes.items tables mains c.in_ok-pages.ensures.root drawn found.fits (subst (AreOwnIds c.in_ok-pages.root.next) live own)
