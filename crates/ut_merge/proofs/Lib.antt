@@ -10,3 +10,4 @@ pub mod ArrangeLemmas
 pub mod CodingLemmas
 pub mod GatherLemmas
 pub mod BuildLemmas
+pub mod PieceLemmas

@@ -4,3 +4,4 @@ pub mod Places
 pub mod Columns
 pub mod Uniting
 pub mod NewRows
+pub mod Gathering

@@ -195,7 +195,7 @@ pub(crate) fn code_column<R: Threads + Sync>(
         IsColumn job.now column (map (row_of job.now) olds.now) (arc_value coded.dict) coded.codes.items) }
 {
     let sources = sources_of(alloc, job, column)?;
-    let codes = gather(alloc, &sources, olds)?;
+    let codes = gather(rt, alloc, &sources, olds, pieces)?;
     let codes = codes.as_slice();
     let recoding = recoding_of::<Brand, R>(
         rt,

@@ -1,14 +1,20 @@
 //! The codes of a column at the kept places.
-ghost use Rattle.std.specs.Prelude.{◌≡◌, ◌<◌, [], length, map, get_or, All, IfOk};
-ghost use Rattle.ut_l2.specs.KeyRows.{cells_at, key_at};
+ghost use Rattle.std.specs.Prelude.{◌≡◌, ◌<◌, ◌≤◌, [], length, get_or, All, IfOk, flat_map};
+ghost use Rattle.ut_l2.specs.KeyRows.{key_at};
 ghost use Rattle.ut_merge.specs.Jobs.{row_of};
 ghost use Rattle.ut_merge.specs.Places.{IsOld};
-ghost use Rattle.ut_merge.specs.Columns.{codes_in, laid_keys, AreCoded, ArePartCodes, AreSources};
+ghost use Rattle.ut_merge.specs.Columns.{codes_in, laid_keys, ArePartCodes};
+ghost use Rattle.ut_merge.specs.Gathering.{AreGathered, HasCodes};
 
 use crate::job::Job;
 use crate::keys::keys_in;
 use crate::old::Old;
+use rayon::prelude::*;
 use std::alloc::{AllocError, Global};
+use std::thread::Threads;
+
+/// With fewer rows than this a thread costs more than it saves.
+const FEW_ROWS: usize = 100_000;
 
 /// The codes of a column in the lists that are rebuilt: of the parts behind the first `stay`, each
 /// unpacked, and of the closed stage, whose codes count from `first` on.
@@ -44,8 +50,7 @@ pub(crate) fn sources_of<'a>(
     requires { column < job.now.width }
     ensures job { IfOk result (λ sources. sources.job.now ≡ job.now) }
     ensures column { IfOk result (λ sources. sources.column ≡ column) }
-    ensures are { IfOk result (λ s.
-        AreSources s.job.now s.column s.stay (codes_in s.parts.items) s.closed.now s.first) }
+    ensures are { IfOk result HasCodes }
 {
     let parts = part_codes(alloc, job, column)?;
     Ok(Sources {
@@ -60,8 +65,7 @@ pub(crate) fn sources_of<'a>(
 
 /// The code at an old place.
 fn code_at(sources: &Sources<'_>, old: Old) -> u32
-    requires are { let s = sources.now in
-        AreSources s.job.now s.column s.stay (codes_in s.parts.items) s.closed.now s.first }
+    requires are { HasCodes sources.now }
     requires place { IsOld sources.now.job.now old }
     ensures within { result < length (laid_keys sources.now.job.now sources.now.column) }
     ensures key { get_or (laid_keys sources.now.job.now sources.now.column) result []
@@ -73,22 +77,75 @@ fn code_at(sources: &Sources<'_>, old: Old) -> u32
     }
 }
 
-/// The codes at old places.
-pub(crate) fn gather(
-    alloc: Global,
-    sources: &Sources<'_>,
-    olds: &[Old],
-) -> Result<Vec<u32>, AllocError>
-    requires are { let s = sources.now in
-        AreSources s.job.now s.column s.stay (codes_in s.parts.items) s.closed.now s.first }
+/// The codes at old places, on this thread.
+fn codes_at(alloc: Global, sources: &Sources<'_>, olds: &[Old]) -> Result<Vec<u32>, AllocError>
+    requires are { HasCodes sources.now }
     requires places { All (IsOld sources.now.job.now) olds.now }
-    ensures { let job = sources.now.job.now in let column = sources.now.column in
-        IfOk result (λ codes.
-        AreCoded (laid_keys job column) (cells_at column (map (row_of job) olds.now)) codes.items) }
+    ensures { IfOk result (λ codes. AreGathered sources.now olds.now codes.items) }
 {
     let mut codes = Vec::with_capacity(alloc, olds.len())?;
     for old in olds {
         codes.push(code_at(sources, *old))?;
     }
     Ok(codes)
+}
+
+/// Lays lists of codes end to end, so many codes together.
+fn join(alloc: Global, lists: &[Vec<u32>], count: usize) -> Result<Vec<u32>, AllocError>
+    ensures { IfOk result (λ codes. codes.items ≡ flat_map (λ list. list.items) lists.now) }
+{
+    let mut codes = Vec::with_capacity(alloc, count)?;
+    for list in lists {
+        codes.extend_from_slice(list.as_slice())?;
+    }
+    Ok(codes)
+}
+
+/// The codes at old places, which are cut into so many pieces. Each piece may have a thread of its
+/// own.
+fn gather_pieces<R: Threads + Sync>(
+    rt: &R,
+    alloc: Global,
+    sources: &Sources<'_>,
+    olds: &[Old],
+    pieces: u32,
+) -> Result<Vec<u32>, AllocError>
+    requires are { HasCodes sources.now }
+    requires places { All (IsOld sources.now.job.now) olds.now }
+    requires few { length olds.now ≤ 2147483647 }
+    requires pieces { 1 ≤ pieces }
+    ensures { IfOk result (λ codes. AreGathered sources.now olds.now codes.items) }
+{
+    let lists = olds
+        .par_chunks(olds.len() / pieces as usize + 1)
+        .map(
+            |piece: &[Old]| -> Result<Vec<u32>, AllocError>
+                requires are { HasCodes sources.now }
+                requires places { All (IsOld sources.now.job.now) piece.now }
+                ensures { IfOk result (λ codes. AreGathered sources.entry.now piece.now codes.items) }
+            { codes_at(alloc, sources, piece) },
+        )
+        .collect::<Result<Vec<Vec<u32>>, AllocError>>(rt, alloc)??;
+    join(alloc, lists.as_slice(), olds.len())
+}
+
+/// The codes at old places, in the order of these. The list is the same for every number of
+/// pieces.
+pub(crate) fn gather<R: Threads + Sync>(
+    rt: &R,
+    alloc: Global,
+    sources: &Sources<'_>,
+    olds: &[Old],
+    pieces: u32,
+) -> Result<Vec<u32>, AllocError>
+    requires are { HasCodes sources.now }
+    requires places { All (IsOld sources.now.job.now) olds.now }
+    requires few { length olds.now ≤ 2147483647 }
+    requires pieces { 1 ≤ pieces }
+    ensures { IfOk result (λ codes. AreGathered sources.now olds.now codes.items) }
+{
+    if pieces == 1 || olds.len() < FEW_ROWS {
+        return codes_at(alloc, sources, olds);
+    }
+    gather_pieces(rt, alloc, sources, olds, pieces)
 }

@@ -2,7 +2,7 @@ use Rattle.std.proofs.Common.{get_or}
 use Rattle.std.proofs.lemmas.List.{get_or_default}
 use Rattle.ut_merge.specs.declared.old.Old.TheVariants.{Part}
 use Rattle.ut_merge.proofs.GatherLemmas.{gather-more}
-use Rattle.ut_merge.proofs.gathering.gather.Goals as goal
+use Rattle.ut_merge.proofs.gathering.codes_at.Goals as goal
 
 pub loop-old-preserved : goal.loop-old-preserved
 loop-old-preserved c =
