@@ -1,1 +1,2 @@
+pub mod BoundsLemmas
 pub mod WordLemmas

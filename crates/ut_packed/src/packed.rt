@@ -3,24 +3,30 @@ ghost use Rattle.ut_bits.specs.Bits.{AllBelow, packed_bytes};
 ghost use Rattle.ut_bits.specs.Places.{is_in, places_where};
 ghost use Rattle.ut_mask.specs.Mask.{both};
 
+use crate::bounds::{Bounds, bounds_of};
 use crate::masks::keep_words;
 use std::alloc::{AllocError, Global};
 use std::marker::Model;
 use ut_bits::{BitList, is_in};
 use ut_mask::Mask;
 
-/// A vector of codes of `width` bits each, one behind the other.
+/// A vector of codes of `width` bits each, one behind the other. The bounds of its blocks are made
+/// with it, and are no part of its bytes.
 #[derive(Drop)]
 pub struct Packed {
     list: BitList,
+    bounds: Vec<Bounds>,
 }
 
 impl Model for Packed {
     ghost use Rattle.ut_bits.specs.Coded.{Coded};
+    ghost use Rattle.ut_packed.specs.Bounds.{AreBounds};
 
     ghost Value = { Coded };
 
     ghost view = { λ p. p.list };
+
+    ghost invariant = { λ p. AreBounds p.list.codes p.bounds.items };
 }
 
 impl Packed {
@@ -32,9 +38,15 @@ impl Packed {
         ensures width { IfOk result (λ p. p.width ≡ width) }
         ensures codes { IfOk result (λ p. p.codes ≡ codes.now) }
     {
-        Ok(Packed {
-            list: BitList::from_codes(alloc, codes, width)?,
-        })
+        Packed::of(alloc, BitList::from_codes(alloc, codes, width)?)
+    }
+
+    /// The vector of a list.
+    fn of(alloc: Global, list: BitList) -> Result<Self, AllocError>
+        ensures { IfOk result (λ p. p ≡ list) }
+    {
+        let bounds = bounds_of(alloc, &list)?;
+        Ok(Packed { list, bounds })
     }
 
     pub fn len(&self) -> u32
@@ -75,7 +87,7 @@ impl Packed {
         requires { length mask.old ≡ length self.now.codes }
         ensures { mask.new ≡ both mask.old (map (is_in ranges.now) self.now.codes) }
     {
-        keep_words(&self.list, ranges, mask);
+        keep_words(&self.list, &self.bounds, ranges, mask);
     }
 
     /// Appends all codes in order.
@@ -122,7 +134,7 @@ impl Packed {
         ensures none { IfOk result (λ found. IfNone found ((codes rest : List ℕ) → length codes ≡ rows → AllBelow (2 ^ width) codes → bytes.now ≢ packed_bytes width codes ++ rest)) }
     {
         match BitList::from_bytes(alloc, bytes, rows, width)? {
-            Some((list, count)) => Ok(Some((Packed { list }, count))),
+            Some((list, count)) => Ok(Some((Packed::of(alloc, list)?, count))),
             None => Ok(None),
         }
     }
