@@ -1,14 +1,16 @@
 -- The rows of main that a scan finds, part by part.
-use Rattle.std.proofs.Common.{◌≡◌, ℕ, zero, suc, ◌+◌, ◌<◌, true, false, ◌&&◌, nat_lt, List, [], ◌∷◌, ◌++◌, length, map, filter, take, get_or, All, Option, refl, sym, ◌∙◌, ap, arith}
-use Rattle.std.proofs.lemmas.Bool.{lt-ltb}
+use Rattle.std.proofs.Common.{◌≡◌, ℕ, zero, suc, ◌+◌, ◌<◌, Bool, true, false, ◌&&◌, List, [], ◌∷◌, ◌++◌, length, map, filter, take, get_or, All, Option, refl, sym, ◌∙◌, ap, arith}
 use Rattle.std.proofs.lemmas.List.{length-map, get_or-map, flat_map_more}
+use Rattle.std.proofs.lemmas.List.FromFn.{length-range_with_len, get_or-map-range_with_len}
 use Rattle.std.proofs.lemmas.List.Folds.{list_all_more}
+use Rattle.std.specs.Prelude.{replicate}
 use Rattle.std.specs.List.{flat_map, range_with_len}
 use Rattle.ut_stamps.specs.Stamps.{sees}
 use Rattle.ut_stamps.specs.declared.fates.Fate.{Fate}
 use Rattle.ut_stamps.specs.declared.place.Place.TheVariants.{Main}
 use Rattle.ut_stamps.specs.declared.visibility.Stamp.{Stamp}
-use Rattle.ut_bits.specs.Places.{is_in, places_where}
+use Rattle.ut_mask.specs.Mask.{both}
+use Rattle.ut_bits.specs.Places.{is_in}
 use Rattle.ut_codes.specs.Reached.{Reached}
 use Rattle.ut_l2.specs.KeyRows.{KeyRow, cells_at, key_at}
 use Rattle.ut_prefix.specs.Chain.{end_to_end}
@@ -17,7 +19,9 @@ use Rattle.ut_main.specs.Parts.{MainValue, PartValue}
 use Rattle.ut_scan.specs.declared.coded.CodedPred.{CodedPred}
 use Rattle.ut_scan.specs.declared.place.ColumnPred.{ColumnPred}
 use Rattle.ut_scan.specs.declared.place.Found.{Found}
-use Rattle.ut_scan.specs.Coded.{AreCoded, code_at, codes_in, held_places, is_held}
+use Rattle.ut_scan.specs.Coded.{AreCoded, code_at, codes_in, held_mask, held_places, is_held, seen_at, standing}
+use Rattle.ut_scan.specs.declared.probe.Viewer.{Viewer}
+use Rattle.ut_scan.specs.Probes.{is_seen}
 use Rattle.ut_scan.specs.Finds.{all_places, found_at, found_in, is_hit}
 use Rattle.ut_scan.specs.StampLists.{no_stamp}
 use Rattle.ut_scan.specs.StageRows.{AreStampedParts}
@@ -31,6 +35,10 @@ stamps-at parts stamps p h lt =
       there,
       sym (get_or-map (λ (s : List Stamp). length s) stamps p [] 0 there) ∙ ap (λ l. get_or l p 0) h ∙ get_or-map (λ (r : List KeyRow). length r) parts p [] 0 lt,
     )
+
+-- whether a place stands in a mask and its row is seen
+abbrev pub stands_seen : Viewer → List Stamp → List Bool → ℕ → Bool
+stands_seen v stamps mask i = get_or mask i false && is_seen v stamps i
 
 -- the seen rows whose codes stand in the ranges are those that meet the comparisons
 pub part-found : (main : MainValue) (preds : List ColumnPred) (coded : List CodedPred) (p : ℕ) (part : PartValue) (fates : List Fate) (snapshot : ℕ) (own : Option ℕ) (stamps : List Stamp)
@@ -73,8 +81,51 @@ pub held-none : (part : PartValue) (coded : List CodedPred) → coded ≡ [] →
 held-none part coded none = ap (λ (l : List CodedPred). held_places l part) none ∙ filter-true (all_places part.rows)
 
 -- no place is held where no code of the part meets a comparison
-pub held-out : (part : PartValue) (coded : List CodedPred) (new : List ℕ) → ((i : ℕ) → i < length part.rows → is_held coded part i ≡ false) → new ≡ [] → new ≡ held_places coded part
-held-out part coded new out none = none ∙ sym (filter-none (is_held coded part) 0 (length part.rows) (λ i low high. out i (omega (arith, high))))
+pub held-out : (part : PartValue) (coded : List CodedPred) → ((i : ℕ) → i < length part.rows → is_held coded part i ≡ false) → [] ≡ held_places coded part
+held-out part coded out = sym (filter-none (is_held coded part) 0 (length part.rows) (λ i low high. out i (omega (arith, high))))
+
+-- a mask is narrowed by the test of a list, place by place
+both-map : (t : ℕ → Bool) (u : ℕ → Bool) (w : ℕ → Bool) (a : ℕ) (xs : List ℕ) → ((k : ℕ) → k < length xs → w (a + k) ≡ (t (a + k) && u (get_or xs k 0)))
+    → both (map t (range_with_len a (length xs))) (map u xs) ≡ map w (range_with_len a (length xs))
+both-map t u w a [] h = refl
+both-map t u w a (x ∷ xs) h = λ i. first i ∷ both-map t u w (a + 1) xs later i
+  where
+    first : (t a && u x) ≡ w a
+    first = let zero_more : a + 0 ≡ a = omega arith in sym (ap w (sym zero_more) ∙ h 0 (omega arith) ∙ ap (λ (n : ℕ). t n && u x) zero_more)
+
+    later : (k : ℕ) → k < length xs → w (a + 1 + k) ≡ (t (a + 1 + k) && u (get_or xs k 0))
+    later k lt = let e : a + 1 + k ≡ a + suc k = omega arith in ap w e ∙ h (suc k) (omega (arith, lt)) ∙ ap (λ (n : ℕ). t n && u (get_or xs k 0)) (sym e)
+
+-- a mask has a place for each row
+pub length-held : (coded : List CodedPred) (part : PartValue) → length (held_mask coded part) ≡ length part.rows
+length-held coded part = length-map (range_with_len 0 (length part.rows)) (is_held coded part) ∙ length-range_with_len 0 (length part.rows)
+
+-- without a comparison every place stands
+pub mask-none : (part : PartValue) (coded : List CodedPred) (n : ℕ) → n ≡ length part.rows → replicate n true ≡ held_mask (take 0 coded) part
+mask-none part coded n e = by 0 n ∙ ap (λ (m : ℕ). map (λ (i : ℕ). true) (range_with_len 0 m)) e
+  where
+    by : (a m : ℕ) → replicate m true ≡ map (λ (i : ℕ). true) (range_with_len a m)
+    by a zero = refl
+    by a (suc m) = ap (λ (l : List Bool). true ∷ l) (by (a + 1) m)
+
+-- the places that stand in the mask of all comparisons
+pub standing-held : (coded : List CodedPred) (part : PartValue) (mask : List Bool) → mask ≡ held_mask coded part → standing mask ≡ held_places coded part
+standing-held coded part mask is =
+    let held = is_held coded part in
+    let all = range_with_len 0 (length part.rows) in
+    ap (λ (m : List Bool). standing m) is
+    ∙ places-filter (λ (b : Bool). b) held false 0 (map held all) (λ k lt.
+    let there : k < length part.rows = omega (arith, lt, length-held coded part) in
+    let zero_more : 0 + k ≡ k = omega arith in
+    ap held zero_more ∙ sym (get_or-map-range_with_len held 0 (length part.rows) k k false there zero_more))
+    ∙ ap (λ n. filter held (range_with_len 0 n)) (length-held coded part)
+
+-- and that a viewer sees: tested place by place
+pub standing-seen : (v : Viewer) (number : ℕ) (rows : List KeyRow) (stamps : List Stamp) (mask : List Bool) → length mask ≡ length rows
+    → seen_at v number rows stamps (standing mask) ≡ map (found_at (Main number) rows) (filter (stands_seen v stamps mask) (range_with_len 0 (length mask)))
+standing-seen v number rows stamps mask size =
+    ap (λ (l : List ℕ). seen_at v number rows stamps l) (places-filter (λ (b : Bool). b) (λ i. get_or mask i false) false 0 mask (λ k lt. let e : 0 + k ≡ k = omega arith in ap (λ i. get_or mask i false) e))
+    ∙ ap (map (found_at (Main number) rows)) (filter-both (λ i. get_or mask i false) (is_seen v stamps) (stands_seen v stamps mask) 0 (length mask) (λ i low high. refl))
 
 module _ (part : PartValue) (coded : List CodedPred) (pred : CodedPred) (ranges : List (ℕ × ℕ)) (codes : Reached) (is : codes ≡ codes_in part pred.column)
     (within : (i : ℕ) → i < length part.rows → is_in ranges (code_at part i pred.column) ≡ is_in pred.ranges.items (code_at part i pred.column)) (k : ℕ) (lt : k < length coded) (at : pred ≡ get_or coded k pred) where
@@ -93,23 +144,17 @@ module _ (part : PartValue) (coded : List CodedPred) (pred : CodedPred) (ranges 
   count : length codes.codes ≡ length part.rows
   count = ap (λ (v : Reached). length v.codes) is ∙ length-codes part pred.column
 
-  -- the places that the first comparison finds
-  pub first-places : (old new : List ℕ) → k ≡ 0 → old ≡ [] → new ≡ old ++ places_where (is_in ranges) codes.codes → new ≡ held_places (take 1 coded) part
-  first-places old new first none e =
-      e ∙ ap (λ l. l ++ places_where (is_in ranges) codes.codes) none
-      ∙ places-filter (is_in ranges) (is_held (take 1 coded) part) 0 0 codes.codes (λ i there.
+  -- the mask that one comparison more narrows
+  pub more-mask : (old new : List Bool) → old ≡ held_mask (take k coded) part → new ≡ both old (map (is_in ranges) codes.codes) → new ≡ held_mask (take (k + 1) coded) part
+  more-mask old new so_far e =
+      e ∙ ap (λ (m : List Bool). both m (map (is_in ranges) codes.codes)) so_far
+      ∙ ap (λ (n : ℕ). both (map (is_held (take k coded) part) (range_with_len 0 n)) (map (is_in ranges) codes.codes)) (sym count)
+      ∙ both-map (is_held (take k coded) part) (is_in ranges) (is_held (take (k + 1) coded) part) 0 codes.codes (λ i there.
       let zero_more : 0 + i ≡ i = omega arith in
-      let one : k + 1 ≡ 1 = omega (arith, first) in
-      ap (is_held (take 1 coded) part) zero_more ∙ ap (λ n. is_held (take n coded) part i) (sym one) ∙ more-held i (omega (arith, there, count))
-      ∙ ap (λ n. is_held (take n coded) part i && is_in ranges (get_or codes.codes i 0)) first)
-      ∙ ap (λ n. filter (is_held (take 1 coded) part) (range_with_len 0 n)) count
+      ap (is_held (take (k + 1) coded) part) zero_more ∙ more-held i (omega (arith, there, count))
+      ∙ ap (λ (n : ℕ). is_held (take k coded) part n && is_in ranges (get_or codes.codes i 0)) (sym zero_more))
+      ∙ ap (λ (n : ℕ). map (is_held (take (k + 1) coded) part) (range_with_len 0 n)) count
 
-  -- and those that another one keeps
-  pub more-places : (old new : List ℕ) → old ≡ held_places (take k coded) part → new ≡ filter (λ i. nat_lt i (length codes.codes) && is_in ranges (get_or codes.codes i 0)) old → new ≡ held_places (take (k + 1) coded) part
-  more-places old new so_far e =
-      let keep = λ (i : ℕ). nat_lt i (length codes.codes) && is_in ranges (get_or codes.codes i 0) in
-      e ∙ ap (filter keep) so_far
-      ∙ filter-both (is_held (take k coded) part) keep (is_held (take (k + 1) coded) part) 0 (length part.rows) (λ i low high.
-      let there : i < length part.rows = omega (arith, high) in
-      more-held i there
-      ∙ ap (λ b. is_held (take k coded) part i && (b && is_in ranges (get_or codes.codes i 0))) (sym (lt-ltb i (length codes.codes) (omega (arith, there, count)))))
+  -- such a mask has a place for each of the codes
+  pub mask-length : (old : List Bool) → old ≡ held_mask (take k coded) part → length old ≡ length codes.codes
+  mask-length old so_far = ap (λ (m : List Bool). length m) so_far ∙ length-held (take k coded) part ∙ sym count

@@ -4,7 +4,7 @@ use Rattle.std.specs.List.{list_all}
 use Rattle.ut_stamps.specs.declared.place.Place.TheVariants.{Main}
 use Rattle.ut_stamps.specs.declared.visibility.Stamp.{Stamp}
 use Rattle.ut_key.specs.Keys.{meets}
-use Rattle.ut_bits.specs.Places.{is_in}
+use Rattle.ut_bits.specs.Places.{is_in, places_where}
 use Rattle.ut_l2.specs.KeyRows.{KeyRow, cells_at}
 use Rattle.ut_codes.specs.Reached.{Reached}
 use Rattle.ut_prefix.specs.Chain.{code_meets, end_to_end}
@@ -65,13 +65,17 @@ code_at part i column = get_or (codes_in part column).codes i 0
 abbrev pub is_held : List CodedPred → PartValue → ℕ → Bool
 is_held coded part i = are_held coded (code_at part i)
 
--- whether there is such a place, and its code stands in ranges
-abbrev pub is_held_at : List ℕ → List (ℕ × ℕ) → ℕ → Bool
-is_held_at codes ranges i = nat_lt i (length codes) && is_in ranges (get_or codes i 0)
-
 -- the places whose codes stand in the ranges of each comparison
 abbrev pub held_places : List CodedPred → PartValue → List ℕ
 held_places coded part = filter (is_held coded part) (all_places part.rows)
+
+-- the same as a mask: for each place whether its codes stand there
+abbrev pub held_mask : List CodedPred → PartValue → List Bool
+held_mask coded part = map (is_held coded part) (all_places part.rows)
+
+-- the places that stand in a mask
+abbrev pub standing : List Bool → List ℕ
+standing mask = places_where (λ b. b) mask
 
 -- the rows of a part at those places that a viewer sees
 abbrev pub seen_at : Viewer → ℕ → List KeyRow → List Stamp → List ℕ → List Found

@@ -1,7 +1,7 @@
 //! A scan of main's parts, by codes.
-ghost use Rattle.std.specs.Prelude.{◌≡◌, ℕ, ◌+◌, ◌<◌, ◌≤◌, ◌++◌, false, length, filter, All, IsTrue, OnOk};
+ghost use Rattle.std.specs.Prelude.{◌≡◌, ℕ, ◌+◌, ◌<◌, ◌≤◌, ◌++◌, false, length, All, IsTrue, IfOk, OnOk};
 ghost use Rattle.ut_bits.specs.Places.{is_in as is_in_ranges};
-ghost use Rattle.ut_scan.specs.Coded.{code_at, codes_in, held_places, is_held, is_held_at, seen_at};
+ghost use Rattle.ut_scan.specs.Coded.{code_at, codes_in, held_mask, held_places, is_held, seen_at, standing};
 ghost use Rattle.ut_scan.specs.Finds.{all_places, found_at};
 ghost use Rattle.ut_scan.specs.Probes.{found_in_main, is_seen};
 ghost use Rattle.ut_scan.specs.StageRows.{scan_steps, AreStampedParts};
@@ -12,10 +12,10 @@ use crate::probe::Viewer;
 use crate::stamp_table::StampTable;
 use std::alloc::{AllocError, Global};
 use std::sync::ledger::Ledger;
-use ut_bits::is_in;
 use ut_codes::CodeVec;
 use ut_key::{CodeRange, Steps};
 use ut_main::{Main, Part};
+use ut_mask::Mask;
 use ut_stamps::Stamp;
 
 /// A part of main with its number and its stamps, and what its rows must meet.
@@ -50,31 +50,22 @@ pub fn scan_parts<L: Ledger>(
         return Ok(());
     }
     let coded = coded_preds(alloc, main, preds, steps)?;
-    let mut places = Vec::new(alloc);
     for number in 0..main.parts() {
         let part = main.part(number);
         let stamps = stamps.part(number);
-        scan_part(
-            viewer,
-            coded.as_slice(),
-            number,
-            part,
-            stamps,
-            &mut places,
-            out,
-        )?;
+        scan_part(alloc, viewer, coded.as_slice(), number, part, stamps, out)?;
     }
     Ok(())
 }
 
-/// Appends the part's seen rows that meet each comparison. The places are those of an earlier part.
+/// Appends the part's seen rows that meet each comparison.
 fn scan_part(
+    alloc: Global,
     viewer: &Viewer<'_>,
     coded: &[CodedPred],
     number: u8,
     part: &Part,
     stamps: &[Stamp],
-    places: &mut Vec<u32>,
     out: &mut Vec<Found>,
 ) -> Result<(), AllocError>
     requires stamped { length stamps.now ≡ length part.now.rows }
@@ -93,28 +84,24 @@ fn scan_part(
     if coded.is_empty() {
         return probe.append_all(out);
     }
-    probe.pick(places)?;
-    probe.append_places(places.as_slice(), out)
+    if probe.is_out() {
+        return Ok(());
+    }
+    let mask = probe.held(alloc)?;
+    probe.append_standing(&mask, out)
 }
 
 impl PartProbe<'_> {
-    /// Finds the places whose codes meet each comparison.
-    fn pick(&self, places: &mut Vec<u32>) -> Result<(), AllocError>
-        requires { 0 < length self.now.coded.now }
-        ensures { OnOk result (
-            places.new.items ≡ held_places self.now.coded.now self.now.part.now) }
+    /// The places whose codes meet each comparison: one mask, which each of them narrows.
+    fn held(&self, alloc: Global) -> Result<Mask, AllocError>
+        ensures { let p = self.now in
+            IfOk result (λ mask. mask ≡ held_mask p.coded.now p.part.now) }
     {
-        places.clear();
-        if self.is_out() {
-            return Ok(());
+        let mut mask = Mask::new(alloc, self.part.len())?;
+        for pred in self.coded {
+            self.codes(pred).keep_in(self.ranges(pred), &mut mask);
         }
-        let first = &self.coded[0];
-        self.codes(first).places_in(self.ranges(first), places)?;
-        for k in 1..self.coded.len() {
-            let pred = &self.coded[k];
-            keep(self.codes(pred), self.ranges(pred), places);
-        }
-        Ok(())
+        Ok(mask)
     }
 
     /// Whether no code of the part meets one of the comparisons.
@@ -164,17 +151,21 @@ impl PartProbe<'_> {
         Ok(())
     }
 
-    /// Appends the rows at the places that are seen.
-    fn append_places(&self, places: &[u32], out: &mut Vec<Found>) -> Result<(), AllocError>
-        requires { All (λ i. i < length self.now.part.now.rows) places.now }
+    /// Appends the rows at the places that stand in a mask and are seen.
+    fn append_standing(&self, mask: &Mask, out: &mut Vec<Found>) -> Result<(), AllocError>
+        requires { length mask.now ≡ length self.now.part.now.rows }
         ensures { let p = self.now in OnOk result (out.new.items ≡ out.old.items
-            ++ seen_at p.viewer.now p.number p.part.now.rows p.stamps.now places.now) }
+            ++ seen_at p.viewer.now p.number p.part.now.rows p.stamps.now (standing mask.now)) }
     {
-        for place in places {
-            let i = *place;
+        let mut from = 0;
+        while from < mask.len() {
+            let Some(i) = mask.next(from) else {
+                return Ok(());
+            };
             if self.sees(i) {
                 out.push(self.found(i))?;
             }
+            from = i + 1;
         }
         Ok(())
     }
@@ -196,18 +187,4 @@ impl PartProbe<'_> {
             place: Place::Main(self.number, i),
         }
     }
-}
-
-/// Keeps the places whose code stands in one of the ranges.
-fn keep(codes: &CodeVec, ranges: &[CodeRange], places: &mut Vec<u32>)
-    ensures { places.new.items ≡ filter (is_held_at codes.now.codes ranges.now) places.old.items }
-{
-    places.retain(|place| is_held(codes, ranges, *place));
-}
-
-/// Whether there is such a place, and its code stands in one of the ranges.
-fn is_held(codes: &CodeVec, ranges: &[CodeRange], i: u32) -> bool
-    ensures { result ≡ is_held_at codes.now.codes ranges.now i }
-{
-    i < codes.len() && is_in(codes.get(i), ranges)
 }

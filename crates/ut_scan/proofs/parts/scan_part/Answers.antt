@@ -1,10 +1,8 @@
-use Rattle.std.proofs.Common.{◌≡◌, ◌∙◌, ◌<◌, ◌++◌, All, OnOk, length, sym, subst}
+use Rattle.std.proofs.Common.{◌≡◌, ◌∙◌, ◌++◌, List, ℕ, Bool, OnOk, length, sym, ap, refl, subst, append-nil}
 use Rattle.std.proofs.lemmas.Bool.{eqb-true}
 use Rattle.std.proofs.lemmas.List.{nil_from_length}
-use Rattle.ut_scan.specs.Coded.{held_places, is_held, seen_at}
-use Rattle.ut_scan.specs.Finds.{all_places}
-use Rattle.ut_scan.proofs.MainLemmas.{held-none}
-use Rattle.ut_scan.proofs.RangeLemmas.{filter-within}
+use Rattle.ut_scan.specs.Coded.{held_places, seen_at}
+use Rattle.ut_scan.proofs.MainLemmas.{held-none, held-out, length-held, standing-held}
 use Rattle.ut_scan.proofs.parts.scan_part.Goals as goal
 
 pub returns-then-is_empty : goal.returns-then-is_empty
@@ -15,7 +13,15 @@ returns-then-is_empty c =
     subst (λ places. OnOk c.append_all.result (c.append_all.new.out.items ≡ c.args.out.now.items ++ seen_at c.args.viewer.now c.args.number part.rows c.args.stamps.now places)) (sym (held-none part coded none))
     c.append_all.ensures
 
-pub append_places-requires : goal.append_places-requires
-append_places-requires c =
-    let part = c.args.part.now in
-    subst (All (λ i. i < length part.rows)) (sym (c.as_slice.ensures.value ∙ c.in_ok-pick.ensures)) (filter-within (is_held c.args.coded.now part) (length part.rows))
+pub returns-then-is_out : goal.returns-then-is_out
+returns-then-is_out c =
+    sym (append-nil c.args.out.now.items)
+    ∙ ap (λ (places : List ℕ). c.args.out.now.items ++ seen_at c.args.viewer.now c.args.number c.args.part.now.rows c.args.stamps.now places) (held-out c.args.part.now c.args.coded.now (c.if-is_out.ensures refl))
+
+pub append_standing-requires : goal.append_standing-requires
+append_standing-requires c = ap (λ (m : List Bool). length m) c.in_ok-mask.ensures ∙ length-held c.args.coded.now c.args.part.now
+
+pub returns : goal.returns
+returns c =
+    subst (λ places. OnOk c.append_standing.result (c.append_standing.new.out.items ≡ c.args.out.now.items ++ seen_at c.args.viewer.now c.args.number c.args.part.now.rows c.args.stamps.now places))
+    (standing-held c.args.coded.now c.args.part.now c.in_ok-mask.mask c.in_ok-mask.ensures) c.append_standing.ensures
