@@ -1,5 +1,5 @@
 -- The codes of a part's rows: the keys that they stand for among all keys of main.
-use Rattle.std.proofs.Common.{◌≡◌, ℕ, zero, suc, ◌+◌, ◌-◌, ◌<◌, ◌≤◌, Bool, true, false, not, ◌&&◌, ◌||◌, nat_lt, List, [], ◌∷◌, ◌++◌, length, map, take, drop, get_or, All, refl, sym, ◌∙◌, ap, subst, arith}
+use Rattle.std.proofs.Common.{◌≡◌, ℕ, zero, suc, ◌+◌, ◌-◌, ◌<◌, ◌≤◌, Bool, true, false, not, ◌&&◌, ◌||◌, List, [], ◌∷◌, ◌++◌, length, take, drop, get_or, All, refl, sym, ◌∙◌, ap, subst, arith}
 use borrow.Author.Tests.{lt-ltb}
 use Rattle.std.proofs.lemmas.List.{append_assoc, append-nil, length-append, length-map, get_or-map, get_or_append_left, take_at, take_all}
 use Rattle.std.proofs.lemmas.List.Elements.{All-push, All-head, All-tail}
@@ -7,14 +7,14 @@ use Rattle.std.proofs.lemmas.List.Folds.{list_all-append, list_all_more}
 use Rattle.std.proofs.lemmas.List.Sorted.{All-permutation, length_permutation, list_any-IsPermutation}
 use Rattle.std.proofs.lemmas.List.Sums.{sum_by_more, sum_by-take-le}
 use Rattle.std.specs.Arc.{arc_value}
-use Rattle.std.specs.List.{list_all, list_any, sum_by}
+use Rattle.std.specs.List.{list_all, list_any}
 use Rattle.std.specs.declared.sync.Arc.{Arc}
 use Rattle.std.specs.List.Sorted.{IsPermutation}
 use Rattle.ut_key.specs.Keys.{meets}
 use Rattle.ut_bits.specs.Places.{is_in}
-use Rattle.ut_l2.specs.KeyRows.{KeyRow, cells_at, key_at, no_row}
+use Rattle.ut_l2.specs.KeyRows.{cells_at, key_at, no_row}
 use Rattle.ut_own.specs.Own.{own_dict, In}
-use Rattle.ut_prefix.specs.Chain.{chain_steps, code_meets, end_to_end}
+use Rattle.ut_prefix.specs.Chain.{chain_steps, end_to_end}
 use Rattle.ut_prefix.proofs.ChainLemmas.{end_to_end-push}
 use Rattle.ut_main.specs.Columns.{Chain, chain_of, place_of}
 use Rattle.ut_main.specs.Parts.{MainValue, PartValue, dicts_behind, first_parts, part_chain}
@@ -24,7 +24,7 @@ use Rattle.ut_main.proofs.MainLemmas.{dicts-next, first-all, length-dicts_behind
 use Rattle.ut_scan.specs.declared.coded.CodedPred.{CodedPred}
 use Rattle.ut_scan.specs.declared.place.ColumnPred.{ColumnPred}
 use Rattle.ut_scan.specs.Finds.{passes}
-use Rattle.ut_scan.specs.Coded.{keys_in, IsCoded, are_held, keys_meet, AreCodes, AreCoded, code_at, is_held}
+use Rattle.ut_scan.specs.Coded.{keys_in, IsCoded, AreCoded, code_at, is_held}
 use Rattle.ut_scan.specs.StageRows.{scan_steps}
 
 -- ---- the keys of all dictionaries

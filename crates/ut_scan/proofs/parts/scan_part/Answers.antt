@@ -1,7 +1,7 @@
 use Rattle.std.proofs.Common.{◌≡◌, ◌∙◌, ◌++◌, List, ℕ, Bool, OnOk, length, sym, ap, refl, subst, append-nil}
 use Rattle.std.proofs.lemmas.Bool.{eqb-true}
 use Rattle.std.proofs.lemmas.List.{nil_from_length}
-use Rattle.ut_scan.specs.Coded.{held_places, seen_at}
+use Rattle.ut_scan.specs.Coded.{seen_at}
 use Rattle.ut_scan.proofs.MainLemmas.{held-none, held-out, length-held, standing-held}
 use Rattle.ut_scan.proofs.parts.scan_part.Goals as goal
 

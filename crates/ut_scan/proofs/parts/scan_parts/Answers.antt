@@ -1,4 +1,4 @@
-use Rattle.std.proofs.Common.{◌≡◌, ◌∙◌, ◌<◌, ◌++◌, [], List, length, get_or, All, ap, sym, subst, arith}
+use Rattle.std.proofs.Common.{◌∙◌, ◌<◌, ◌++◌, [], List, length, get_or, All, ap, sym, subst, arith}
 use Rattle.ut_stamps.specs.declared.visibility.Stamp.{Stamp}
 use Rattle.ut_l2.specs.KeyRows.{KeyRow}
 use Rattle.ut_scan.specs.declared.coded.CodedPred.{CodedPred}
