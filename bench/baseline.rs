@@ -13,6 +13,7 @@ enum Pattern {
     Mixed,
     Repeated,
     Rare,
+    Ascending,
 }
 
 fn scattered(x: u64) -> u64 {
@@ -36,6 +37,7 @@ fn code_at(pattern: Pattern, i: u32, reach: u32) -> u32 {
                 0
             }
         }
+        Pattern::Ascending => i.min(reach - 1),
     }
 }
 
@@ -451,8 +453,49 @@ fn width_of(reach: u32) -> u8 {
         .unwrap_or(32)
 }
 
+/// How many codes a block has.
+const BLOCK: u32 = 1024;
+
+/// Packed codes, and the least and the greatest of each block.
+struct Packed {
+    list: BitList,
+    bounds: Vec<(u32, u32)>,
+}
+
+impl Packed {
+    fn of(list: BitList) -> Self {
+        let mut bounds = Vec::with_capacity((list.len as usize + 1023) / 1024);
+        for start in (0..list.len).step_by(BLOCK as usize) {
+            let (mut least, mut greatest) = (u32::MAX, 0);
+            for i in start..list.len.min(start + BLOCK) {
+                let code = list.get(i);
+                least = least.min(code);
+                greatest = greatest.max(code);
+            }
+            bounds.push((least, greatest));
+        }
+        Packed { list, bounds }
+    }
+
+    fn keep_in(&self, ranges: &[(u32, u32)], mask: &mut [u64]) {
+        for k in 0..mask.len() as u32 {
+            let (least, greatest) = self.bounds[(64 * k / BLOCK) as usize];
+            if ranges.iter().any(|range| range.0 <= least && greatest < range.1) {
+                continue;
+            }
+            let mut bits = 0;
+            if ranges.iter().any(|range| range.0 <= greatest && least < range.1) {
+                for i in (64 * k..self.list.len.min(64 * k + 64)).rev() {
+                    bits = bits << 1 | u64::from(is_in(self.list.get(i), ranges));
+                }
+            }
+            mask[k as usize] &= bits;
+        }
+    }
+}
+
 enum Shape {
-    Packed(BitList),
+    Packed(Packed),
     Runs(Runs),
     Sparse(Sparse),
 }
@@ -486,11 +529,11 @@ impl CodeVec {
         let width = width_of(reach);
         let (form, top) = choose(codes, width);
         let shape = match form {
-            0 => Shape::Packed(BitList::from_codes(
+            0 => Shape::Packed(Packed::of(BitList::from_codes(
                 codes.iter().copied(),
                 codes.len(),
                 width,
-            )),
+            ))),
             1 => Shape::Runs(Runs::from_codes(codes)),
             _ => Shape::Sparse(Sparse::leaving_out(codes, width, top)),
         };
@@ -499,7 +542,7 @@ impl CodeVec {
 
     fn len(&self) -> u32 {
         match &self.shape {
-            Shape::Packed(vector) => vector.len,
+            Shape::Packed(vector) => vector.list.len,
             Shape::Runs(vector) => vector.len,
             Shape::Sparse(vector) => vector.marks.len,
         }
@@ -507,7 +550,7 @@ impl CodeVec {
 
     fn get(&self, i: u32) -> u32 {
         match &self.shape {
-            Shape::Packed(vector) => vector.get(i),
+            Shape::Packed(vector) => vector.list.get(i),
             Shape::Runs(vector) => vector.get(i),
             Shape::Sparse(vector) => vector.get(i),
         }
@@ -516,8 +559,8 @@ impl CodeVec {
     fn places_in(&self, ranges: &[(u32, u32)], out: &mut Vec<u32>) {
         match &self.shape {
             Shape::Packed(vector) => {
-                for i in 0..vector.len {
-                    if is_in(vector.get(i), ranges) {
+                for i in 0..vector.list.len {
+                    if is_in(vector.list.get(i), ranges) {
                         out.push(i);
                     }
                 }
@@ -528,6 +571,9 @@ impl CodeVec {
     }
 
     fn keep_in(&self, ranges: &[(u32, u32)], mask: &mut [u64]) {
+        if let Shape::Packed(vector) = &self.shape {
+            return vector.keep_in(ranges, mask);
+        }
         for k in 0..mask.len() as u32 {
             let mut bits = 0;
             for i in (64 * k..self.len().min(64 * k + 64)).rev() {
@@ -541,7 +587,7 @@ impl CodeVec {
         match &self.shape {
             Shape::Packed(vector) => {
                 out.push(0);
-                vector.bytes_of(out);
+                vector.list.bytes_of(out);
             }
             Shape::Runs(vector) => {
                 out.push(1);
@@ -560,7 +606,7 @@ impl CodeVec {
         let (shape, count) = match *bytes.first()? {
             0 => {
                 let (vector, count) = BitList::from_bytes(behind, rows, width)?;
-                (Shape::Packed(vector), count)
+                (Shape::Packed(Packed::of(vector)), count)
             }
             1 => {
                 let (vector, count) = Runs::from_bytes(behind, rows, width)?;
@@ -573,7 +619,7 @@ impl CodeVec {
             _ => return None,
         };
         let (form, codes) = match &shape {
-            Shape::Packed(vector) => (0, vector.codes()),
+            Shape::Packed(vector) => (0, vector.list.codes()),
             Shape::Runs(vector) => {
                 let runs = 64 * vector.runs.len() as u64;
                 let least = vector.runs.iter().all(|run| run.code < reach)
@@ -626,6 +672,10 @@ fn time_codes(subject: &str, pattern: Pattern, count: u32, reach: u32) {
     let start = Instant::now();
     vector.keep_in(&[(0, reach / 4), (reach / 2, reach)], &mut mask);
     say(subject, "keep_in_but", start, places(&mask));
+    let mut mask = vec![u64::MAX; (vector.len() as usize + 63) / 64];
+    let start = Instant::now();
+    vector.keep_in(&[(reach / 2, reach / 2 + 1)], &mut mask);
+    say(subject, "keep_one", start, places(&mask));
     let mut bytes = Vec::new();
     let start = Instant::now();
     vector.bytes_of(&mut bytes);
@@ -715,6 +765,7 @@ fn main() {
     }
     time_codes("runs", Pattern::Repeated, codes, 1 << 9);
     time_codes("sparse", Pattern::Rare, codes, 1 << 9);
+    time_codes("ascending", Pattern::Ascending, codes, codes.max(1));
     time_keys("int", int_keys(keys));
     time_keys("text", text_keys(keys));
 }

@@ -13,6 +13,8 @@ pub enum Pattern {
     Repeated,
     /// One of twenty is drawn, the others are 0.
     Rare,
+    /// Each is one greater than the one before it.
+    Ascending,
 }
 
 /// A number whose bits all depend on those of `x`.
@@ -43,6 +45,7 @@ fn code_at(pattern: Pattern, i: u32, reach: u32) -> u32
                 0
             }
         }
+        Pattern::Ascending => i.min(reach - 1),
     }
 }
 

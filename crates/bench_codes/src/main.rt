@@ -69,5 +69,14 @@ fn main(rt: HostRuntime) -> Result<()> {
     }
     vectors::time_all(&rt, alloc, "runs", Pattern::Repeated, sizes.codes, 1 << 9)?;
     vectors::time_all(&rt, alloc, "sparse", Pattern::Rare, sizes.codes, 1 << 9)?;
+    let reach = sizes.codes.max(1);
+    vectors::time_all(
+        &rt,
+        alloc,
+        "ascending",
+        Pattern::Ascending,
+        sizes.codes,
+        reach,
+    )?;
     lookups::time_all::<_, Brand>(&rt, alloc, sizes.keys, Blank::new(1))
 }

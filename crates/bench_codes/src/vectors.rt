@@ -56,6 +56,24 @@ fn time_packing<R: Print + Eprint + Clock>(
     say(rt, subject, "pack", start, u64::from(packed.len()))
 }
 
+/// Times the scans that list places; the second range holds the code 0.
+fn time_places<R: Print + Eprint + Clock>(
+    rt: &R,
+    alloc: Global,
+    subject: &str,
+    vector: &CodeVec,
+    reach: u32,
+) -> Result<()> {
+    let mut places = Vec::new(alloc);
+    let start = Instant::now(rt)?;
+    vector.places_in(&[(reach / 4, reach / 2)], &mut places)?;
+    say(rt, subject, "places_in", start, places.len() as u64)?;
+    let mut low = Vec::new(alloc);
+    let start = Instant::now(rt)?;
+    vector.places_in(&[(0, reach / 2)], &mut low)?;
+    say(rt, subject, "places_in_low", start, low.len() as u64)
+}
+
 /// Times the scans that narrow a mask, by one range and by two.
 fn time_masks<R: Print + Eprint + Clock>(
     rt: &R,
@@ -75,6 +93,21 @@ fn time_masks<R: Print + Eprint + Clock>(
     say(rt, subject, "keep_in_but", start, u64::from(but.count()))
 }
 
+/// Times the scan that narrows a mask by a range of one code.
+fn time_point<R: Print + Eprint + Clock>(
+    rt: &R,
+    alloc: Global,
+    subject: &str,
+    vector: &CodeVec,
+    reach: u32,
+) -> Result<()> {
+    let mut mask = Mask::new(alloc, vector.len())?;
+    let code = reach / 2;
+    let start = Instant::now(rt)?;
+    vector.keep_in(&[(code, code + 1)], &mut mask);
+    say(rt, subject, "keep_one", start, u64::from(mask.count()))
+}
+
 fn time_calls<R: Print + Eprint + Clock>(
     rt: &R,
     alloc: Global,
@@ -91,15 +124,9 @@ fn time_calls<R: Print + Eprint + Clock>(
     let start = Instant::now(rt)?;
     let sum = sum(&vector);
     say(rt, subject, "get", start, sum)?;
-    let mut places = Vec::new(alloc);
-    let start = Instant::now(rt)?;
-    vector.places_in(&[(reach / 4, reach / 2)], &mut places)?;
-    say(rt, subject, "places_in", start, places.len() as u64)?;
-    let mut low = Vec::new(alloc);
-    let start = Instant::now(rt)?;
-    vector.places_in(&[(0, reach / 2)], &mut low)?;
-    say(rt, subject, "places_in_low", start, low.len() as u64)?;
+    time_places(rt, alloc, subject, &vector, reach)?;
     time_masks(rt, alloc, subject, &vector, reach)?;
+    time_point(rt, alloc, subject, &vector, reach)?;
     let mut bytes = Vec::new(alloc);
     let start = Instant::now(rt)?;
     vector.bytes_of(&mut bytes)?;
