@@ -641,6 +641,15 @@ impl CodeVec {
     }
 }
 
+/// A mask in which every place stands.
+fn every_place(len: u32) -> Vec<u64> {
+    let mut mask = vec![u64::MAX; len as usize / 64];
+    if len % 64 != 0 {
+        mask.push((1 << (len % 64)) - 1);
+    }
+    mask
+}
+
 fn time_codes(subject: &str, pattern: Pattern, count: u32, reach: u32) {
     let mut codes = Vec::with_capacity(count as usize);
     for i in 0..count {
@@ -664,15 +673,15 @@ fn time_codes(subject: &str, pattern: Pattern, count: u32, reach: u32) {
     vector.places_in(&[(0, reach / 2)], &mut places);
     say(subject, "places_in_low", start, places.len() as u64);
     let places = |mask: &[u64]| mask.iter().map(|word| u64::from(word.count_ones())).sum();
-    let mut mask = vec![u64::MAX; (vector.len() as usize + 63) / 64];
+    let mut mask = every_place(vector.len());
     let start = Instant::now();
     vector.keep_in(&[(reach / 4, reach / 2)], &mut mask);
     say(subject, "keep_in", start, places(&mask));
-    let mut mask = vec![u64::MAX; (vector.len() as usize + 63) / 64];
+    let mut mask = every_place(vector.len());
     let start = Instant::now();
     vector.keep_in(&[(0, reach / 4), (reach / 2, reach)], &mut mask);
     say(subject, "keep_in_but", start, places(&mask));
-    let mut mask = vec![u64::MAX; (vector.len() as usize + 63) / 64];
+    let mut mask = every_place(vector.len());
     let start = Instant::now();
     vector.keep_in(&[(reach / 2, reach / 2 + 1)], &mut mask);
     say(subject, "keep_one", start, places(&mask));
