@@ -1,6 +1,6 @@
 //! The state of a journal, worked out from its entries.
-ghost use Rattle.std.specs.Prelude.{◌≤◌, ◌<◌, ◌+◌, length, IfOk};
-ghost use Rattle.ut_plain.specs.State.{empty_state, after};
+ghost use Rattle.std.specs.Prelude.{◌≤◌, ◌<◌, ◌+◌, [], ◌∷◌, length, IfOk};
+ghost use Rattle.ut_plain.specs.State.{empty_state};
 ghost use Rattle.ut_plain.specs.Journal.{after_all};
 ghost use Rattle.check_rows.specs.Known.{IsKnown, Follows};
 
@@ -18,12 +18,12 @@ pub struct Known {
     pub merges: u32,
 }
 
-/// The state after these entries.
-pub fn state_after(alloc: Global, entries: &[Entry]) -> Result<Known, AllocError>
-    requires { length entries.now ≤ 1073741824 }
-    ensures state { IfOk result (λ known. IsKnown known (after_all empty_state entries.now)) }
-    ensures commits { IfOk result (λ known. known.commits ≤ length entries.now) }
-    ensures merges { IfOk result (λ known. known.merges ≤ length entries.now) }
+/// The state after the first entries, and then those behind them.
+pub fn state_after(alloc: Global, first: &[Entry], behind: &[Entry]) -> Result<Known, AllocError>
+    requires { length first.now + length behind.now ≤ 1073741824 }
+    ensures state { IfOk result (λ known. IsKnown known (after_all (after_all empty_state first.now) behind.now)) }
+    ensures commits { IfOk result (λ known. known.commits ≤ length first.now + length behind.now) }
+    ensures merges { IfOk result (λ known. known.merges ≤ length first.now + length behind.now) }
 {
     let mut known = Known {
         tables: Vec::new(alloc),
@@ -31,16 +31,28 @@ pub fn state_after(alloc: Global, entries: &[Entry]) -> Result<Known, AllocError
         commits: 0,
         merges: 0,
     };
-    for entry in entries {
-        follow(alloc, &mut known, entry)?;
-    }
+    follow_all(alloc, &mut known, first)?;
+    follow_all(alloc, &mut known, behind)?;
     Ok(known)
+}
+
+fn follow_all(alloc: Global, known: &mut Known, entries: &[Entry]) -> Result<(), AllocError>
+    requires commits { known.old.commits + length entries.now ≤ 1073741824 }
+    requires merges { known.old.merges + length entries.now ≤ 1073741824 }
+    ensures state { IfOk result (λ _. Follows known.old entries.now known.new) }
+    ensures commits { IfOk result (λ _. known.new.commits ≤ known.old.commits + length entries.now) }
+    ensures merges { IfOk result (λ _. known.new.merges ≤ known.old.merges + length entries.now) }
+{
+    for entry in entries {
+        follow(alloc, known, entry)?;
+    }
+    Ok(())
 }
 
 fn follow(alloc: Global, known: &mut Known, entry: &Entry) -> Result<(), AllocError>
     requires commits { known.old.commits < 1073741824 }
     requires merges { known.old.merges < 1073741824 }
-    ensures state { IfOk result (λ _. Follows known.old entry.now known.new) }
+    ensures state { IfOk result (λ _. Follows known.old (entry.now ∷ []) known.new) }
     ensures commits { IfOk result (λ _. known.new.commits ≤ known.old.commits + 1) }
     ensures merges { IfOk result (λ _. known.new.merges ≤ known.old.merges + 1) }
 {

@@ -2,7 +2,7 @@
 ghost use Rattle.std.specs.Prelude.{◌≡◌, ◌<◌, [], ◌∷◌};
 ghost use Rattle.std.specs.List.{sum_by};
 ghost use Rattle.ut_plain.specs.Rows.{op_inserts, inserts_of, next_after};
-ghost use Rattle.ut_plain.specs.State.{empty_state, entry_inserts};
+ghost use Rattle.ut_plain.specs.State.{State, empty_state, entry_inserts};
 ghost use Rattle.ut_plain.specs.Journal.{after_all};
 ghost use Rattle.check_rows.specs.Known.{entry_next};
 
@@ -58,11 +58,17 @@ fn next_after_entry(next: u64, entry: &Entry) -> u64
     }
 }
 
-/// One above the greatest id that these entries insert.
-pub fn next_of(entries: &[Entry]) -> u64
-    ensures { result ≡ (after_all empty_state entries.now).next }
+/// One above the greatest id that the first entries insert and those behind them.
+pub fn next_of(first: &[Entry], behind: &[Entry]) -> u64
+    ensures { result ≡ (after_all (after_all empty_state first.now) behind.now).next }
 {
-    let mut next = 1;
+    next_from(next_from(1, first), behind)
+}
+
+fn next_from(from: u64, entries: &[Entry]) -> u64
+    ensures { (s : State) → s.next ≡ from → result ≡ (after_all s entries.now).next }
+{
+    let mut next = from;
     for entry in entries {
         next = next_after_entry(next, entry);
     }

@@ -8,7 +8,8 @@ use std::alloc::{AllocError, Global};
 use ut_plain::Placed;
 use ut_value::Seq;
 
-fn has(ids: &[u32], id: u32) -> bool
+/// Whether an id is one of these.
+pub fn has(ids: &[u32], id: u32) -> bool
     ensures { result ≡ list_any (nat_eq id) ids.now }
 {
     ids.iter().any(|other| id == *other)

@@ -104,7 +104,8 @@ pub fn switched(
     Ok(next)
 }
 
-fn closed_places(stages: &TableStages) -> &[Placed]
+/// The places of the closed stage, none where nothing is closed.
+pub fn closed_places(stages: &TableStages) -> &[Placed]
     ensures { result.now ≡ unwrap_or stages.now.closed [] }
 {
     match &stages.closed {

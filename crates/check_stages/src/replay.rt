@@ -4,7 +4,7 @@ ghost use Rattle.std.specs.Option.{option_map};
 ghost use Rattle.ut_plain.specs.Stages.{with_stages};
 ghost use Rattle.ut_plain.specs.Restart.{buried, with_dead, replayed_ops, replayed_entry, replayed};
 
-use crate::stages::{no_stages, place_row};
+use crate::stages::{no_stages, place_row, stages_copied};
 use std::alloc::{AllocError, Global};
 use ut_plain::{Placed, TableStages};
 use ut_value::{Duplicate, Entry, Op, Seq};
@@ -125,11 +125,15 @@ fn replay_entry(
     }
 }
 
-/// The stages behind these entries, from none on.
-pub fn replayed(alloc: Global, entries: &[Entry]) -> Result<Vec<TableStages>, AllocError>
-    ensures { IfOk result (λ stages. stages.items ≡ replayed [] entries.now) }
+/// The stages behind these entries, from others on.
+pub fn replayed(
+    alloc: Global,
+    first: &[TableStages],
+    entries: &[Entry],
+) -> Result<Vec<TableStages>, AllocError>
+    ensures { IfOk result (λ stages. stages.items ≡ replayed first.now entries.now) }
 {
-    let mut stages = Vec::new(alloc);
+    let mut stages = stages_copied(alloc, first)?;
     for entry in entries {
         replay_entry(alloc, &mut stages, entry)?;
     }

@@ -1,10 +1,11 @@
 //! How many rows stand in each stage.
-ghost use Rattle.std.specs.Prelude.{◌≡◌, ◌<◌, [], length, map, IfOk};
+ghost use Rattle.std.specs.Prelude.{◌≡◌, ◌<◌, ◌+◌, [], nat_le, length, map, IfOk, IfSome, IfNone};
 ghost use Rattle.std.specs.List.{sum_by};
 ghost use Rattle.std.specs.Option.{option_map, unwrap_or};
-ghost use Rattle.ut_plain.specs.Stages.{places_of, shape_of};
+ghost use Rattle.ut_plain.specs.Stages.{places_of, all_places, shape_of};
 ghost use Rattle.ut_plain.specs.Merges.{main_places};
 
+use crate::merges::closed_places;
 use std::alloc::{AllocError, Global};
 use ut_plain::{Placed, Shape, TableStages};
 use ut_value::Seq;
@@ -43,4 +44,28 @@ fn closed_len(closed: &Option<Seq<Placed>>) -> Option<u32>
         None => None,
         Some(places) => Some(places.len() as u32),
     }
+}
+
+/// Whether at most so many rows stand outside main.
+pub fn has_at_most(stages: &[TableStages], rows: usize) -> bool
+    ensures { result ≡ nat_le (all_places stages.now) rows }
+{
+    let mut left = rows;
+    for table in stages {
+        match left_by(left, table) {
+            None => return false,
+            Some(rest) => left = rest,
+        }
+    }
+    true
+}
+
+/// What is left of a room behind the rows of a table that stand outside main, none where they need more.
+fn left_by(room: usize, stages: &TableStages) -> Option<usize>
+    ensures left { IfSome result (λ left. left + places_of stages.now ≡ room) }
+    ensures more { IfNone result (room < places_of stages.now) }
+{
+    let left = room.checked_sub(stages.l1.len())?;
+    let left = left.checked_sub(stages.l2.len())?;
+    left.checked_sub(closed_places(stages).len())
 }
