@@ -50,7 +50,7 @@ abbrev opening : Directory → Opening
 opening d = record { stages = d.stages; image_pages = λ (e : Directory). 0; root_pages = 0 }
 
 -- what is read is an image of its journal
-reading_image : (j : Journal) (root : Root) (d : Directory) → IsBase root d j.base → MayOpen d.stages j → IsRoot root → IsImageOf j root d
+pub reading_image : (j : Journal) (root : Root) (d : Directory) → IsBase root d j.base → MayOpen d.stages j → IsRoot root → IsImageOf j root d
 reading_image j root d base may rules =
     let here : root.length ≡ j.base.length = sym base.length in
     let is : state_at j root.length ≡ j.base = none_before j root.length here in
@@ -118,6 +118,7 @@ made_image = record {
     parts = [];
     each = tt;
     each_reaches = tt;
+    count = refl;
     describes = inl (refl, refl, refl);
   };
 }

@@ -26,13 +26,14 @@ use Rattle.ut_pages.specs.declared.slot.Slot.{Slot}
 use Rattle.ut_pages.specs.declared.root.Root.{Root}
 use Rattle.ut_pages.specs.Layout.{IsRead, IsRoot}
 use Rattle.ut_durable.specs.Rules.{IsImageRow, IsDelta, IsImageTable, IsDirectory, image_ids}
-use Rattle.ut_durable.specs.Bytes.{Chain, row_in, key_rows, main_of, part_ref, part_refs, live_marks, HoldsPart, HoldParts, drawn, drawn_all, HoldTables, Describes, no_directory}
+use Rattle.ut_durable.specs.Bytes.{Chain, row_in, key_rows, main_of, part_ref, part_refs, live_marks, HoldsPart, HoldParts, drawn, drawn_all, HoldTables, Describes, pages_for, no_directory}
 use Rattle.ut_durable.specs.Images.{StandsIn, IsWithin, HasImage}
-use Rattle.ut_reading.specs.Standing.{part_of, IsReached, IsAnywhere, PartFits, PartsFit, MainFits, StandsMain, live_in_mains, AreDrawnIn, StandsImage}
+use Rattle.ut_reading.specs.Standing.{part_of, all_part_pages, IsReached, IsAnywhere, PartFits, PartsFit, MainFits, StandsMain, live_in_mains, AreDrawnIn, StandsImage}
 use Rattle.ut_reading.specs.Reading.{mains_of, Show, Begins}
 use Rattle.ut_reading.proofs.ListLemmas.{all_places, all_each, all_first, all_last, all_both, all_map}
 use Rattle.ut_reading.proofs.PartLemmas.{rows_before, one_more}
-use Rattle.ut_reading.proofs.RuleLemmas.{no_rules, refs_long, all_long, differ_same, deltas_same, live_same}
+use Rattle.ut_reading.proofs.FindLemmas.{chain_long}
+use Rattle.ut_reading.proofs.RuleLemmas.{no_rules, all_pages, refs_long, all_long, differ_same, deltas_same, live_same}
 use Rattle.ut_reading.proofs.KeyLemmas.{cells_of_keys}
 
 -- ---- a row
@@ -255,6 +256,7 @@ pub record DrawnImage (root : Root) (bytes : List ℕ) (tables : List Drawn) (ma
   pub directory : Directory
   pub chains : List (List Chain)
   pub rules : IsDirectory root.next root.commits directory
+  pub hold : HoldTables directory.tables chains directory.stages
   pub drawn : drawn_all directory.tables chains directory.stages ≡ tables
   pub keys : mains_of directory.tables directory.stages ≡ mains
   pub stand : AllByRecursion Stands (flat_map (λ (c : List Chain). c) chains)
@@ -271,6 +273,7 @@ keys_drawn root bytes tables mains Stands low (inl none) fit ids = record {
   directory = no_directory;
   chains = [];
   rules = no_rules root.next root.commits;
+  hold = tt;
   drawn = sym none.1;
   keys = sym (no_mains Stands tables mains none.1 fit);
   stand = tt;
@@ -296,6 +299,7 @@ keys_drawn root bytes tables mains Stands low (inr some) fit ids =
         stages = all.are;
         ids = subst (AreOwnIds root.next) own ids;
       };
+      hold = all.hold;
       drawn = all.drawn;
       keys = all.keys;
       stand = all.stand;
@@ -305,14 +309,14 @@ keys_drawn root bytes tables mains Stands low (inr some) fit ids =
 -- ---- the whole image
 
 -- What was read of a page file in keys is its image.
-pub image_drawn : (slot : Slot) (pages reached : List ℕ) (root : Root) (bytes : List ℕ) (tables : List Drawn) (mains : List MainValue) (file : List ℕ) → IsRead slot pages root bytes file → ((k : ℕ) → Contains pages k → Contains reached k)
+pub image_drawn : (slot : Slot) (pages reached : List ℕ) (root : Root) (bytes : List ℕ) (tables : List Drawn) (mains : List MainValue) (file : List ℕ) → IsRead slot pages root bytes file → ((k : ℕ) → Contains pages k → Contains reached k) → length reached ≡ length pages + all_part_pages tables
     → StandsImage root bytes tables mains reached file → (d : Directory) × Show tables mains d × HasImage slot reached root d file
-image_drawn slot pages reached root bytes tables mains file read within stands =
+image_drawn slot pages reached root bytes tables mains file read within count stands =
     let fits = read.has.rules.allowed.next.1 in
     let all : DrawnImage root bytes tables mains (IsReached reached file) = keys_drawn root bytes tables mains (IsReached reached file) (omega (arith, fits)) stands.drawn stands.parts stands.ids in
     let chains : List Chain = flat_map (λ (c : List Chain). c) all.chains in (
       all.directory,
-      record { chains = all.chains; drawn = sym all.drawn; parts = sym all.keys },
+      record { chains = all.chains; hold = all.hold; drawn = sym all.drawn; parts = sym all.keys },
       record {
         has = read.has;
         image = record {
@@ -324,6 +328,11 @@ image_drawn slot pages reached root bytes tables mains file read within stands =
           parts = chains;
           each = all_map (IsReached reached file) (StandsIn file) chains (λ c is. is.0) all.stand;
           each_reaches = all_map (IsReached reached file) (IsWithin reached) chains (λ c is. is.1) all.stand;
+          count =
+              let own = chain_long pages root.first_page bytes file read.chain.chain in
+              let parts : all_part_pages tables ≡ sum_by (λ (c : Chain). pages_for (length c.bytes)) chains =
+              ap (λ (l : List Drawn). all_part_pages l) (sym all.drawn) ∙ all_pages all.directory.tables all.chains all.directory.stages all.hold in
+              omega (arith, count, own, parts);
           describes = by all all.spelled;
         };
       },
@@ -346,4 +355,4 @@ pub image_begins : (root : Root) (bytes : List ℕ) (tables : List Drawn) (mains
 image_begins root bytes tables mains rules drawn fit ids =
     let fits = rules.allowed.next.1 in
     let all = keys_drawn root bytes tables mains IsAnywhere (omega (arith, fits)) drawn fit ids in
-    (all.directory, record { rules = rules; shown = record { chains = all.chains; drawn = sym all.drawn; parts = sym all.keys }; directory = all.rules })
+    (all.directory, record { rules = rules; shown = record { chains = all.chains; hold = all.hold; drawn = sym all.drawn; parts = sym all.keys }; directory = all.rules })

@@ -1,7 +1,8 @@
 -- What a reading has found so far, and what is left of every image.
 use Rattle.std.proofs.Common.{◌≡◌, ⊎_elim, ℕ, zero, suc, ◌+◌, ◌<◌, ◌≤◌, Bool, true, false, cond, List, [], ◌∷◌, ◌++◌, length, map, drop, get_or, Err, refl, sym, ◌∙◌, ap, subst, arith, append_assoc, length-append}
 use Rattle.std.specs.Prelude.{Contains}
-use Rattle.std.specs.List.{AllByRecursion, AllZip, items_where_true}
+use Rattle.std.specs.List.{AllByRecursion, AllZip, items_where_true, sum_by}
+use Rattle.std.proofs.lemmas.List.Sums.{sum_by-cons, sum_by-append}
 use Rattle.std.specs.Result.{IsErrOf}
 use Rattle.std.proofs.lemmas.List.{append-nil}
 use Rattle.std.proofs.lemmas.List.Elements.{Contains-append_left, Contains-append_right, Contains-append_cases}
@@ -18,12 +19,22 @@ use Rattle.ut_image.specs.declared.drawn.Drawn.{Drawn}
 use Rattle.ut_pages.specs.Layout.{IsChain, HasChain}
 use Rattle.ut_pages.proofs.OneLemmas.{one_chain}
 use Rattle.ut_pages.proofs.MadeLemmas.{chain_there}
-use Rattle.ut_durable.specs.Bytes.{Chain}
+use Rattle.ut_durable.specs.Bytes.{Chain, pages_for}
 use Rattle.ut_durable.specs.Images.{IsWithin}
 use Rattle.ut_reading.specs.declared.parts.Reader.{Reader}
-use Rattle.ut_reading.specs.Standing.{IsReached, IsAnywhere, PartFits, PartsFit, MainFits, part_of, with_part, no_parts, StandsPart, StandParts, StandsMain, live_in, live_in_parts, live_in_mains, ReachMore}
+use Rattle.ut_reading.specs.Standing.{part_pages, all_part_pages, IsReached, IsAnywhere, PartFits, PartsFit, MainFits, part_of, with_part, no_parts, StandsPart, StandParts, StandsMain, live_in, live_in_parts, live_in_mains, ReachMore}
 use Rattle.ut_reading.specs.Found.{MayRead, Reaches, FoundPart, FoundMain, FoundMains}
 use Rattle.ut_reading.proofs.OneLemmas.{one_part, one_main}
+
+-- ---- pages
+
+-- a chain of bytes takes as many as are needed for them
+pub chain_long : (pages : List ℕ) (first : ℕ) (bytes file : List ℕ) → IsChain pages first bytes file → length pages ≡ pages_for (length bytes)
+chain_long [] first bytes file is = sym (ap (λ (l : List ℕ). pages_for (length l)) is.1)
+chain_long (n ∷ pages) first bytes file (at, next, payload, rest, split, some, long, here, behind) =
+    let more = chain_long pages next rest file behind in
+    let whole : length bytes ≡ length payload + length rest = ap (λ (l : List ℕ). length l) split ∙ length-append payload rest in
+    omega (arith, more, whole, some, long)
 
 -- ---- a part
 
@@ -117,6 +128,7 @@ pub record MainSoFar (t : Drawn) (left : List PartRef) (main : MainValue) (old n
   pub live : new.live.items ≡ old.live.items ++ live_in_parts done main.parts
   pub stand : IsTold v0 → StandParts t.table.columns (no_parts (length t.table.columns)) done main.parts new.pages.reached v0.seen.pages
   pub fits : PartsFit IsAnywhere t.table.columns (no_parts (length t.table.columns)) done main.parts
+  pub count : IsTold v0 → length new.pages.reached ≡ length old.pages.reached + part_pages done
   -- each image has what was read, and more for what is left
   pub on : IsTold v0 → (parts : List (List KeyRow)) (reached : List ℕ) → StandParts t.table.columns (no_parts (length t.table.columns)) t.parts parts reached v0.seen.pages
       → (rest : List (List KeyRow)) × (parts ≡ main.parts ++ rest) × StandParts t.table.columns main left rest reached v0.seen.pages
@@ -135,6 +147,7 @@ main_start t main r v0 v1 may is reads = subst (λ (m : MainValue). MainSoFar t 
       live = sym (append-nil r.live.items);
       stand = λ told. tt;
       fits = tt;
+      count = λ told. omega arith;
       on = λ told parts reached stand. (parts, refl, stand);
     })
 
@@ -187,6 +200,10 @@ module _ (t : Drawn) (part : PartRef) (others : List PartRef) (main : MainValue)
             let width : main ≡ record { width = length t.table.columns; parts = main.parts } = ap (λ (n : ℕ). record { width = n; parts = main.parts }) so.width in
             stand_push IsAnywhere t.table.columns (no_parts (length t.table.columns)) so.done main.parts part read.rows so.fits
             (subst (λ (m : MainValue). PartFits IsAnywhere t.table.columns m part read.rows) width found.fits);
+        count = λ told.
+            let before = so.count told in
+            let now = found.count (told_now told) in
+            omega (arith, before, now, sum_by-append (λ (r : PartRef). pages_for r.length) so.done (part ∷ []), sum_by-cons (λ (r : PartRef). pages_for r.length) part []);
         on = λ told parts reached stand.
             let n = next_part told parts reached stand in
             let same : n.0 ≡ read.rows = one_part t.table.columns main part n.0 read.rows reached new'.pages.reached v0.seen.pages (sym so.width) n.3 (stands told) in (
@@ -203,6 +220,7 @@ main_done t main old new v0 v1 so =
       reaches = so.reaches;
       stands = λ told. record { width = so.width; parts = subst (λ (l : List PartRef). StandParts t.table.columns (no_parts (length t.table.columns)) l main.parts new.pages.reached v0.seen.pages) (sym all) (so.stand told) };
       fits = record { width = so.width; parts = subst (λ (l : List PartRef). PartsFit IsAnywhere t.table.columns (no_parts (length t.table.columns)) l main.parts) (sym all) so.fits };
+      count = λ told. so.count told ∙ ap (λ (l : List PartRef). length old.pages.reached + part_pages l) (sym all);
       live = so.live ∙ ap (λ (l : List PartRef). old.live.items ++ live_in_parts l main.parts) (sym all);
     }
 
@@ -231,6 +249,7 @@ pub record MainsSoFar (tables left : List Drawn) (mains : List MainValue) (old n
   pub live : new.live.items ≡ old.live.items ++ live_in_mains done mains
   pub stand : IsTold v0 → AllZip (StandsMain new.pages.reached v0.seen.pages) done mains
   pub fits : AllZip (MainFits IsAnywhere) done mains
+  pub count : IsTold v0 → length new.pages.reached ≡ length old.pages.reached + all_part_pages done
   -- each image has what was read, and more for what is left
   pub on : IsTold v0 → (all : List MainValue) (reached : List ℕ) → AllZip (StandsMain reached v0.seen.pages) tables all
       → (rest : List MainValue) × (all ≡ mains ++ rest) × AllZip (StandsMain reached v0.seen.pages) left rest
@@ -247,6 +266,7 @@ mains_start tables mains r v0 v1 may is reads = subst (λ (ms : List MainValue).
       live = sym (append-nil r.live.items);
       stand = λ told. tt;
       fits = tt;
+      count = λ told. omega arith;
       on = λ told all reached stand. (all, refl, stand);
     })
 
@@ -289,6 +309,10 @@ module _ (tables : List Drawn) (t : Drawn) (others : List Drawn) (mains : List M
             ∙ ap (λ (l : List ℕ). old.live.items ++ l) (sym (lives_push so.done mains t main so.same_long));
         stand = λ told. zip_push (IsReached new'.pages.reached v0.seen.pages) so.done mains t main (mains_more so.done mains new.pages.reached new'.pages.reached v0.seen.pages (reaches.more told).keeps (so.stand told)) (stands told);
         fits = zip_push IsAnywhere so.done mains t main so.fits found.fits;
+        count = λ told.
+            let before = so.count told in
+            let now = found.count (told_now told) in
+            omega (arith, before, now, sum_by-append (λ (d : Drawn). part_pages d.parts) so.done (t ∷ []), sum_by-cons (λ (d : Drawn). part_pages d.parts) t []);
         on = λ told all reached stand.
             let n = next_main told all reached stand in
             let same : n.0 ≡ main = one_main t n.0 main reached new'.pages.reached v0.seen.pages n.3 (stands told) in
@@ -302,6 +326,7 @@ mains_done tables mains old new v0 v1 so =
       reaches = so.reaches;
       stands = λ told. subst (λ (l : List Drawn). AllZip (StandsMain new.pages.reached v0.seen.pages) l mains) (sym all) (so.stand told);
       fits = subst (λ (l : List Drawn). AllZip (MainFits IsAnywhere) l mains) (sym all) so.fits;
+      count = λ told. so.count told ∙ ap (λ (l : List Drawn). length old.pages.reached + all_part_pages l) (sym all);
       live = so.live ∙ ap (λ (l : List Drawn). old.live.items ++ live_in_mains l mains) (sym all);
     }
 
@@ -351,6 +376,11 @@ found_part columns main ref read bytes old new v slot live chain long may spelle
             may = subst (MayStand columns main) is may;
             count = count;
           };
+      count = λ told.
+          let c = chain told in
+          let more = chain_long c.0 ref.first bytes v.seen.pages c.2.chain in
+          let joined : length new.pages.reached ≡ length old.pages.reached + length c.0 = ap (λ (l : List ℕ). length l) c.1 ∙ length-append old.pages.reached c.0 in
+          omega (arith, joined, more, long);
       fits = record {
         chain = record { pages = []; first = ref.first; bytes = bytes };
         stands = tt;

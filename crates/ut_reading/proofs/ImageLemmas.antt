@@ -99,6 +99,7 @@ found_before tables mains old new v0 v1 reads found = record {
     more = λ told. subst (λ (i : Image). ReachMore i.pages old.pages.reached new.pages.reached) reads.seen (found.reaches.more (reads.told ∙ told));
   };
   stands = λ told. subst (λ (i : Image). AllZip (StandsMain new.pages.reached i.pages) tables mains) reads.seen (found.stands (reads.told ∙ told));
+  count = λ told. found.count (reads.told ∙ told);
   fits = found.fits;
   live = found.live;
 }
@@ -111,7 +112,7 @@ image_found image first last bytes v same read drawn deltas found own told =
     let more = found.reaches.more told in
     let live : last.live.items ≡ ids_of image.tables ++ live_in_mains image.tables image.mains = found.live ∙ ap (λ (l : List ℕ). l ++ live_in_mains image.tables image.mains) deltas in
     let stands : StandsImage image.root bytes image.tables image.mains last.pages.reached file = record { drawn = drawn; parts = found.stands told; ids = subst (AreOwnIds image.root.next) live own } in
-    let d = image_drawn first.pages.slot first.pages.reached last.pages.reached image.root bytes image.tables image.mains file r more.keeps stands in
+    let d = image_drawn first.pages.slot first.pages.reached last.pages.reached image.root bytes image.tables image.mains file r more.keeps (found.count told) stands in
     let slot : first.pages.slot ≡ image.pages.slot = sym found.reaches.slot ∙ ap (λ (p : Selection). p.slot) (sym same) in
     let reached : last.pages.reached ≡ image.pages.reached = ap (λ (p : Selection). p.reached) (sym same) in (
       d.0,

@@ -3,7 +3,7 @@ use Rattle.std.proofs.Common.{◌≡◌, ◌≢◌, inl, inr, ℕ, suc, ◌<◌,
 use Rattle.std.specs.List.{AllByRecursion, AllZip, sum_by, flat_map, list_all}
 use Rattle.std.proofs.lemmas.Bool.{and_parts, and_from, eq-eqb, le-leb, lt-ltb}
 use Rattle.std.proofs.lemmas.List.{length-map, length-append, get_or_append_left}
-use Rattle.std.proofs.lemmas.List.Sums.{sum_by-cons}
+use Rattle.std.proofs.lemmas.List.Sums.{sum_by-cons, sum_by-append}
 use Rattle.std.proofs.lemmas.Simd.{map-map}
 use Rattle.ut_value.specs.declared.value.Column.{Column}
 use Rattle.ut_value.specs.declared.value.Row.{Row}
@@ -18,13 +18,14 @@ use Rattle.ut_plain.specs.State.{is_table}
 use Rattle.ut_plain.specs.Tables.{has_table, tables_differ}
 use Rattle.ut_plain.specs.Capture.{Directory, ids}
 use Rattle.ut_plain.proofs.NameLemmas.{has_table-cons}
+use Rattle.ut_image.specs.declared.drawn.PartRef.{PartRef}
 use Rattle.ut_image.specs.declared.drawn.Drawn.{Drawn}
 use Rattle.ut_image.specs.Rules.{is_row, are_rows, is_u64, is_part, are_parts, is_head, is_drawn, has_drawn, drawn_differ, ids_of, AreOwnIds, AreDrawn}
 use Rattle.ut_pages.specs.declared.root.Root.{Root}
 use Rattle.ut_durable.specs.Rules.{delta_ids, part_ids, image_ids, IsImageRow, IsDelta, IsImageTable, IsDirectory}
-use Rattle.ut_durable.specs.Bytes.{Chain, row_in, part_ref, part_refs, HoldsPart, HoldParts, drawn, drawn_all, HoldTables, Describes, no_directory}
+use Rattle.ut_durable.specs.Bytes.{Chain, row_in, part_ref, part_refs, HoldsPart, HoldParts, drawn, drawn_all, HoldTables, Describes, pages_for, no_directory}
 use Rattle.ut_durable.specs.Images.{StandsIn, IsWithin, HasDirectory}
-use Rattle.ut_reading.specs.Standing.{StandsMain, live_in_mains, StandsImage}
+use Rattle.ut_reading.specs.Standing.{part_pages, all_part_pages, StandsMain, live_in_mains, StandsImage}
 use Rattle.ut_reading.specs.Reading.{mains_of}
 use Rattle.ut_reading.proofs.ListLemmas.{all_first, all_last, first_pairs}
 use Rattle.ut_reading.proofs.PartLemmas.{parts_stand, live_parts}
@@ -46,6 +47,26 @@ refs_long width earlier [] [] hold = refl
 refs_long width earlier [] (part ∷ parts) hold = absurd hold
 refs_long width earlier (chain ∷ chains) [] hold = absurd hold
 refs_long width earlier (chain ∷ chains) (part ∷ parts) hold = ap suc (refs_long width (earlier ++ part ∷ []) chains parts hold.1)
+
+-- the chains take as many pages as what a directory says of them
+refs_pages : (width : ℕ) (earlier : List (List Placed)) (chains : List Chain) (parts : List (List Placed)) → HoldParts width earlier chains parts → part_pages (part_refs chains parts) ≡ sum_by (λ (c : Chain). pages_for (length c.bytes)) chains
+refs_pages width earlier [] [] hold = refl
+refs_pages width earlier [] (part ∷ parts) hold = absurd hold
+refs_pages width earlier (chain ∷ chains) [] hold = absurd hold
+refs_pages width earlier (chain ∷ chains) (part ∷ parts) hold =
+    let rest = refs_pages width (earlier ++ part ∷ []) chains parts hold.1 in
+    omega (arith, rest, sum_by-cons (λ (r : PartRef). pages_for r.length) (part_ref chain part) (part_refs chains parts), sum_by-cons (λ (c : Chain). pages_for (length c.bytes)) chain chains)
+
+pub all_pages : (ts : List Table) (cs : List (List Chain)) (ss : Stages) → HoldTables ts cs ss → all_part_pages (drawn_all ts cs ss) ≡ sum_by (λ (c : Chain). pages_for (length c.bytes)) (flat_map (λ (c : List Chain). c) cs)
+all_pages [] [] [] hold = refl
+all_pages [] [] (s ∷ ss) hold = absurd hold
+all_pages [] (c ∷ cs) ss hold = absurd hold
+all_pages (t ∷ ts) [] ss hold = absurd hold
+all_pages (t ∷ ts) (c ∷ cs) [] hold = absurd hold
+all_pages (t ∷ ts) (c ∷ cs) (s ∷ ss) hold =
+    let here = refs_pages (length t.columns) [] c s.parts hold.0 in
+    let rest = all_pages ts cs ss hold.1 in
+    omega (arith, here, rest, sum_by-cons (λ (d : Drawn). part_pages d.parts) (drawn t c s) (drawn_all ts cs ss), sum_by-append (λ (d : Chain). pages_for (length d.bytes)) c (flat_map (λ (d : List Chain). d) cs))
 
 part_rule : (width : ℕ) (earlier : List (List Placed)) (chain : Chain) (part : List Placed) → HoldsPart width earlier chain part → length part ≤ 2147483647 → IsTrue (is_part (part_ref chain part))
 part_rule width earlier chain part holds few =

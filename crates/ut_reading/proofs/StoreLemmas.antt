@@ -20,11 +20,12 @@ use Rattle.ut_plain.specs.declared.stage.TableStages.{TableStages}
 use Rattle.ut_plain.specs.Tables.{columns_at, fits_columns, fits_table, tables_differ}
 use Rattle.ut_plain.specs.Stages.{Stages, no_stages, stages_at, places_of, all_places}
 use Rattle.ut_plain.specs.State.{State, IsRow, AreRows, is_table}
-use Rattle.ut_plain.specs.Reached.{IsMain, IsAtRest}
+use Rattle.ut_plain.specs.Journal.{Journal, journal_len, load_of, can_all}
+use Rattle.ut_plain.specs.Reached.{IsMain, IsAtRest, MayOpen}
 use Rattle.ut_plain.specs.Capture.{Directory, StandsInTable, StandsAt, row_of, ids}
 use Rattle.ut_pages.specs.declared.slot.Slot.{Slot}
 use Rattle.ut_pages.specs.declared.root.Root.{Root}
-use Rattle.ut_pages.specs.Layout.{IsSelected, IsRead, HasChain}
+use Rattle.ut_pages.specs.Layout.{IsSelected, IsRead, HasChain, IsRoot}
 use Rattle.ut_pages.proofs.OneLemmas.{one_read}
 use Rattle.ut_durable.specs.Rules.{delta_ids, part_ids, image_ids, IsImageRow, IsImageTable, IsDirectory}
 use Rattle.ut_durable.specs.Directories.{IsBase}
@@ -78,7 +79,7 @@ one_store j j' d d' end end' c a b =
 
 -- ---- the base
 
-are_live : (ts : List Table) (ss : Stages) → AllZip (λ (t : Table) (s : TableStages). IsImageTable t.columns s) ts ss → AreLive ss
+pub are_live : (ts : List Table) (ss : Stages) → AllZip (λ (t : Table) (s : TableStages). IsImageTable t.columns s) ts ss → AreLive ss
 are_live [] [] all = tt
 are_live [] (s ∷ ss) all = absurd all
 are_live (t ∷ ts) [] all = absurd all
@@ -150,7 +151,7 @@ stages_rule P (t ∷ ts) [] none each all n = absurd all
 stages_rule P (t ∷ ts) (s ∷ ss) none each all zero = each t s all.0
 stages_rule P (t ∷ ts) (s ∷ ss) none each all (suc n) = stages_rule P ts ss none each all.1 n
 
-zip_long : (ts : List Table) (ss : Stages) → AllZip (λ (t : Table) (s : TableStages). IsImageTable t.columns s) ts ss → length ss ≡ length ts
+pub zip_long : (ts : List Table) (ss : Stages) → AllZip (λ (t : Table) (s : TableStages). IsImageTable t.columns s) ts ss → length ss ≡ length ts
 zip_long [] [] all = refl
 zip_long [] (s ∷ ss) all = absurd all
 zip_long (t ∷ ts) [] all = absurd all
@@ -168,13 +169,13 @@ deltas_long (t ∷ ts) (s ∷ ss) all =
 main_at_none : IsMain no_stages
 main_at_none = record { parts = omega arith; few = omega arith }
 
-pub image_may_open : ImageMayOpen
-image_may_open slot reached root d file j has base can short load =
-    let is : IsDirectory root.next root.commits d = (in_keys reached root d file has.image).rules in
+-- The same without a file.
+pub directory_may_open : (root : Root) (d : Directory) (j : Journal) → IsRoot root → IsDirectory root.next root.commits d → IsBase root d j.base → IsTrue (can_all j.base j.entries) → journal_len j ≤ 1073741824 → load_of j ≤ 2147483648 → MayOpen d.stages j
+directory_may_open root d j rule is base can short load =
     let made = directory_base root d is in
     let same : j.base ≡ made.0 = one_base root d j.base made.0 base made.1 in
     let rows : finmap.len j.base.rows ≡ length (image_ids d.stages) = ap (λ (s : State). finmap.len s.rows) same ∙ made.2 in
-    let rules = has.has.rules.allowed in
+    let rules = rule.allowed in
     let deltas = deltas_long d.tables d.stages is.stages in
     let few = is.few in
     let begun = is.begun in
@@ -196,3 +197,6 @@ image_may_open slot reached root d file j has base can short load =
       mains = stages_rule IsMain d.tables d.stages main_at_none (λ t s h. h.main) is.stages;
       rest = stages_rule IsAtRest d.tables d.stages (record { closed = refl; keep = refl }) (λ t s h. h.rest) is.stages;
     }
+
+pub image_may_open : ImageMayOpen
+image_may_open slot reached root d file j has base can short load = directory_may_open root d j has.has.rules (in_keys reached root d file has.image).rules base can short load

@@ -6,8 +6,9 @@ use Rattle.ut_value.specs.declared.value.Column.{Column}
 use Rattle.ut_main.specs.Parts.{PartValue, MainValue, rows_in}
 use Rattle.ut_image.specs.declared.drawn.PartRef.{PartRef}
 use Rattle.ut_image.specs.declared.drawn.Drawn.{Drawn}
+use Rattle.ut_durable.specs.Bytes.{pages_for}
 use Rattle.ut_reading.specs.declared.parts.Reader.{Reader}
-use Rattle.ut_reading.specs.Standing.{part_of, IsAnywhere, PartFits, MainFits, StandsPart, StandsMain, live_in, live_in_parts, live_in_mains, ReachMore}
+use Rattle.ut_reading.specs.Standing.{part_pages, all_part_pages, part_of, IsAnywhere, PartFits, MainFits, StandsPart, StandsMain, live_in, live_in_parts, live_in_mains, ReachMore}
 
 -- a table whose parts may be read: there are few, each with a mark for each row
 pub record MayRead (t : Drawn) : Type 0 where
@@ -24,6 +25,7 @@ pub record Reaches (old new : Reader) (v : View) : Type 0 where
 pub record FoundPart (columns : List Column) (main : MainValue) (ref : PartRef) (read : PartValue) (old new : Reader) (v : View) : Type 0 where
   pub reaches : Reaches old new v
   pub stands : IsTold v → StandsPart columns main ref read.rows new.pages.reached v.seen.pages
+  pub count : IsTold v → length new.pages.reached ≡ length old.pages.reached + pages_for ref.length
   -- whatever the disk tells
   pub fits : PartFits IsAnywhere columns main ref read.rows
   pub behind : read ≡ part_of main read.rows
@@ -34,6 +36,7 @@ pub record FoundPart (columns : List Column) (main : MainValue) (ref : PartRef) 
 pub record FoundMain (t : Drawn) (main : MainValue) (old new : Reader) (v : View) : Type 0 where
   pub reaches : Reaches old new v
   pub stands : IsTold v → StandsMain new.pages.reached v.seen.pages t main
+  pub count : IsTold v → length new.pages.reached ≡ length old.pages.reached + part_pages t.parts
   pub fits : MainFits IsAnywhere t main
   pub live : new.live.items ≡ old.live.items ++ live_in_parts t.parts main.parts
 
@@ -41,5 +44,6 @@ pub record FoundMain (t : Drawn) (main : MainValue) (old new : Reader) (v : View
 pub record FoundMains (tables : List Drawn) (mains : List MainValue) (old new : Reader) (v : View) : Type 0 where
   pub reaches : Reaches old new v
   pub stands : IsTold v → AllZip (StandsMain new.pages.reached v.seen.pages) tables mains
+  pub count : IsTold v → length new.pages.reached ≡ length old.pages.reached + all_part_pages tables
   pub fits : AllZip (MainFits IsAnywhere) tables mains
   pub live : new.live.items ≡ old.live.items ++ live_in_mains tables mains

@@ -8,7 +8,7 @@ use Rattle.ut_plain.specs.Capture.{Directory}
 use Rattle.ut_pages.specs.declared.root.Root.{Root}
 use Rattle.ut_pages.specs.Layout.{IsSelected, IsRoot}
 use Rattle.ut_durable.specs.Rules.{IsDirectory}
-use Rattle.ut_durable.specs.Bytes.{Chain, main_of, drawn_all}
+use Rattle.ut_durable.specs.Bytes.{Chain, HoldTables, main_of, drawn_all}
 use Rattle.ut_durable.specs.Images.{HasImage, AreThere}
 use Rattle.ut_reading.specs.declared.image.Image.{Image}
 
@@ -21,6 +21,8 @@ mains_of (t ∷ ts) (s ∷ ss) = main_of (length t.columns) s.parts ∷ mains_of
 -- Tables and their mains show this directory, wherever its parts stand.
 pub record Show (tables : List Drawn) (mains : List MainValue) (d : Directory) : Type 0 where
   pub chains : List (List Chain)
+  -- a chain for each part
+  pub hold : HoldTables d.tables chains d.stages
   pub drawn : tables ≡ drawn_all d.tables chains d.stages
   pub parts : mains ≡ mains_of d.tables d.stages
 

@@ -1,6 +1,6 @@
 -- A directory's tables and parts as they stand in a page file, in keys.
 use Rattle.std.specs.Prelude.{ℕ, ◌≡◌, ◌⊎◌, List, [], ◌∷◌, ◌++◌, length, map, Contains}
-use Rattle.std.specs.List.{items_where_true, AllZip}
+use Rattle.std.specs.List.{items_where_true, AllZip, sum_by}
 use Rattle.ut_value.specs.declared.value.Column.{Column}
 use Rattle.ut_l2.specs.KeyRows.{KeyRow}
 use Rattle.ut_main.specs.Parts.{PartValue, MainValue, dicts_behind}
@@ -10,7 +10,7 @@ use Rattle.ut_image.specs.declared.drawn.Drawn.{Drawn}
 use Rattle.ut_image.specs.Bytes.{image_bytes}
 use Rattle.ut_image.specs.Rules.{AreDrawn, AreOwnIds, ids_of}
 use Rattle.ut_pages.specs.declared.root.Root.{Root}
-use Rattle.ut_durable.specs.Bytes.{Chain}
+use Rattle.ut_durable.specs.Bytes.{Chain, pages_for}
 use Rattle.ut_durable.specs.Images.{StandsIn, IsWithin, AreThere}
 
 -- rows as a part behind main
@@ -64,6 +64,15 @@ StandParts columns main refs parts reached file = PartsFit (IsReached reached fi
 
 abbrev pub StandsMain : (reached file : List ℕ) → Drawn → MainValue → Type 0
 StandsMain reached file t main = MainFits (IsReached reached file) t main
+
+-- ---- how many pages
+
+-- the chains that a directory names take so many
+abbrev pub part_pages : List PartRef → ℕ
+part_pages refs = sum_by (λ (r : PartRef). pages_for r.length) refs
+
+abbrev pub all_part_pages : List Drawn → ℕ
+all_part_pages tables = sum_by (λ (t : Drawn). part_pages t.parts) tables
 
 -- ---- the ids of rows
 

@@ -174,6 +174,7 @@ module _ (cs : List CapturedTable) (reached first own : List ℕ) (are : ArePage
             let own_all = are.directory in
             let parts_all = are.parts in
             omega (arith, length-append (planned_of parts) (plan own bytes), planned_long parts, plan_long own bytes, ap (λ (l : List ℕ). length l) same_reach, parts_all, own_all, image_takes cs d captures);
+        even = omega (arith, length-append (planned_of parts) (plan own bytes), planned_long parts, plan_long own bytes, length-append (reached_of parts) own);
         few =
             let own_all = are.directory in
             let parts_all = are.parts in

@@ -73,6 +73,8 @@ pub record Plans (root : Root) (reached : List ℕ) (d : Directory) (s : Saving)
   pub done : s.done ≡ 0
   pub unsealed : s.sealed ≡ false
   pub pages : length s.planned ≡ image_pages d
+  -- each of its pages is one that the root will reach
+  pub even : length s.reached ≡ length s.planned
   pub few : 3 + image_pages d + length reached < 2 ^ 32
   pub plan : IsDirectory root.next root.commits d → IsPlan s.planned reached s.reached s.root d
 
