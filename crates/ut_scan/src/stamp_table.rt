@@ -137,6 +137,19 @@ impl StampTable {
         }
     }
 
+    /// Puts a stamp in the place of another. Takes no memory.
+    pub fn set(&mut self, place: Place, stamp: Stamp)
+        requires { IsPlace self.old place }
+        ensures { self.new ≡ with_stamp self.old place stamp }
+    {
+        match place {
+            Place::L1(i) => self.l1.set(i as usize, stamp),
+            Place::L2(i) => self.l2.set(i as usize, stamp),
+            Place::Closed(i) => set_closed(&mut self.closed, i as usize, stamp),
+            Place::Main(p, i) => set_in(&mut self.parts[usize::from(p)], i as usize, stamp),
+        }
+    }
+
     /// Gives the row at a place to a transaction that ends it. Takes no memory.
     pub fn set_end(&mut self, place: Place, t: u64)
         requires { IsPlace self.old place }
@@ -147,12 +160,7 @@ impl StampTable {
             begin,
             end: Some(t),
         };
-        match place {
-            Place::L1(i) => self.l1.set(i as usize, stamp),
-            Place::L2(i) => self.l2.set(i as usize, stamp),
-            Place::Closed(i) => set_closed(&mut self.closed, i as usize, stamp),
-            Place::Main(p, i) => set_in(&mut self.parts[usize::from(p)], i as usize, stamp),
-        }
+        self.set(place, stamp);
     }
 
     /// The stamps of L1.

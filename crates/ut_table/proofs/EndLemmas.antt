@@ -10,19 +10,11 @@ use Rattle.ut_staged.specs.Staged.{ended_in, end_at}
 use Rattle.ut_table.specs.Contents.{Contents, PendingValue, decoded_rows, held, staged}
 use Rattle.ut_table.specs.Kept.{IsTable}
 use Rattle.ut_table.proofs.StampedLemmas.{stamped_rows-end, parts-end}
+use Rattle.ut_table.proofs.RestampLemmas.{restamped-kept}
 
 -- the row at a place ends
 abbrev pub ended_stamps : StampLists → ℕ → Place → StampLists
 ended_stamps stamps n p = with_stamp stamps p (record { begin = (stamp_at stamps p).begin; end = Some n })
-
-length-set_part : (parts : List (List Stamp)) (p i : ℕ) (stamp : Stamp) → map length (set parts p (set (get_or parts p []) i stamp)) ≡ map length parts
-length-set_part [] p i stamp = refl
-length-set_part (l ∷ ls) zero i stamp = ap (λ n. n ∷ map length ls) (length-set l i stamp)
-length-set_part (l ∷ ls) (suc p) i stamp = ap (λ ns. length l ∷ ns) (length-set_part ls p i stamp)
-
-length-set_closed : (closed : Option (List Stamp)) (i : ℕ) (stamp : Stamp) → option_map length (option_map (λ (l : List Stamp). set l i stamp) closed) ≡ option_map length closed
-length-set_closed None i stamp = refl
-length-set_closed (Some l) i stamp = ap Some (length-set l i stamp)
 
 module _ {t : Contents} (h : IsTable t) (n : ℕ) where
   pub ended-stages : (p : Place) → staged (record t { stamps = ended_stamps t.stamps n p }) ≡ ended_in n p (staged t)
@@ -39,38 +31,4 @@ module _ {t : Contents} (h : IsTable t) (n : ℕ) where
   ended-stages (Main p i) = ap (λ l. record (staged t) { parts = l }) (parts-end t.columns n p i t.main.parts t.stamps.parts h.stamped.parts)
 
   pub ended-kept : (p : Place) → IsTable (record t { stamps = ended_stamps t.stamps n p })
-  ended-kept p = record {
-    rows = record { narrow = h.rows.narrow; l1 = h.rows.l1; l2_wide = h.rows.l2_wide; l2 = h.rows.l2; closed_wide = h.rows.closed_wide; closed = h.rows.closed; main_wide = h.rows.main_wide; parts = h.rows.parts };
-    stamped = record {
-      l1 = first p ∙ h.stamped.l1;
-      l2 = second p ∙ h.stamped.l2;
-      closed = third p ∙ h.stamped.closed;
-      parts = fourth p ∙ h.stamped.parts;
-    };
-    job = h.job;
-    few = h.few;
-  }
-    where
-      first : (p : Place) → length (ended_stamps t.stamps n p).l1.items ≡ length t.stamps.l1.items
-      first (L1 i) = length-set t.stamps.l1.items i _
-      first (L2 i) = refl
-      first (Closed i) = refl
-      first (Main p i) = refl
-
-      second : (p : Place) → length (ended_stamps t.stamps n p).l2.items ≡ length t.stamps.l2.items
-      second (L1 i) = refl
-      second (L2 i) = length-set t.stamps.l2.items i _
-      second (Closed i) = refl
-      second (Main p i) = refl
-
-      third : (p : Place) → option_map length (ended_stamps t.stamps n p).closed ≡ option_map length t.stamps.closed
-      third (L1 i) = refl
-      third (L2 i) = refl
-      third (Closed i) = length-set_closed t.stamps.closed i _
-      third (Main p i) = refl
-
-      fourth : (p : Place) → map length (ended_stamps t.stamps n p).parts ≡ map length t.stamps.parts
-      fourth (L1 i) = refl
-      fourth (L2 i) = refl
-      fourth (Closed i) = refl
-      fourth (Main p i) = length-set_part t.stamps.parts p i _
+  ended-kept p = restamped-kept h (record { begin = (stamp_at t.stamps p).begin; end = Some n }) p

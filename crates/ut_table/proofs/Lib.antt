@@ -2,7 +2,9 @@ pub mod DecodedLemmas
 pub mod StampedLemmas
 pub mod PlaceLemmas
 pub mod ChangeLemmas
+pub mod RestampLemmas
 pub mod EndLemmas
+pub mod FilledLemmas
 pub mod ReadLemmas
 pub mod CloseLemmas
 pub mod ResortedLemmas
@@ -16,3 +18,4 @@ pub mod FindsLemmas
 pub mod ScanLemmas
 pub mod LentLemmas
 pub mod NumberedLemmas
+pub mod CodedLemmas

@@ -44,12 +44,12 @@ module _ {t : Contents} (h : IsTable t) {s : Staged} (view : staged t ≡ s) whe
   pub few-staged : count_of s ≤ 2 ^ 31
   few-staged = omega (arith, counts, h.few)
 
-  columns-are : t.columns ≡ s.columns
+  pub columns-are : t.columns ≡ s.columns
   columns-are = ap (λ (x : Staged). x.columns) view
 
   -- ---- a place
 
-  within : (p q : Place) → p ≡ q → IsSome (row_at s p) → number_of q < length (key_rows t q)
+  pub within : (p q : Place) → p ≡ q → IsSome (row_at s p) → number_of q < length (key_rows t q)
   within p q same some = place-within h q (subst (λ (x : Staged). IsSome (row_at x q)) (sym view) (subst (λ r. IsSome (row_at s r)) same some))
 
   read : (p q : Place) (row : StagedRow) → p ≡ q → row_at s p ≡ Some row → row ≡ read_at t q

@@ -9,3 +9,5 @@ pub mod Flags
 pub mod Lent
 pub mod Compiled
 pub mod Numbered
+pub mod Filled
+pub mod Coded

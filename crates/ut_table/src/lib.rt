@@ -1,7 +1,9 @@
 //! One table: its stages with stamps.
 #![tactic(auto)]
 
+mod coded;
 mod compiled;
+mod filling;
 mod flags;
 mod kept;
 mod merging;
