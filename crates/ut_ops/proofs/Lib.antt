@@ -3,3 +3,4 @@ pub mod ColumnLemmas
 pub mod SumLemmas
 pub mod TallyLemmas
 pub mod JoinLemmas
+pub mod CodeLemmas

@@ -2,3 +2,4 @@ pub mod ValueOrder
 pub mod Fit
 pub mod Tally
 pub mod Index
+pub mod Noted

@@ -134,10 +134,11 @@ fn beside(
 {
     let mut rows = Seq::new(alloc);
     for hit in hits {
-        let mut values = row.duplicate(alloc)?;
-        let more = values_at(alloc, table, *hit)?;
-        values.append(more)?;
-        rows.push(values)?;
+        let mut values = row.duplicate(alloc)?.into_vec();
+        let mut more = values_at(alloc, table, *hit)?.into_vec();
+        values.reserve_exact(more.len())?;
+        values.append(&mut more)?;
+        rows.push(Seq::from_vec(values))?;
     }
     Ok(rows)
 }

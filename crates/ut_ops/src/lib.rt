@@ -6,6 +6,7 @@ mod cell;
 mod columns;
 mod groups;
 mod joins;
+mod numbers;
 mod ranked;
 mod sums;
 

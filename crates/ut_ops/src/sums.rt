@@ -5,14 +5,18 @@ ghost use Rattle.ut_plain.specs.Kinds.{kind_in, is_int};
 ghost use Rattle.ut_plain.specs.Query.{column_values, total};
 ghost use Rattle.ut_table.specs.Finds.{rows_at};
 ghost use Rattle.ut_ops.specs.Fit.{Fit, cell};
+ghost use Rattle.ut_ops.specs.Noted.{AreNoted};
 
-use crate::cell::number_at;
+use crate::numbers::{NONE, Noted, noted_number};
 use ut_plain::column_of;
 use ut_scan::Found;
 use ut_table::Table;
 use ut_value::Kind;
 
-/// The sum of a column of numbers. Takes no memory.
+/// How many codes have their numbers noted.
+const ROOM: usize = 1024;
+
+/// The sum of a column of numbers. Takes no memory of an allocator.
 pub fn sum(table: &Table, column: &[u8], hits: &[Found]) -> i128
     requires numbers { IsTrue (is_int (kind_in table.now.stages.columns column.now)) }
     requires few { length hits.now ≤ 2 ^ 31 }
@@ -21,19 +25,34 @@ pub fn sum(table: &Table, column: &[u8], hits: &[Found]) -> i128
 {
     match column_of(table.columns(), column) {
         None => 0,
-        Some(place) => sum_at(table, place, hits),
+        Some(place) => sum_in(table, place, hits),
     }
 }
 
-fn sum_at(table: &Table, column: usize, hits: &[Found]) -> i128
+/// Where there are many rows, the numbers of their codes are noted.
+fn sum_in(table: &Table, column: usize, hits: &[Found]) -> i128
     requires numbers { option_map (λ (c : Column). c.kind) (slice_get table.now.stages.columns column) ≡ Some Kind.Int }
     requires few { length hits.now ≤ 2 ^ 31 }
     requires fit { Fit table.now.stages hits.now }
     ensures { result ≡ total (map (cell table.now.stages column) hits.now) }
 {
+    if hits.len() < ROOM {
+        return sum_at(table, column, hits, &mut []);
+    }
+    let mut notes = [NONE; ROOM];
+    sum_at(table, column, hits, &mut notes)
+}
+
+fn sum_at(table: &Table, column: usize, hits: &[Found], notes: &mut [Noted]) -> i128
+    requires numbers { option_map (λ (c : Column). c.kind) (slice_get table.now.stages.columns column) ≡ Some Kind.Int }
+    requires few { length hits.now ≤ 2 ^ 31 }
+    requires fit { Fit table.now.stages hits.now }
+    requires noted { AreNoted table.now.stages column notes.old }
+    ensures { result ≡ total (map (cell table.now.stages column) hits.now) }
+{
     let mut sum: i128 = 0;
     for hit in hits {
-        sum += i128::from(number_at(table, *hit, column));
+        sum += i128::from(noted_number(table, *hit, column, notes));
     }
     sum
 }

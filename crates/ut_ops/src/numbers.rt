@@ -1,0 +1,50 @@
+//! The numbers of a column, read by their codes.
+ghost use Rattle.std.specs.Prelude.{◌≡◌, slice_get, option_map, Some, IsTrue};
+ghost use Rattle.ut_value.specs.declared.value.Column.{Column};
+ghost use Rattle.ut_value.specs.declared.value.Value.TheVariants as values;
+ghost use Rattle.ut_staged.specs.Staged.{row_at};
+ghost use Rattle.ut_ops.specs.Fit.{is_row, cell};
+ghost use Rattle.ut_ops.specs.Noted.{AreNoted};
+
+use crate::cell::number_at;
+use ut_scan::Found;
+use ut_table::Table;
+use ut_value::Kind;
+
+/// The number of a code that was read. The mark is one more than the code, or 0 where none was.
+#[derive(Clone, Copy)]
+pub(crate) struct Noted {
+    pub mark: usize,
+    pub number: i64,
+}
+
+/// No code was read.
+pub(crate) const NONE: Noted = Noted { mark: 0, number: 0 };
+
+/// A row's number in a column of numbers: a code that was noted is not read again.
+pub(crate) fn noted_number(table: &Table, hit: Found, column: usize, notes: &mut [Noted]) -> i64
+    requires row { IsTrue (is_row table.now.stages.columns (row_at table.now.stages hit.place)) }
+    requires column { option_map (λ (c : Column). c.kind) (slice_get table.now.stages.columns column) ≡ Some Kind.Int }
+    requires noted { AreNoted table.now.stages column notes.old }
+    ensures number { cell table.now.stages column hit ≡ values.Int result }
+    ensures noted { AreNoted table.now.stages column notes.new }
+{
+    let Some(code) = table.code(hit.place, column) else {
+        return number_at(table, hit, column);
+    };
+    let room = notes.len();
+    if room == 0 {
+        return number_at(table, hit, column);
+    }
+    let at = if code < room { code } else { code % room };
+    let note = notes[at];
+    if note.mark == code + 1 {
+        return note.number;
+    }
+    let number = number_at(table, hit, column);
+    notes[at] = Noted {
+        mark: code + 1,
+        number,
+    };
+    number
+}
