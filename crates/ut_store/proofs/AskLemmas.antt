@@ -18,5 +18,5 @@ use Rattle.ut_store.proofs.StandsLemmas.{tells, itself_same}
 pub told_now : (e : Held) (session : ℕ) (query : Query) (reply : Reply) → session < 17 → IsTrue (is_spelled (Ask query)) → early_refusal e session (Ask query) ≡ None
     → ((p : Plain) → StandsFor e p → reply ≡ told (view p session).tables (view p session).rows query) → Answers e session (Ask query) (Answered reply) e
 told_now e session query reply small spelled early h =
-    tells e e session (Ask query) reply spelled (allowed e session (Ask query) small early (λ p s. refl) (λ p s. refl)) (itself_same e)
+    tells e e session (Ask query) reply spelled (allowed e session (Ask query) small refl early (λ p s. refl) (λ p s. refl)) (itself_same e)
     (λ p s. ap (λ (r : Reply). record { reply = r; plain = p }) (sym (h p s)))

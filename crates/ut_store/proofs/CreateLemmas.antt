@@ -73,7 +73,7 @@ no_room tables entries (inr long) = ap (λ b. nat_lt tables 256 && b) (le-ltb en
 pub create_full : (e : Held) (session : ℕ) (name : List ℕ) (columns : List Column) → session < 17 → early_refusal e session (Create name columns) ≡ None → (256 ≤ length e.tables) ⊎ (1073741823 ≤ e.entries)
     → Answers e session (Create name columns) (Answered (replies.Refused refusals.Full)) e
 create_full e session name columns small early h =
-    refused e e session (Create name columns) refusals.Full (full e session (Create name columns) small early (room-is e session name columns false (no_room (length e.tables) e.entries h))) (itself_same e)
+    refused e e session (Create name columns) refusals.Full (full e session (Create name columns) small refl early (room-is e session name columns false (no_room (length e.tables) e.entries h))) (itself_same e)
 
 -- ---- the table is there
 
@@ -96,4 +96,4 @@ created_now e new session name columns small spelled early few short h =
       frame = new.frame;
     } in
     subst (λ (x : Held). Answers e session (Create name columns) (Append (replies.Committed x.commits)) x) is
-    (made_table e e.seats new.frame session name columns spelled (allowed e session (Create name columns) small early (room-is e session name columns true room) (λ p s. refl)) h.frame (itself_same e).seats)
+    (made_table e e.seats new.frame session name columns spelled (allowed e session (Create name columns) small refl early (room-is e session name columns true room) (λ p s. refl)) h.frame (itself_same e).seats)

@@ -1,5 +1,5 @@
 -- What the early refusals, the limits and the conflicts are together.
-use Rattle.std.proofs.Common.{ℕ, ◌<◌, ◌≡◌, Bool, true, false, is_some, List, Option, None, Some, refl, sym, ap, ◌∙◌}
+use Rattle.std.proofs.Common.{ℕ, ◌<◌, ◌≡◌, Bool, true, false, IsTrue, is_some, List, Option, None, Some, refl, sym, ap, ◌∙◌}
 use Rattle.std.specs.Option.{option_map}
 use Rattle.ut_plain.specs.declared.statement.Statement.{Statement}
 use Rattle.ut_plain.specs.declared.statement.Statement.TheVariants as statements
@@ -14,7 +14,7 @@ use Rattle.ut_plain.specs.View.{view}
 use Rattle.ut_plain.specs.Names.{names_known}
 use Rattle.ut_plain.specs.Kinds.{kinds_fit}
 use Rattle.ut_plain.specs.Limits.{has_room}
-use Rattle.ut_plain.specs.Refusals.{is_supported, state_why, merge_why, save_why, unless, or_else, conflict, refusal}
+use Rattle.ut_plain.specs.Refusals.{is_save, state_why, merge_why, save_why, unless, or_else, conflict, refusal}
 use Rattle.ut_txn.specs.Seats.{opened_at}
 use Rattle.ut_store.specs.Held.{Held}
 use Rattle.ut_store.specs.Stands.{StandsFor}
@@ -27,8 +27,8 @@ or_else-again : (a b c : Option Refusal) → or_else (or_else a b) c ≡ or_else
 or_else-again (Some why) b c = refl
 or_else-again None b c = refl
 
--- a statement that is there doesn't ask how far a savepoint is
-no_save : (phase : Phase) (st : Statement) → is_supported st ≡ true → save_why phase st ≡ None
+-- a statement that is none of a savepoint doesn't ask how far one is
+no_save : (phase : Phase) (st : Statement) → is_save st ≡ false → save_why phase st ≡ None
 no_save Idle (statements.SaveStep n) h = cc
 no_save Idle statements.SaveSeal h = cc
 no_save Idle statements.SaveFlip h = cc
@@ -44,53 +44,40 @@ no_save (Sealed captured pages image) (statements.SaveStep n) h = cc
 no_save (Sealed captured pages image) statements.SaveSeal h = cc
 no_save (Sealed captured pages image) _ h = refl
 
-without_save : (phase : Phase) (st : Statement) (a b c d late : Option Refusal)
-    → or_else (unless (is_supported st) refusals.Syntax) (or_else a (or_else b (or_else c (or_else d (or_else (option_map refusals.State (save_why phase st)) late)))))
-    ≡ or_else (unless (is_supported st) refusals.Syntax) (or_else a (or_else b (or_else c (or_else d late))))
-without_save phase st a b c d late = by (is_supported st) refl
-  where
-    by : (t : Bool) → is_supported st ≡ t
-        → or_else (unless t refusals.Syntax) (or_else a (or_else b (or_else c (or_else d (or_else (option_map refusals.State (save_why phase st)) late)))))
-        ≡ or_else (unless t refusals.Syntax) (or_else a (or_else b (or_else c (or_else d late))))
-    by true is = λ i. or_else a (or_else b (or_else c (or_else d (or_else (option_map refusals.State (no_save phase st is i)) late))))
-    by false is = refl
-
 -- a refusal is the early one, else that of limits, else that of a conflict
-pub refusal-is : (e : Held) (p : Plain) (session : ℕ) (st : Statement) → session < 17 → StandsFor e p
+pub refusal-is : (e : Held) (p : Plain) (session : ℕ) (st : Statement) → session < 17 → is_save st ≡ false → StandsFor e p
     → refusal (view p session) st ≡ or_else (early_refusal e session st) (or_else (unless (has_room (view p session) st) refusals.Full) (option_map refusals.Conflict (conflict (view p session) st)))
-refusal-is e p session st small s =
+refusal-is e p session st small served s =
     let r = reads e p session small s in
     let late = or_else (unless (has_room (view p session) st) refusals.Full) (option_map refusals.Conflict (conflict (view p session) st)) in
-    without_save (view p session).phase st (unless (names_known (view p session).tables st) refusals.Name) (unless (kinds_fit (view p session).tables st) refusals.Kind) (option_map refusals.State (state_why (is_some (view p session).own) st))
-    (option_map refusals.State (merge_why (view p session).pending st)) late
-    ∙ (λ i. or_else (unless (is_supported st) refusals.Syntax) (or_else (unless (names_known (r.tables i) st) refusals.Name) (or_else (unless (kinds_fit (r.tables i) st) refusals.Kind)
-    (or_else (option_map refusals.State (state_why (r.is_open i) st)) (or_else (option_map refusals.State (merge_why (r.pending i) st)) late)))))
-    ∙ sym (or_else-again (unless (is_supported st) refusals.Syntax) _ late
-    ∙ ap (or_else (unless (is_supported st) refusals.Syntax)) (or_else-again (unless (names_known e.tables st) refusals.Name) _ late
+    (λ i. or_else (unless (names_known (r.tables i) st) refusals.Name) (or_else (unless (kinds_fit (r.tables i) st) refusals.Kind)
+    (or_else (option_map refusals.State (state_why (r.is_open i) st)) (or_else (option_map refusals.State (merge_why (r.pending i) st))
+    (or_else (option_map refusals.State (no_save (view p session).phase st served i)) late)))))
+    ∙ sym (or_else-again (unless (names_known e.tables st) refusals.Name) _ late
     ∙ ap (or_else (unless (names_known e.tables st) refusals.Name)) (or_else-again (unless (kinds_fit e.tables st) refusals.Kind) _ late
-    ∙ ap (or_else (unless (kinds_fit e.tables st) refusals.Kind)) (or_else-again (option_map refusals.State (state_why (is_some (opened_at e.seats session)) st)) _ late))))
+    ∙ ap (or_else (unless (kinds_fit e.tables st) refusals.Kind)) (or_else-again (option_map refusals.State (state_why (is_some (opened_at e.seats session)) st)) _ late)))
 
-pub early : (e : Held) (session : ℕ) (st : Statement) (why : Refusal) → session < 17 → early_refusal e session st ≡ Some why → IsRefused e session st (Some why)
-early e session st why small h = record { is = λ p s. refusal-is e p session st small s ∙ ap (λ a. or_else a (or_else (unless (has_room (view p session) st) refusals.Full) (option_map refusals.Conflict (conflict (view p session) st)))) h }
+pub early : (e : Held) (session : ℕ) (st : Statement) (why : Refusal) → session < 17 → is_save st ≡ false → early_refusal e session st ≡ Some why → IsRefused e session st (Some why)
+early e session st why small served h = record { is = λ p s. refusal-is e p session st small served s ∙ ap (λ a. or_else a (or_else (unless (has_room (view p session) st) refusals.Full) (option_map refusals.Conflict (conflict (view p session) st)))) h }
 
-pub full : (e : Held) (session : ℕ) (st : Statement) → session < 17 → early_refusal e session st ≡ None → ((p : Plain) → StandsFor e p → has_room (view p session) st ≡ false) → IsRefused e session st (Some refusals.Full)
-full e session st small none h = record {
+pub full : (e : Held) (session : ℕ) (st : Statement) → session < 17 → is_save st ≡ false → early_refusal e session st ≡ None → ((p : Plain) → StandsFor e p → has_room (view p session) st ≡ false) → IsRefused e session st (Some refusals.Full)
+full e session st small served none h = record {
   is = λ p s.
-      refusal-is e p session st small s ∙ (λ i. or_else (none i) (or_else (unless (h p s i) refusals.Full) (option_map refusals.Conflict (conflict (view p session) st))));
+      refusal-is e p session st small served s ∙ (λ i. or_else (none i) (or_else (unless (h p s i) refusals.Full) (option_map refusals.Conflict (conflict (view p session) st))));
 }
 
-pub conflicting : (e : Held) (session : ℕ) (st : Statement) (id : ℕ) → session < 17 → early_refusal e session st ≡ None → ((p : Plain) → StandsFor e p → has_room (view p session) st ≡ true)
+pub conflicting : (e : Held) (session : ℕ) (st : Statement) (id : ℕ) → session < 17 → is_save st ≡ false → early_refusal e session st ≡ None → ((p : Plain) → StandsFor e p → has_room (view p session) st ≡ true)
     → ((p : Plain) → StandsFor e p → conflict (view p session) st ≡ Some id) → IsRefused e session st (Some (refusals.Conflict id))
-conflicting e session st id small none room h = record {
+conflicting e session st id small served none room h = record {
   is = λ p s.
-      refusal-is e p session st small s ∙ (λ i. or_else (none i) (or_else (unless (room p s i) refusals.Full) (option_map refusals.Conflict (h p s i))));
+      refusal-is e p session st small served s ∙ (λ i. or_else (none i) (or_else (unless (room p s i) refusals.Full) (option_map refusals.Conflict (h p s i))));
 }
 
-pub allowed : (e : Held) (session : ℕ) (st : Statement) → session < 17 → early_refusal e session st ≡ None → ((p : Plain) → StandsFor e p → has_room (view p session) st ≡ true)
+pub allowed : (e : Held) (session : ℕ) (st : Statement) → session < 17 → is_save st ≡ false → early_refusal e session st ≡ None → ((p : Plain) → StandsFor e p → has_room (view p session) st ≡ true)
     → ((p : Plain) → StandsFor e p → conflict (view p session) st ≡ None) → IsRefused e session st None
-allowed e session st small none room h = record {
+allowed e session st small served none room h = record {
   is = λ p s.
-      refusal-is e p session st small s ∙ (λ i. or_else (none i) (or_else (unless (room p s i) refusals.Full) (option_map refusals.Conflict (h p s i))));
+      refusal-is e p session st small served s ∙ (λ i. or_else (none i) (or_else (unless (room p s i) refusals.Full) (option_map refusals.Conflict (h p s i))));
 }
 
 -- ---- merges
@@ -119,33 +106,34 @@ may_end e session m is = by (is_some (opened_at e.seats session)) ∙ (λ i. opt
 
 -- ---- what is carried out
 
--- a statement that passes is there
-pub supported : (e : Held) (session : ℕ) (st : Statement) → early_refusal e session st ≡ None → is_supported st ≡ true
-supported e session st h = by (is_supported st) _ h
-  where
-    by : (there : Bool) (rest : Option Refusal) → or_else (unless there refusals.Syntax) rest ≡ None → there ≡ true
-    by true rest h = refl
-    by false rest h = cc
+-- a statement that changes rows is none of a savepoint
+pub no_save_changes : (st : Statement) → IsTrue (changes_rows st) → is_save st ≡ false
+no_save_changes statements.SaveBegin h = cc
+no_save_changes (statements.SaveStep n) h = cc
+no_save_changes statements.SaveSeal h = cc
+no_save_changes statements.SaveFlip h = cc
+no_save_changes statements.SaveDrop h = cc
+no_save_changes _ h = refl
 
--- each that is there and changes no row is one of these
-pub all_carried : {A : Type 0} (st : Statement) → is_supported st ≡ true → changes_rows st ≡ false → ((name : List ℕ) (columns : List Column) → st ≡ statements.Create name columns → ⊥) → ((query : Query) → st ≡ statements.Ask query → ⊥)
+-- each that is none of a savepoint and changes no row is one of these
+pub all_carried : {A : Type 0} (st : Statement) → is_save st ≡ false → changes_rows st ≡ false → ((name : List ℕ) (columns : List Column) → st ≡ statements.Create name columns → ⊥) → ((query : Query) → st ≡ statements.Ask query → ⊥)
     → (st ≡ statements.Begin → ⊥) → (st ≡ statements.Commit → ⊥) → (st ≡ statements.Abort → ⊥) → ((name : List ℕ) (n : ℕ) → st ≡ statements.MergeL1 name n → ⊥) → ((name : List ℕ) (kind : MergeKind) → st ≡ statements.MergeBegin name kind → ⊥)
     → (st ≡ statements.MergeEnd → ⊥) → ((name : List ℕ) → st ≡ statements.Shape name → ⊥) → A
-all_carried (statements.Create name columns) there keeps create ask begin commit abort moves starts ends shape = absurd (create name columns refl)
-all_carried (statements.Insert name values) there keeps create ask begin commit abort moves starts ends shape = cc
-all_carried (statements.Bulk name values) there keeps create ask begin commit abort moves starts ends shape = cc
-all_carried (statements.Update name column value preds) there keeps create ask begin commit abort moves starts ends shape = cc
-all_carried (statements.Delete name preds) there keeps create ask begin commit abort moves starts ends shape = cc
-all_carried (statements.Ask query) there keeps create ask begin commit abort moves starts ends shape = absurd (ask query refl)
-all_carried statements.Begin there keeps create ask begin commit abort moves starts ends shape = absurd (begin refl)
-all_carried statements.Commit there keeps create ask begin commit abort moves starts ends shape = absurd (commit refl)
-all_carried statements.Abort there keeps create ask begin commit abort moves starts ends shape = absurd (abort refl)
-all_carried (statements.MergeL1 name n) there keeps create ask begin commit abort moves starts ends shape = absurd (moves name n refl)
-all_carried (statements.MergeBegin name kind) there keeps create ask begin commit abort moves starts ends shape = absurd (starts name kind refl)
-all_carried statements.MergeEnd there keeps create ask begin commit abort moves starts ends shape = absurd (ends refl)
-all_carried (statements.Shape name) there keeps create ask begin commit abort moves starts ends shape = absurd (shape name refl)
-all_carried statements.SaveBegin there keeps create ask begin commit abort moves starts ends shape = cc
-all_carried (statements.SaveStep n) there keeps create ask begin commit abort moves starts ends shape = cc
-all_carried statements.SaveSeal there keeps create ask begin commit abort moves starts ends shape = cc
-all_carried statements.SaveFlip there keeps create ask begin commit abort moves starts ends shape = cc
-all_carried statements.SaveDrop there keeps create ask begin commit abort moves starts ends shape = cc
+all_carried (statements.Create name columns) served keeps create ask begin commit abort moves starts ends shape = absurd (create name columns refl)
+all_carried (statements.Insert name values) served keeps create ask begin commit abort moves starts ends shape = cc
+all_carried (statements.Bulk name values) served keeps create ask begin commit abort moves starts ends shape = cc
+all_carried (statements.Update name column value preds) served keeps create ask begin commit abort moves starts ends shape = cc
+all_carried (statements.Delete name preds) served keeps create ask begin commit abort moves starts ends shape = cc
+all_carried (statements.Ask query) served keeps create ask begin commit abort moves starts ends shape = absurd (ask query refl)
+all_carried statements.Begin served keeps create ask begin commit abort moves starts ends shape = absurd (begin refl)
+all_carried statements.Commit served keeps create ask begin commit abort moves starts ends shape = absurd (commit refl)
+all_carried statements.Abort served keeps create ask begin commit abort moves starts ends shape = absurd (abort refl)
+all_carried (statements.MergeL1 name n) served keeps create ask begin commit abort moves starts ends shape = absurd (moves name n refl)
+all_carried (statements.MergeBegin name kind) served keeps create ask begin commit abort moves starts ends shape = absurd (starts name kind refl)
+all_carried statements.MergeEnd served keeps create ask begin commit abort moves starts ends shape = absurd (ends refl)
+all_carried (statements.Shape name) served keeps create ask begin commit abort moves starts ends shape = absurd (shape name refl)
+all_carried statements.SaveBegin served keeps create ask begin commit abort moves starts ends shape = cc
+all_carried (statements.SaveStep n) served keeps create ask begin commit abort moves starts ends shape = cc
+all_carried statements.SaveSeal served keeps create ask begin commit abort moves starts ends shape = cc
+all_carried statements.SaveFlip served keeps create ask begin commit abort moves starts ends shape = cc
+all_carried statements.SaveDrop served keeps create ask begin commit abort moves starts ends shape = cc

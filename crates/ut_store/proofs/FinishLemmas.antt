@@ -41,7 +41,7 @@ use Rattle.ut_store.specs.Allowed.{IsRefused}
 use Rattle.ut_store.specs.Standing.{changes_rows}
 use Rattle.ut_store.specs.Changes.{has_room_for, late_refusal, HasPlaces, CanDo, CanAppend, DoneInside, DoneAlone, MayChange, AreReady, IsWork}
 use Rattle.ut_store.proofs.ReadLemmas.{reads, SameSession, Closed, Open, same_session}
-use Rattle.ut_store.proofs.EarlyLemmas.{refusal-is}
+use Rattle.ut_store.proofs.EarlyLemmas.{refusal-is, no_save_changes}
 use Rattle.ut_store.proofs.StandsLemmas.{no_memory, refused, itself_same, IsOpenOn, By, open_on, number_is, not_dead}
 use Rattle.ut_store.proofs.ChangeLemmas.{Makes, changed_inside, changed_alone, changed_nothing}
 
@@ -69,7 +69,7 @@ module _ (e : Held) (session : ℕ) (st : Statement) (n : ℕ) (hits : List (ℕ
   pub late-is : IsRefused e session st (late_refusal e session n hits os)
   late-is = record {
     is = λ p s.
-        refusal-is e p session st m.seat s
+        refusal-is e p session st m.seat (no_save_changes st m.kind) s
         ∙ ap (λ a. or_else a (or_else (unless (has_room (view p session) st) refusals.Full) (option_map refusals.Conflict (conflict (view p session) st)))) m.early
         ∙ (λ i. or_else (unless (same_room p s i) refusals.Full) (option_map refusals.Conflict (w.clash p s i)));
   }

@@ -17,7 +17,7 @@ use Rattle.ut_plain.specs.Tables.{fits_columns, columns_at, place_in, columns_in
 use Rattle.ut_plain.specs.Names.{names_known}
 use Rattle.ut_plain.specs.Kinds.{kinds_fit}
 use Rattle.ut_plain.specs.Made.{inserts}
-use Rattle.ut_plain.specs.Refusals.{is_supported, unless, or_else}
+use Rattle.ut_plain.specs.Refusals.{unless, or_else}
 use Rattle.ut_plain.specs.Spelled.{are_some_values}
 use Rattle.ut_plain.specs.Plain.{Plain}
 use Rattle.ut_plain.proofs.BoolLemmas.{and_right, and_both}
@@ -40,10 +40,9 @@ test_passed false why rest h = cc
 
 pub early_tests : (e : Held) (session : ℕ) (st : Statement) → early_refusal e session st ≡ None → (names_known e.tables st ≡ true) × (kinds_fit e.tables st ≡ true)
 early_tests e session st h =
-    let a = test_passed (is_supported st) refusals.Syntax _ h in
-    let b = test_passed (names_known e.tables st) refusals.Name _ a.1 in
-    let c = test_passed (kinds_fit e.tables st) refusals.Kind _ b.1 in
-    (b.0, c.0)
+    let a = test_passed (names_known e.tables st) refusals.Name _ h in
+    let b = test_passed (kinds_fit e.tables st) refusals.Kind _ a.1 in
+    (a.0, b.0)
 
 -- ---- the table
 

@@ -92,13 +92,13 @@ merge_small e n s kind st is test =
 pub merge_full : (e : Held) (session : ℕ) (name : List ℕ) (kind : MergeKind) (n : ℕ) (s : Staged) → session < 17 → early_refusal e session (MergeBegin name kind) ≡ None → place_of e.tables name ≡ Some n → slice_get e.staged n ≡ Some s → has_room_to_merge e s kind ≡ false
     → Answers e session (MergeBegin name kind) (Answered (replies.Refused refusals.Full)) e
 merge_full e session name kind n s small early at is test =
-    refused e e session (MergeBegin name kind) refusals.Full (full e session (MergeBegin name kind) small early (room-is e session name kind n s false is (place-is e session name n at) test)) (itself_same e)
+    refused e e session (MergeBegin name kind) refusals.Full (full e session (MergeBegin name kind) small refl early (room-is e session name kind n s false is (place-is e session name n at) test)) (itself_same e)
 
 pub merge_begun_now : (e new : Held) (session : ℕ) (name : List ℕ) (kind : MergeKind) (n : ℕ) (s : Staged) → session < 17 → IsTrue (is_spelled (MergeBegin name kind)) → early_refusal e session (MergeBegin name kind) ≡ None → e.pending ≡ None
     → place_of e.tables name ≡ Some n → slice_get e.staged n ≡ Some s → has_room_to_merge e s kind ≡ true → new ≡ merge_begun e n kind s → Answers e session (MergeBegin name kind) (Append (replies.Merge new.merges)) new
 merge_begun_now e new session name kind n s small spelled early idle at is test same =
     subst (λ (x : Held). Answers e session (MergeBegin name kind) (Append (replies.Merge x.merges)) x) (sym same)
-    (merge_begins e session name kind n s spelled (allowed e session (MergeBegin name kind) small early (room-is e session name kind n s true is (place-is e session name n at) test) (λ p st. refl)) is idle (place-is e session name n at))
+    (merge_begins e session name kind n s spelled (allowed e session (MergeBegin name kind) small refl early (room-is e session name kind n s true is (place-is e session name n at) test) (λ p st. refl)) is idle (place-is e session name n at))
 
 -- ---- the pending merge
 
@@ -147,7 +147,7 @@ merge_ended_now e items m t new session frame small is are at switch spells =
     (λ i. slice_set (are i) m.table (sym switch.2 i)) ∙ sym (map-set (λ (x : TableValue). x.stages) items m.table new) in
     subst (λ (x : Held). Answers e session MergeEnd (Append (replies.Merge m.number)) x)
     (λ i. record e { staged = after i; entries = e.entries + 1; pending = None; frame = sym spells i })
-    (merge_ends e session m t.stages switch.0 (allowed e session MergeEnd small (may_end e session m is) (λ p st. refl) (λ p st. refl)) is here switch.1)
+    (merge_ends e session m t.stages switch.0 (allowed e session MergeEnd small refl (may_end e session m is) (λ p st. refl) (λ p st. refl)) is here switch.1)
 
 -- ---- no other statement hands out a job
 

@@ -8,9 +8,9 @@ use Rattle.ut_value.specs.declared.value.Column.{Column}
 use Rattle.ut_plain.specs.declared.table.Table.{Table}
 use Rattle.ut_plain.specs.declared.statement.Statement.{Statement}
 use Rattle.ut_plain.specs.declared.reply.Refusal.{Refusal}
-use Rattle.ut_plain.specs.declared.reply.Refusal.TheVariants.{Syntax, Name}
+use Rattle.ut_plain.specs.declared.reply.Refusal.TheVariants.{Name}
 use Rattle.ut_plain.specs.Names.{names_known}
-use Rattle.ut_plain.specs.Refusals.{is_supported, unless, or_else}
+use Rattle.ut_plain.specs.Refusals.{unless, or_else}
 use Rattle.ut_plain.specs.Plain.{Plain}
 use Rattle.ut_plain.specs.View.{view}
 use Rattle.ut_plain.specs.Tables.{place_of, place_in}
@@ -25,12 +25,11 @@ use Rattle.ut_staged.specs.Staged.{Staged}
 
 -- a statement that passes has names that are known
 pub named : (e : Held) (session : ℕ) (st : Statement) → early_refusal e session st ≡ None → IsTrue (names_known e.tables st)
-named e session st h = by (is_supported st) (names_known e.tables st) _ h
+named e session st h = by (names_known e.tables st) _ h
   where
-    by : (a b : Bool) (r : Option Refusal) → or_else (unless a Syntax) (or_else (unless b Name) r) ≡ None → IsTrue b
-    by true true r h = refl
-    by true false r h = cc
-    by false b r h = cc
+    by : (a : Bool) (r : Option Refusal) → or_else (unless a Name) r ≡ None → IsTrue a
+    by true r h = refl
+    by false r h = cc
 
 -- each table has its stages
 pub staged_count : (e : Held) → Stands e → length e.staged ≡ length e.tables

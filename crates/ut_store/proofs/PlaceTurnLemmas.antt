@@ -51,12 +51,12 @@ moved_now e items place n moved old new session name small spelled early at are 
     (λ i. slice_set (are i) place (sym stages i)) ∙ sym (map-set (λ (x : TableValue). x.stages) items place new) in
     subst (λ (k : ℕ). Answers e session (MergeL1 name n) (Answered (replies.Moved k)) (record e { staged = stages_in (slice_set items place new) })) (sym count)
     (subst (λ (x : List Staged). Answers e session (MergeL1 name n) (Answered (replies.Moved (min n (length old.stages.l1)))) (record e { staged = x })) after
-    (moved_rows e e.seats e.frame session name n place old.stages spelled (allowed e session (MergeL1 name n) small early (λ p s. refl) (λ p s. refl)) here (place-is e session name place at) (itself_same e).seats))
+    (moved_rows e e.seats e.frame session name n place old.stages spelled (allowed e session (MergeL1 name n) small refl early (λ p s. refl) (λ p s. refl)) here (place-is e session name place at) (itself_same e).seats))
 
 pub shape_now : (e : Held) (place : ℕ) (shape : Shape) (staged : Staged) (session : ℕ) (name : List ℕ) → session < 17 → IsTrue (is_spelled (statements.Shape name)) → early_refusal e session (statements.Shape name) ≡ None
     → place_of e.tables name ≡ Some place → slice_get e.staged place ≡ Some staged → shape ≡ shape_of (stages_of staged) → Answers e session (statements.Shape name) (Answered (replies.Shape shape)) e
 shape_now e place shape staged session name small spelled early at is told =
-    tells e e session (statements.Shape name) (replies.Shape shape) spelled (allowed e session (statements.Shape name) small early (λ p s. refl) (λ p s. refl)) (itself_same e) told_is
+    tells e e session (statements.Shape name) (replies.Shape shape) spelled (allowed e session (statements.Shape name) small refl early (λ p s. refl) (λ p s. refl)) (itself_same e) told_is
   where
     told_is : (p : Plain) → StandsFor e p → effect_of p session (statements.Shape name) ≡ record { reply = replies.Shape shape; plain = p }
     told_is p s =

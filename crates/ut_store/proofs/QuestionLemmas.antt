@@ -24,7 +24,7 @@ use Rattle.ut_plain.specs.Condition.{meets}
 use Rattle.ut_plain.specs.Plain.{Plain}
 use Rattle.ut_plain.specs.View.{view}
 use Rattle.ut_plain.specs.Query.{picked, column_values, total, best, groups, joined, told}
-use Rattle.ut_plain.specs.Refusals.{is_supported, unless, or_else}
+use Rattle.ut_plain.specs.Refusals.{unless, or_else}
 use Rattle.ut_plain.proofs.BoolLemmas.{and_left, and_right}
 use Rattle.ut_plain.proofs.ListLemmas.{position_below}
 use Rattle.ut_scan.specs.declared.place.Found.{Found}
@@ -42,13 +42,12 @@ use Rattle.ut_store.proofs.ShownLemmas.{Shows, shows_here}
 
 -- a statement that passes has values of the kinds that are wanted
 fitting : (e : Held) (session : ℕ) (st : Statement) → early_refusal e session st ≡ None → IsTrue (kinds_fit e.tables st)
-fitting e session st h = by (is_supported st) (names_known e.tables st) (kinds_fit e.tables st) _ h
+fitting e session st h = by (names_known e.tables st) (kinds_fit e.tables st) _ h
   where
-    by : (a b c : Bool) (r : Option Refusal) → or_else (unless a refusals.Syntax) (or_else (unless b refusals.Name) (or_else (unless c refusals.Kind) r)) ≡ None → IsTrue c
-    by true true true r h = refl
-    by true true false r h = cc
-    by true false c r h = cc
-    by false b c r h = cc
+    by : (a b : Bool) (r : Option Refusal) → or_else (unless a refusals.Name) (or_else (unless b refusals.Kind) r) ≡ None → IsTrue b
+    by true true r h = refl
+    by true false r h = cc
+    by false b r h = cc
 
 -- the table of a question, the left one of two, and its condition
 abbrev pub asked_table : Query → List ℕ

@@ -59,7 +59,7 @@ pub began_now : (e : Held) (fates : List Fate) (seats : List Seat) (session numb
     → Answers e session Begin (Answered replies.Done) (record e { fates = fates; seats = seats })
 began_now e fates seats session number some small early started numbered set =
     subst (λ (f : List Fate). Answers e session Begin (Answered replies.Done) (record e { fates = f; seats = seats })) (sym started)
-    (began e seats e.frame session some small (allowed e session Begin small early (λ p s. refl) (λ p s. refl)) (closed_before e session early)
+    (began e seats e.frame session some small (allowed e session Begin small refl early (λ p s. refl) (λ p s. refl)) (closed_before e session early)
     (subst (λ n. SeatSet e.seats seats session (Some (record { snapshot = e.entries; number = n })) (payload_at e.seats session)) numbered set))
 
 -- ---- abort
@@ -69,7 +69,7 @@ pub gave_up_now : (e : Held) (fates : List Fate) (seats : List Seat) (session : 
     → Answers e session Abort (Answered replies.Done) (record e { fates = fates; seats = seats })
 gave_up_now e fates seats session o some small early is ended set =
     subst (λ (f : List Fate). Answers e session Abort (Answered replies.Done) (record e { fates = f; seats = seats })) (sym ended)
-    (gave_up e seats e.frame session o some small (allowed e session Abort small early (λ p s. refl) (λ p s. refl)) is set)
+    (gave_up e seats e.frame session o some small (allowed e session Abort small refl early (λ p s. refl) (λ p s. refl)) is set)
 
 -- ---- commit
 
@@ -94,7 +94,7 @@ committed_nothing_now e fates seats session o some small st early few is ended s
     let bytes : (p : Plain) → StandsFor e p → payload_at e.seats session ≡ spelling (entries.Txn (own_ops (open_at p.sessions session))) = λ p s. s.seats.payloads session small in
     let none : (p : Plain) → StandsFor e p → own_ops (open_at p.sessions session) ≡ [] = λ p s. own_none e.seats session _ few (bytes p s) in
     subst (λ (f : List Fate). Answers e session Commit (Answered replies.Done) (record e { fates = f; seats = seats })) (sym ended)
-    (committed_nothing e seats e.frame session o some small (allowed e session Commit small early (λ p s. ap (has_commit_room (view p session)) (none p s)) (λ p s. refl)) is
+    (committed_nothing e seats e.frame session o some small (allowed e session Commit small refl early (λ p s. ap (has_commit_room (view p session)) (none p s)) (λ p s. refl)) is
     (bytes st.plain st.stands ∙ ap (λ (os : List Op). spelling (entries.Txn os)) (none st.plain st.stands)) (λ os h. own_none e.seats session os few h) set)
 
 -- a transaction of operations has room where the journal has
@@ -108,7 +108,7 @@ room_is e session room small some is p s =
 
 pub commit_full : (e : Held) (session : ℕ) → session < 17 → early_refusal e session Commit ≡ None → nat_lt 5 (length (payload_at e.seats session)) ≡ true → 1073741823 ≤ e.entries
     → Answers e session Commit (Answered (replies.Refused refusals.Full)) e
-commit_full e session small early some long = refused e e session Commit refusals.Full (full e session Commit small early (room_is e session false small some (le-ltb e.entries 1073741823 long))) (itself_same e)
+commit_full e session small early some long = refused e e session Commit refusals.Full (full e session Commit small refl early (room_is e session false small some (le-ltb e.entries 1073741823 long))) (itself_same e)
 
 pub committed_something_now : (e : Held) (fates : List Fate) (seats : List Seat) (frame : List ℕ) (session : ℕ) (o : Opened) → 0 < session → session < 17 → early_refusal e session Commit ≡ None
     → nat_lt 5 (length (payload_at e.seats session)) ≡ true → e.entries < 1073741823 → opened_at e.seats session ≡ Some o
@@ -116,5 +116,5 @@ pub committed_something_now : (e : Held) (fates : List Fate) (seats : List Seat)
     → Answers e session Commit (Append (replies.Committed (e.commits + 1))) (record e { fates = fates; seats = seats; commits = e.commits + 1; entries = e.entries + 1; frame = frame })
 committed_something_now e fates seats frame session o some small early has short is ended bytes set =
     subst (λ (f : List Fate). Answers e session Commit (Append (replies.Committed (e.commits + 1))) (record e { fates = f; seats = seats; commits = e.commits + 1; entries = e.entries + 1; frame = frame })) (sym ended)
-    (committed_something e seats frame session o some small (allowed e session Commit small early (room_is e session true small has (lt-ltb e.entries 1073741823 short)) (λ p s. refl)) is
+    (committed_something e seats frame session o some small (allowed e session Commit small refl early (room_is e session true small has (lt-ltb e.entries 1073741823 short)) (λ p s. refl)) is
     (λ none. own_there e.seats session [] has none refl) bytes set)

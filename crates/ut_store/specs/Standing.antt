@@ -4,10 +4,10 @@ use Rattle.ut_value.specs.declared.entry.Entry.{Entry}
 use Rattle.ut_plain.specs.declared.table.Table.{Table}
 use Rattle.ut_plain.specs.declared.statement.Statement.{Statement}
 use Rattle.ut_plain.specs.declared.statement.Statement.TheVariants as statements
-use Rattle.ut_plain.specs.State.{empty_state}
-use Rattle.ut_plain.specs.Journal.{Journal}
+use Rattle.ut_plain.specs.State.{State}
+use Rattle.ut_plain.specs.Stages.{Stages}
 use Rattle.ut_plain.specs.Capture.{Directory}
-use Rattle.ut_plain.specs.Plain.{Plain, no_image, opened_store}
+use Rattle.ut_plain.specs.Plain.{Plain, opened_store}
 use Rattle.ut_plain.specs.Reached.{MayOpen}
 use Rattle.ut_stamps.specs.declared.fates.Fate.TheVariants.{Committed, Aborted}
 use Rattle.ut_staged.specs.Staged.{Staged}
@@ -59,12 +59,8 @@ pub record Restored (tables : List Table) (staged : List Staged) (next_id rows_l
   pub has_entries : e.entries ≡ entries
   pub no_merge : e.pending ≡ None
 
--- a journal of these entries that began with nothing
-abbrev pub journal_of : List Entry → Journal
-journal_of entries = record { base = empty_state; entries = entries }
-
--- The entries are a journal of a store, which was opened with it and no image.
-pub record Reopened (entries : List Entry) (rows_limit : ℕ) (e : Held) : Type 0 where
-  pub may : MayOpen [] (journal_of entries)
-  -- however many pages an image takes
-  pub stands : (image_pages : Directory → ℕ) → StandsFor e (opened_store (no_image image_pages) (journal_of entries) rows_limit)
+-- A journal that begins with this state, opened with the stages of an image.
+pub record Reopened (s : State) (stages : Stages) (entries : List Entry) (rows_limit : ℕ) (e : Held) : Type 0 where
+  pub may : MayOpen stages (record { base = s; entries = entries })
+  -- however many pages an image takes, and the selected root reaches
+  pub stands : (image_pages : Directory → ℕ) (root_pages : ℕ) → StandsFor e (opened_store (record { stages = stages; image_pages = image_pages; root_pages = root_pages }) (record { base = s; entries = entries }) rows_limit)

@@ -6,7 +6,6 @@ ghost use Rattle.ut_store.specs.Answers.{Answers};
 ghost use Rattle.ut_store.specs.Early.{early_refusal};
 ghost use Rattle.ut_store.specs.Standing.{Stands, changes_rows};
 
-use crate::finish::no_memory;
 use crate::{Store, Turn};
 use std::alloc::Global;
 use ut_plain::{Statement, Table, place_of};
@@ -32,7 +31,7 @@ impl Store {
                 value,
                 preds,
             } => self.update(alloc, session, st, table, column, value, preds),
-            _ => no_memory(),
+            _ => unreachable!(),
         }
     }
 }

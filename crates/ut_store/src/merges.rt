@@ -1,9 +1,10 @@
 //! Merges into main: one begins, hands out its job, and ends with what was built of it.
-ghost use Rattle.std.specs.Prelude.{◌≡◌, ◌<◌, ◌≤◌, Some, None, IsTrue, IfOk, OnOk, OnErr, length, slice_get};
+ghost use Rattle.std.specs.Prelude.{◌≡◌, ◌<◌, ◌≤◌, false, Some, None, IsTrue, IfOk, OnOk, OnErr, length, slice_get};
 ghost use Rattle.ut_value.specs.declared.entry.Entry.TheVariants as entries;
 ghost use Rattle.ut_value.specs.Spelling.{spelling};
 ghost use Rattle.ut_plain.specs.declared.statement.Statement.TheVariants as statements;
 ghost use Rattle.ut_plain.specs.Merges.{has_part_room};
+ghost use Rattle.ut_plain.specs.Refusals.{is_save};
 ghost use Rattle.ut_plain.specs.Spelled.{is_spelled};
 ghost use Rattle.ut_staged.specs.Staged.{Staged};
 ghost use Rattle.ut_store.specs.Early.{early_refusal};
@@ -34,6 +35,7 @@ impl Store {
     pub fn statement_with_job(&mut self, alloc: Global, session: u8, st: &Statement) -> Outcome
         requires seat { session < 17 }
         requires suits { IsTrue (suits_session session st.now) }
+        requires served { is_save st.now ≡ false }
         requires spelled { IsTrue (is_spelled st.now) }
         requires stands { Stands self.old }
         ensures answers { Answers self.old session st.now result.turn self.new }

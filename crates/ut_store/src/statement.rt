@@ -1,7 +1,7 @@
 //! Statements: what refuses one before any row is looked at, and what answers it.
-ghost use Rattle.std.specs.Prelude.{◌≡◌, ◌<◌, None, is_some, option_map, IsTrue};
+ghost use Rattle.std.specs.Prelude.{◌≡◌, ◌<◌, false, None, is_some, option_map, IsTrue};
 ghost use Rattle.ut_plain.specs.declared.statement.Statement.TheVariants as statements;
-ghost use Rattle.ut_plain.specs.Refusals.{merge_why, state_why};
+ghost use Rattle.ut_plain.specs.Refusals.{is_save, merge_why, state_why};
 ghost use Rattle.ut_plain.specs.Spelled.{is_spelled};
 ghost use Rattle.ut_txn.specs.Seats.{opened_at};
 ghost use Rattle.ut_store.specs.Early.{early_refusal};
@@ -12,17 +12,16 @@ use crate::finish::no_memory;
 use crate::store::Store;
 use crate::turn::Turn;
 use std::alloc::Global;
-use ut_plain::{
-    Query, Refusal, Reply, Statement, is_supported, kinds_fit, merge_why, names_known, state_why,
-};
+use ut_plain::{Query, Refusal, Reply, Statement, kinds_fit, merge_why, names_known, state_why};
 
 impl Store {
-    /// Answers a statement of a session. Where the answer says so, the log has to append the store's frame before the reply
-    /// is handed out. A commit and an abort take no memory.
+    /// Answers a statement of a session, but for those of a savepoint. Where the answer says so, the log has to append the store's frame
+    /// before the reply is handed out. A commit and an abort take no memory.
     /// The job of a merge that begins is given up; the end of one that is pending wants what was built of its job, for which there is no memory here.
     pub fn statement(&mut self, alloc: Global, session: u8, st: &Statement) -> Turn
         requires seat { session < 17 }
         requires suits { IsTrue (suits_session session st.now) }
+        requires served { is_save st.now ≡ false }
         requires spelled { IsTrue (is_spelled st.now) }
         requires stands { Stands self.old }
         ensures { Answers self.old session st.now result self.new }
@@ -37,6 +36,7 @@ impl Store {
     fn carry_out(&mut self, alloc: Global, session: u8, st: &Statement) -> Turn
         requires seat { session < 17 }
         requires suits { IsTrue (suits_session session st.now) }
+        requires served { is_save st.now ≡ false }
         requires spelled { IsTrue (is_spelled st.now) }
         requires stands { Stands self.old }
         requires early { early_refusal self.old session st.now ≡ None }
@@ -57,7 +57,7 @@ impl Store {
             }
             Statement::MergeEnd => no_memory(),
             Statement::Shape { table } => self.shape(alloc, session, table),
-            _ => Turn::Answered(Reply::Refused(Refusal::Syntax)),
+            _ => unreachable!(),
         }
     }
 
@@ -80,9 +80,6 @@ impl Store {
         requires { session < 17 }
         ensures { result ≡ early_refusal self.now session st.now }
     {
-        if !is_supported(st) {
-            return Some(Refusal::Syntax);
-        }
         if !names_known(&self.tables, st) {
             return Some(Refusal::Name);
         }

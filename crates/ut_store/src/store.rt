@@ -127,4 +127,11 @@ impl Store {
     {
         self.entries
     }
+
+    /// The id of the next row.
+    pub fn next_id(&self) -> u32
+        ensures { result ≡ self.now.next_id }
+    {
+        self.next_id
+    }
 }

@@ -3,7 +3,7 @@ use Rattle.ut_plain.specs.declared.statement.Statement.{Statement}
 use Rattle.ut_plain.specs.declared.statement.Statement.TheVariants.{MergeEnd}
 use Rattle.ut_store.specs.declared.turn.Turn.{Turn}
 use Rattle.ut_store.specs.Answers.{Answers}
-use Rattle.ut_store.proofs.EarlyLemmas.{supported, all_carried}
+use Rattle.ut_store.proofs.EarlyLemmas.{all_carried}
 use Rattle.ut_store.proofs.StandsLemmas.{no_memory, itself_same}
 use Rattle.ut_store.proofs.store.Store.carry_out.Goals as goal
 
@@ -13,7 +13,7 @@ returns-in-MergeEnd c =
     subst (λ (st : Statement). Answers e c.args.session st c.no_memory.result e) (sym c.in-MergeEnd.is)
     (subst (λ (turn : Turn). Answers e c.args.session MergeEnd turn e) (sym c.no_memory.ensures) (no_memory e e c.args.session MergeEnd refl (itself_same e)))
 
-pub returns-in_default : goal.returns-in_default
-returns-in_default c =
-    all_carried c.args.st.now (supported c.args.self.now c.args.session c.args.st.now c.requires.early) (sym c.changes_rows.ensures ∙ c.if-changes_rows.false)
+pub unreachable-requires : goal.unreachable-requires
+unreachable-requires c =
+    all_carried c.args.st.now c.requires.served (sym c.changes_rows.ensures ∙ c.if-changes_rows.false)
     c.in_default.not-Create c.in_default.not-Ask c.in_default.not-Begin c.in_default.not-Commit c.in_default.not-Abort c.in_default.not-MergeL1 c.in_default.not-MergeBegin c.in_default.not-MergeEnd c.in_default.not-Shape

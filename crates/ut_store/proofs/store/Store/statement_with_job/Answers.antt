@@ -10,7 +10,7 @@ pub returns-in-Some-clause-answers : goal.returns-in-Some-clause-answers
 returns-in-Some-clause-answers c =
     let e = c.args.self.now in
     subst (λ (turn : Turn). Answers e c.args.session c.args.st.now turn e) (sym c.without_job.ensures.turn)
-    (refused e e c.args.session c.args.st.now c.in-Some.why (early e c.args.session c.args.st.now c.in-Some.why c.requires.seat (sym c.early_refusal.ensures ∙ c.in-Some.is)) (itself_same e))
+    (refused e e c.args.session c.args.st.now c.in-Some.why (early e c.args.session c.args.st.now c.in-Some.why c.requires.seat c.requires.served (sym c.early_refusal.ensures ∙ c.in-Some.is)) (itself_same e))
 
 pub returns-in_default : goal.returns-in_default
 returns-in_default c = record {
