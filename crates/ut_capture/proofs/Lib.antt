@@ -1,0 +1,5 @@
+pub mod ListLemmas
+pub mod LiveLemmas
+pub mod PlaceLemmas
+pub mod PartLemmas
+pub mod StoreLemmas

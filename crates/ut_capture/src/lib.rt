@@ -1,0 +1,13 @@
+//! The capture of a running store for a savepoint: which of its rows are live, and the bytes of those outside main.
+#![tactic(auto)]
+
+mod deltas;
+mod parts;
+mod place;
+mod store;
+mod table;
+#[cfg(test)]
+mod tests;
+
+pub use store::captured;
+pub use table::captured_table;
