@@ -1,20 +1,22 @@
 -- The store that is restored stands for the plain store that is opened.
-use Rattle.std.proofs.Common.{ℕ, zero, suc, ◌+◌, ◌<◌, ◌≤◌, ◌≡◌, max, Bool, true, false, ◌&&◌, cond, List, [], ◌∷◌, length, map, replicate, Option, None, Some, refl, sym, ap, ◌∙◌, subst, arith, slice_get, le-leb}
-use Rattle.std.proofs.lemmas.List.{length-map}
+use Rattle.std.proofs.Common.{inr, ℕ, zero, suc, ◌+◌, ◌<◌, ◌≤◌, ◌≡◌, max, Bool, true, false, ◌&&◌, cond, List, [], ◌∷◌, length, map, replicate, Option, None, Some, refl, sym, ap, ◌∙◌, subst, arith, slice_get, le-leb}
 use Rattle.std.specs.Option.{option_map, unwrap_or}
 use Rattle.std.specs.FinMap as finmap
-use Rattle.std.specs.Ordering.{nat_cmp}
 use Rattle.ut_value.specs.declared.entry.Entry.{Entry}
 use Rattle.ut_plain.specs.declared.table.Table.{Table}
 use Rattle.ut_plain.specs.declared.table.Stored.{Stored}
 use Rattle.ut_plain.specs.declared.transaction.OpenTransaction.{OpenTransaction}
 use Rattle.ut_plain.specs.State.{State}
-use Rattle.ut_plain.specs.Journal.{Journal, journal_len, current, load_of}
+use Rattle.ut_plain.specs.Rows.{Rows}
+use Rattle.ut_plain.specs.Journal.{Journal, journal_len, current, load_of, after_all}
+use Rattle.ut_plain.specs.Stages.{Stages}
+use Rattle.ut_plain.specs.Restart.{replayed}
+use Rattle.ut_plain.specs.declared.stage.PendingMerge.{PendingMerge}
 use Rattle.ut_plain.specs.Capture.{Directory}
-use Rattle.ut_plain.specs.Plain.{no_image, opened_store, no_sessions, open_at}
+use Rattle.ut_plain.specs.Plain.{Opening, opened_store, no_sessions, open_at}
 use Rattle.ut_plain.specs.Reached.{MayOpen, IsPlain}
 use Rattle.ut_plain.proofs.JournalLaws.{state_at-last, deleted_after-last}
-use Rattle.ut_plain.proofs.StateLaws.{IsState-empty, IsState-current}
+use Rattle.ut_plain.proofs.StateLaws.{IsState-current}
 use Rattle.ut_plain.proofs.OpenedLaws.{IsPlain-opened}
 use Rattle.ut_stamps.specs.declared.fates.Fate.{Fate}
 use Rattle.ut_stamps.specs.declared.fates.Fate.TheVariants.{Running, Committed, Aborted}
@@ -27,24 +29,30 @@ use Rattle.ut_plain.specs.Stages.{stages_at}
 use Rattle.std.specs.Option.{option_and_then}
 use Rattle.ut_exact.specs.Dropped.{kept_at}
 use Rattle.ut_exact.specs.Gone.{IsGone}
-use Rattle.ut_exact.specs.Places.{dead_number, AreHeld}
-use Rattle.ut_staged.specs.Staged.{Staged, no_rows, stages_of}
+use Rattle.ut_exact.specs.Places.{StagedRow, is_dead, stamped_in, dead_number, AreHeld}
+use Rattle.ut_staged.specs.Staged.{Staged, stages_of}
 use Rattle.ut_staged.specs.Tables.{place_at}
 use Rattle.ut_txn.specs.Seats.{Seat, AreEmpty, number_at}
 use Rattle.ut_store.specs.Held.{Held}
-use Rattle.ut_store.specs.Stands.{AreSeats, AreRows, AreMerging, merge_at, opened_snapshot, snapshot_of}
-use Rattle.ut_store.specs.Standing.{Reopened, journal_of}
+use Rattle.ut_store.specs.Stands.{StandsFor, AreSeats, AreRows, AreMerging, opened_snapshot, snapshot_of}
+use Rattle.ut_store.specs.Standing.{Reopened}
 use Rattle.ut_plain.specs.View.{own_ops}
 use Rattle.ut_value.specs.declared.entry.Entry.TheVariants.{Txn}
 use Rattle.ut_value.specs.Spelling.{spelling}
-use Rattle.ut_restart.specs.declared.slots.Slot.{Slot}
+use Rattle.ut_stamps.specs.declared.visibility.Stamp.{Stamp}
+use Rattle.ut_stamps.specs.declared.place.Place.{Place}
+use Rattle.ut_staged.proofs.ListLemmas.{none_some, some_same}
+use Rattle.ut_main.specs.Parts.{MainValue}
+use Rattle.ut_image.specs.declared.drawn.Drawn.{Drawn}
+use Rattle.ut_pages.specs.declared.root.Root.{Root}
+use Rattle.ut_reading.proofs.StoreLemmas.{directory_may_open}
+use Rattle.ut_restart.specs.declared.rows.Position.{Position}
 use Rattle.ut_restart.specs.declared.replay.Replay.{Replay}
-use Rattle.ut_restart.specs.Slots.{place_in}
-use Rattle.ut_restart.specs.Replayed.{Replayed}
-use Rattle.ut_restart.specs.Standing.{no_staged, Rebuilt}
-use Rattle.ut_restart.proofs.DeadLemmas.{fits-below}
-use Rattle.ut_restart.proofs.StandLemmas.{stages-are, columns-are, no-merges}
-use Rattle.ut_restart.proofs.HeldLemmas.{before_all, AreHeld-sound}
+use Rattle.ut_restart.specs.Began.{BeginsWith}
+use Rattle.ut_restart.specs.Rows.{Positions, IsSound, Keeps, position_in, position, stored_of, row_at}
+use Rattle.ut_restart.specs.Replayed.{Agrees, IsFirst, Replayed, NoJournal}
+use Rattle.ut_restart.specs.Shown.{stamp_of}
+use Rattle.ut_restart.specs.Standing.{shown, Rebuilt}
 
 -- ---- what a restored store begins with
 
@@ -83,6 +91,10 @@ none_runs (suc zero) h = cc
 none_runs (suc (suc t)) h = cc
 
 -- ---- stamps
+
+-- a row that was committed before all else
+abbrev before_all : Stored → Stamped
+before_all stored = record { stored = stored; stamp = record { begin = 0; end = None } }
 
 shown_first : (k : ℕ) (o : Option Stored) → o ≡ shown_by (counts first_fates k None) (option_map before_all o)
 shown_first k None = refl
@@ -124,77 +136,132 @@ nothing_kept t g i none flag = no (sym (ap (λ (k : List (List Bool)). option_an
     no : {B : Type 0} → None ≡ Some false → B
     no h = cc
 
+-- ---- the one place that is somebody's and holds the row of an id
+
+inside : {X : Type 0} (a b : X) → Some a ≡ Some b → a ≡ b
+inside a b e = cc
+
+module _ (tables : List Table) (staged : List Staged) (positions : Positions) (load : ℕ) (rows : Rows) (stages : Stages) (s : IsSound tables staged positions load) (k : Keeps staged positions rows stages) where
+  held : ℕ → Option Stamped
+  held id = option_map before_all (finmap.get rows id)
+
+  there-is : (id n : ℕ) (p : Place) (row : StagedRow) → positions id ≡ Some (position n p) → place_at staged n p ≡ Some row → option_map before_all (finmap.get rows id) ≡ Some (stamped_in n row)
+  there-is id n p row known is =
+      let f = s.there id n p known in
+      let same : f.0 ≡ row = some_same f.0 row (sym f.1 ∙ is) in
+      let born : stamp_of false ≡ row.stamp = sym f.2 ∙ ap (λ (r : StagedRow). r.stamp) same in
+      ap (option_map before_all) (k.row id ∙ ap (row_at staged) known ∙ ap (option_map (stored_of n)) is)
+      ∙ ap (λ (stamp : Stamp). Some (record { stored = stored_of n row; stamp = stamp })) born
+
+  known-at : (id : ℕ) (x : Stamped) → option_map before_all (finmap.get rows id) ≡ Some x → (o : Option Position) → positions id ≡ o → (n : ℕ) × (p : Place) × (positions id ≡ Some (position n p))
+  known-at id x is None e = absurd (none_some x (sym (ap (option_map before_all) (k.row id ∙ ap (row_at staged) e)) ∙ is))
+  known-at id x is (Some at) e = (at.table, at.place, e)
+
+  pub held-sound : (gone : Stamp → Type 0) → AreHeld (place_at staged) gone (λ id. option_map before_all (finmap.get rows id))
+  held-sound gone = record {
+    each = λ n p row is lives. there-is row.id n p row (s.live n p row is lives) is;
+    only = λ id x is.
+        let at = known-at id x is (positions id) refl in
+        let f = s.there id at.0 at.1 at.2 in
+        inr (at.0, at.1, f.0, f.1, ap is_dead f.2, f.3, some_same (stamped_in at.0 f.0) x (sym (there-is id at.0 at.1 f.0 at.2 f.1) ∙ is));
+    once = λ n m p q row other is js lives lived same.
+        let e = inside (position n p) (position m q) (sym (s.live n p row is lives) ∙ ap positions same ∙ s.live m q other js lived) in
+        (ap (λ (at : Position). at.table) e, ap (λ (at : Position). at.place) e);
+  }
+
+-- no table has a merge
+none-there : {X : Type 0} (x : X) → None ≡ Some x → ⊥
+none-there x h = cc
+
+merges-at : (tables : List Table) (merges : List (Option PendingMerge)) (n : ℕ) (merge : Option PendingMerge) → merges ≡ map (λ (t : Table). None) tables → slice_get merges n ≡ Some merge → merge ≡ None
+merges-at tables merges n merge same is = by tables n (ap (λ ms. slice_get ms n) (sym same) ∙ is)
+  where
+    by : (tables : List Table) (n : ℕ) → slice_get (map (λ (t : Table). None) tables) n ≡ Some merge → merge ≡ None
+    by [] n h = absurd (none-there merge h)
+    by (t ∷ tables) zero h = cc
+    by (t ∷ tables) (suc n) h = by tables n h
+
 -- ---- all of it
 
-module _ (es : List Entry) (limit : ℕ) (r : Replay) (e : Held) (few : length es ≤ 1073741824) (small : limit ≤ 2147483648) (read : Replayed es r) (built : Rebuilt r limit e) where
-  may : MayOpen [] (journal_of es)
-  may = record {
-    base = IsState-empty;
-    journal = read.can;
-    short = omega (arith, few);
-    load = omega (arith, read.load, read.sound.slots.few, finmap.len-empty nat_cmp Stored);
-    staged = refl;
-    places = omega arith;
-    mains = λ n. record { parts = omega arith; few = omega arith };
-    rest = λ n. record { closed = refl; keep = refl };
-  }
+module _ (root : Root) (tables : List Drawn) (mains : List MainValue) (es : List Entry) (limit : ℕ) (first r : Replay) (begun : IsFirst root tables mains first) (read : Replayed first es r) where
+  -- the state and the directory that the store begins with
+  module _ (d : Directory) (s : State) (b : BeginsWith root tables mains d s) (few : root.length + length es ≤ 1073741824) where
+    abbrev j : Journal
+    j = record { base = s; entries = es }
 
-  plain : (image_pages : Directory → ℕ) → IsPlain (opened_store (no_image image_pages) (journal_of es) limit)
-  plain image_pages = IsPlain-opened (no_image image_pages) (journal_of es) limit may small
+    agrees : Agrees r (after_all s es) (replayed d.stages es)
+    agrees = read.agrees s d.stages (begun.agrees d s b)
 
-  next_is : max r.slots.next (length r.slots.list.items + 1) ≡ max (current (journal_of es)).next (load_of (journal_of es) + 1)
-  next_is = omega (arith, read.agrees.next, read.load, finmap.len-empty nat_cmp Stored)
+    load-is : load_of j ≡ r.rows.load
+    load-is = omega (arith, read.load, begun.load d s b)
 
-  fates_are : e.fates ≡ first_fates
-  fates_are = built.is.fates
+    pub may : MayOpen d.stages (record { base = s; entries = es })
+    may = directory_may_open root d j b.rules b.directory b.base (read.can s d.stages (begun.agrees d s b)) (omega (arith, few, b.base.length)) (omega (arith, load-is, read.sound.rows.within))
 
-  free : AreFree (λ id. option_map before_all (finmap.get (current (journal_of es)).rows id)) (max (current (journal_of es)).next (load_of (journal_of es) + 1))
-  free id h = by (finmap.get (current (journal_of es)).rows id) refl
-    where
-      by : (o : Option Stored) → finmap.get (current (journal_of es)).rows id ≡ o → option_map before_all o ≡ None
-      by None is = refl
-      by (Some row) is = let given : id < (current (journal_of es)).next = ((IsState-current (journal_of es) IsState-empty read.can).rows.each id row is).given.1 in absurd (omega arith)
+    module _ (e : Held) (small : limit ≤ 2147483648) (built : Rebuilt r limit e) (image_pages : Directory → ℕ) (root_pages : ℕ) where
+      abbrev o : Opening
+      o = record { stages = d.stages; image_pages = image_pages; root_pages = root_pages }
 
-  below : (i : ℕ) (x : Slot) → slice_get r.slots.list.items i ≡ Some x → x.table < length (no_staged r.tables.items)
-  below i x is = omega (arith, fits-below r.tables.items x.table x.row.values (read.sound.slots.fits i x is), length-map r.tables.items (λ (t : Table). no_rows t.columns))
+      plain : IsPlain (opened_store o j limit)
+      plain = IsPlain-opened o j limit may small
 
-  -- the row of each id, as the plain store has it
-  abbrev held : ℕ → Option Stamped
-  held id = option_map before_all (finmap.get (current (journal_of es)).rows id)
+      next-is : max r.rows.next (r.rows.load + 1) ≡ max (current j).next (load_of j + 1)
+      next-is = λ i. max (agrees.next i) (sym load-is i + 1)
 
-  rows : (image_pages : Directory → ℕ) → AreRows e (opened_store (no_image image_pages) (journal_of es) limit)
-  rows image_pages = record {
-    held = λ id. option_map before_all (finmap.get (current (journal_of es)).rows id);
-    places = subst (λ staged. AreHeld (place_at staged) (IsGone e.fates no_sessions) (λ id. option_map before_all (finmap.get (current (journal_of es)).rows id))) (sym built.is.has_rows)
-        (AreHeld-sound r.tables.items r.slots.list.items (place_in r.slots.places) read.sound.slots (IsGone e.fates no_sessions) below (finmap.get (current (journal_of es)).rows) read.agrees.rows.row);
-    dropped = record { each = λ n g i place at flag. nothing_kept (stages_at (opened_store (no_image image_pages) (journal_of es) limit).stages n) g i ((plain image_pages).merges n).keep flag };
-    free = subst (AreFree (λ id. option_map before_all (finmap.get (current (journal_of es)).rows id))) (sym (built.is.has_next ∙ next_is)) free;
-    exact = subst (λ fs. IsExact fs (λ id. option_map before_all (finmap.get (current (journal_of es)).rows id)) (journal_of es) (journal_len (journal_of es))) (sym fates_are) (exact (journal_of es));
-    transactions = subst (λ fs. AreOpen fs (λ id. option_map before_all (finmap.get (current (journal_of es)).rows id)) no_sessions (number_at e.seats) (journal_of es) (journal_len (journal_of es))) (sym fates_are)
-        (open_first (λ id. option_map before_all (finmap.get (current (journal_of es)).rows id)) (number_at e.seats) (journal_of es) (journal_len (journal_of es)));
-    dead = ap (λ fs. fate_at fs dead_number) fates_are;
-    started = subst (λ fs. dead_number < length fs) (sym fates_are) (omega arith);
-    stages = read.agrees.rows.staged ∙ sym (stages-are r.tables.items r.slots.list.items) ∙ sym (ap (map stages_of) built.is.has_rows);
-    columns = ap (map (λ s. s.columns)) built.is.has_rows ∙ columns-are r.tables.items r.slots.list.items ∙ sym (ap (map (λ (t : Table). t.columns)) built.is.has_tables);
-    merging = subst (λ o. AreMerging o (map (λ (s : Staged). s.merge) e.staged)) (sym built.is.no_merge)
-        (subst (λ staged. AreMerging None (map (λ (s : Staged). s.merge) staged)) (sym built.is.has_rows) (no-merges r.tables.items r.slots.list.items));
-  }
+      fates-are : e.fates ≡ first_fates
+      fates-are = built.is.fates
 
-  pub reopened : Reopened es limit e
-  reopened = record {
-    may = may;
-    stands = λ image_pages. record {
-      plain = plain image_pages;
-      counts = record {
-        tables = built.is.has_tables ∙ read.agrees.tables;
-        commits = built.is.has_commits ∙ read.agrees.commits;
-        merges = built.is.has_merges ∙ read.agrees.merges;
-        entries = omega (arith, built.is.has_entries, read.count);
-        next_id = built.is.has_next ∙ next_is;
-        rows_limit = built.is.has_limit;
-        pending = built.is.no_merge;
-      };
-      seats = seats-empty e.seats built.is.seats;
-      rows = rows image_pages;
-    };
-  }
+      staged-are : e.staged ≡ shown r.rows.stages.items
+      staged-are = built.is.has_rows
+
+      free : AreFree (λ id. option_map before_all (finmap.get (current j).rows id)) (max (current j).next (load_of j + 1))
+      free id above = by (finmap.get (current j).rows id) refl
+        where
+          by : (o : Option Stored) → finmap.get (current j).rows id ≡ o → option_map before_all (finmap.get (current j).rows id) ≡ None
+          by None is = ap (option_map before_all) is
+          by (Some row) is = let given : id < (current j).next = ((IsState-current j may.base may.journal).rows.each id row is).given.1 in absurd (omega (arith, given, above))
+
+      rows : AreRows e (opened_store o j limit)
+      rows = record {
+        held = λ id. option_map before_all (finmap.get (current j).rows id);
+        places = subst (λ staged. AreHeld (place_at staged) (IsGone e.fates no_sessions) (λ id. option_map before_all (finmap.get (current j).rows id))) (sym staged-are)
+            (held-sound r.tables.items (shown r.rows.stages.items) (position_in r.rows.positions) r.rows.load (current j).rows (replayed d.stages es) read.sound.rows agrees.rows (IsGone e.fates no_sessions));
+        dropped = record { each = λ n g i place at flag. nothing_kept (stages_at (replayed d.stages es) n) g i (plain.merges n).keep flag };
+        free = subst (AreFree (λ id. option_map before_all (finmap.get (current j).rows id))) (sym (built.is.has_next ∙ next-is)) free;
+        exact = subst (λ fs. IsExact fs (λ id. option_map before_all (finmap.get (current j).rows id)) j (journal_len j)) (sym fates-are) (exact j);
+        transactions = subst (λ fs. AreOpen fs (λ id. option_map before_all (finmap.get (current j).rows id)) no_sessions (number_at e.seats) j (journal_len j)) (sym fates-are)
+            (open_first (λ id. option_map before_all (finmap.get (current j).rows id)) (number_at e.seats) j (journal_len j));
+        dead = ap (λ fs. fate_at fs dead_number) fates-are;
+        started = subst (λ fs. dead_number < length fs) (sym fates-are) (omega arith);
+        stages = agrees.rows.stages_are ∙ sym (ap (map stages_of) staged-are);
+        columns = ap (map (λ s. s.columns)) staged-are ∙ read.sound.rows.columns ∙ sym (ap (map (λ (t : Table). t.columns)) built.is.has_tables);
+        merging = subst (λ o. AreMerging o (map (λ (s : Staged). s.merge) e.staged)) (sym built.is.no_merge)
+            (λ n merge is. merges-at r.tables.items (map (λ (s : Staged). s.merge) e.staged) n merge (ap (map (λ (s : Staged). s.merge)) staged-are ∙ read.sound.rows.merges) is);
+      }
+
+      pub stands : StandsFor e (opened_store o j limit)
+      stands = record {
+        plain = plain;
+        counts = record {
+          tables = built.is.has_tables ∙ agrees.tables;
+          commits = built.is.has_commits ∙ agrees.commits;
+          merges = built.is.has_merges ∙ agrees.merges;
+          entries = omega (arith, built.is.has_entries, read.count, begun.entries, b.base.length);
+          next_id = built.is.has_next ∙ next-is;
+          rows_limit = built.is.has_limit;
+          pending = built.is.no_merge;
+        };
+        seats = seats-empty e.seats built.is.seats;
+        rows = rows;
+      }
+
+  pub reopened : (e : Held) → root.length + length es ≤ 1073741824 → limit ≤ 2147483648 → Rebuilt r limit e → (d : Directory) (s : State) → BeginsWith root tables mains d s → Reopened s d.stages es limit e
+  reopened e few small built d s b = record { may = may d s b few; stands = λ image_pages root_pages. stands d s b few e small built image_pages root_pages }
+
+-- ---- entries that are no journal behind the image
+
+pub too-long : (root : Root) (tables : List Drawn) (mains : List MainValue) (es : List Entry) → 1073741824 < root.length + length es → (d : Directory) (s : State) → BeginsWith root tables mains d s → MayOpen d.stages (record { base = s; entries = es }) → ⊥
+too-long root tables mains es long d s b may = let short = may.short in absurd (omega (arith, long, short, b.base.length))
+
+pub unsuited : (root : Root) (tables : List Drawn) (mains : List MainValue) (es : List Entry) (first : Replay) → IsFirst root tables mains first → NoJournal first es → (d : Directory) (s : State) → BeginsWith root tables mains d s → MayOpen d.stages (record { base = s; entries = es }) → ⊥
+unsuited root tables mains es first begun strange d s b may = let load = may.load in strange.never s d.stages (begun.agrees d s b) may.journal (omega (arith, load, begun.load d s b))

@@ -1,179 +1,276 @@
 -- What a row more, and a row that is nobody's any more, make of the stages.
-use Rattle.std.proofs.Common.{ℕ, zero, suc, ◌<◌, ◌≡◌, ◌≢◌, inl, inr, Bool, true, false, cond, ◌&&◌, List, [], ◌∷◌, ◌++◌, length, map, Some, refl, sym, ap, ◌∙◌, subst, arith, slice_get, slice_set, length-set, nat_eq, eqb-true, eq-eqb}
+use Rattle.std.proofs.Common.{ℕ, zero, suc, ◌<◌, ◌≡◌, ◌≢◌, ◌⊎◌, inl, inr, Bool, true, false, cond, List, [], ◌∷◌, length, map, get_or, Option, None, Some, refl, sym, ap, ◌∙◌, arith, slice_get, slice_set, nat_eq, eq-eqb, true≢false}
+use Rattle.std.proofs.lemmas.Bool.{cases_eq, ne_eqb}
 use Rattle.std.proofs.lemmas.List.{map-append}
-use Rattle.std.proofs.lemmas.Bool.{cases_eq}
-use Rattle.std.specs.Option.{unwrap_or}
-use Rattle.ut_plain.specs.declared.table.Table.{Table}
-use Rattle.ut_plain.specs.declared.stage.TableStages.{TableStages}
+use Rattle.std.specs.Option.{option_map, option_and_then}
+use Rattle.ut_value.specs.declared.value.Row.{Row}
 use Rattle.ut_plain.specs.declared.stage.Placed.{Placed}
-use Rattle.ut_plain.specs.Stages.{Stages, no_stages, stages_at, with_stages, entered}
+use Rattle.ut_plain.specs.Stages.{with_stages, entered, placed}
 use Rattle.ut_plain.specs.Restart.{buried, with_dead}
-use Rattle.ut_plain.proofs.BoolLemmas.{and_right, and_both}
-use Rattle.ut_staged.proofs.ListLemmas.{get-set_same, get-set_other, set-again}
-use Rattle.ut_restart.specs.declared.slots.Slot.{Slot}
-use Rattle.ut_restart.specs.Slots.{placed_of, entered_at, stages_from, empty_stages}
+use Rattle.ut_stamps.specs.declared.place.Place.{Place}
+use Rattle.ut_stamps.specs.declared.place.Place.TheVariants.{L1, L2, Closed, Main}
+use Rattle.ut_exact.specs.Places.{StagedRow, is_dead, Pushed}
+use Rattle.ut_staged.specs.Staged.{Staged, row_at, row_in, placed_of, stages_of, entered_l1}
+use Rattle.ut_staged.specs.Tables.{place_at}
+use Rattle.ut_staged.proofs.ListLemmas.{none_some, get-within, get-set_other}
+use Rattle.ut_staged.proofs.TableLemmas.{here, set_here, set_other, stages-here, stages-set}
+use Rattle.ut_staged.proofs.StageLemmas.{pushed_l1}
+use Rattle.ut_staged.proofs.PermutedLemmas.{cases_place}
+use Rattle.ut_table.specs.Filled.{restamped, restamped_at}
+use Rattle.ut_restart.specs.Shown.{stamp_of}
+use Rattle.ut_restart.specs.Standing.{staged_at, live_row, entered_in, buried_in}
+use Rattle.ut_restart.specs.Rows.{Changed, position}
+
+pub get-at : (staged : List Staged) (n : ℕ) → n < length staged → slice_get staged n ≡ Some (staged_at staged n)
+get-at [] n h = absurd (omega arith)
+get-at (s ∷ staged) zero h = refl
+get-at (s ∷ staged) (suc n) h = get-at staged n (omega arith)
+
+-- a place that holds a row is one of a table
+pub place-within : (staged : List Staged) (n : ℕ) (p : Place) (row : StagedRow) → place_at staged n p ≡ Some row → n < length staged
+place-within staged n p row is = by (slice_get staged n) refl
+  where
+    by : (o : Option Staged) → slice_get staged n ≡ o → n < length staged
+    by None e = absurd (none_some row (sym (ap (λ o. option_and_then (λ (s : Staged). row_at s p) o) e) ∙ is))
+    by (Some s) e = get-within staged n s e
 
 -- ---- a row more
 
-pub stages_from-append : (stages : Stages) (xs ys : List Slot) → stages_from stages (xs ++ ys) ≡ stages_from (stages_from stages xs) ys
-stages_from-append stages [] ys = refl
-stages_from-append stages (x ∷ xs) ys = stages_from-append (entered_at stages x) xs ys
+changed-by_push : (old new : List Staged) (n : ℕ) (p : Place) (row : StagedRow) → Pushed (place_at old) (place_at new) n p row → Changed old new n p row
+changed-by_push old new n p row push = record { here = push.new; others = λ m q. by m q (place_at new m q) refl }
+  where
+    gone : (m : ℕ) (q : Place) → place_at new m q ≡ None → (o : Option StagedRow) → place_at old m q ≡ o → place_at new m q ≡ place_at old m q
+    gone m q none None e = none ∙ sym e
+    gone m q none (Some r) e = absurd (none_some r (sym none ∙ push.old m q r e))
 
--- ---- a table more
+    by : (m : ℕ) (q : Place) (o : Option StagedRow) → place_at new m q ≡ o → ((m ≡ n) × (q ≡ p)) ⊎ (place_at new m q ≡ place_at old m q)
+    by m q None e = inr (gone m q e (place_at old m q) refl)
+    by m q (Some r) e = elim (push.each m q r e) [ inl it ↦ inl (it.0, it.1) | inr was ↦ inr (e ∙ sym was) ]
 
-get-front : {X : Type 0} (xs ys : List X) (n : ℕ) → n < length xs → slice_get (xs ++ ys) n ≡ slice_get xs n
-get-front [] ys n h = absurd (omega arith)
-get-front (x ∷ xs) ys zero h = refl
-get-front (x ∷ xs) ys (suc n) h = get-front xs ys n (omega arith)
+module _ (staged : List Staged) (n : ℕ) (row : Row) (there : n < length staged) where
+  pushed : Pushed (place_at staged) (place_at (entered_in staged n row)) n (L1 (length (staged_at staged n).l1)) (live_row row)
+  pushed = pushed_l1 staged n (staged_at staged n) (live_row row) (get-at staged n there)
 
-set-front : {X : Type 0} (xs ys : List X) (n : ℕ) (x : X) → n < length xs → slice_set (xs ++ ys) n x ≡ slice_set xs n x ++ ys
-set-front [] ys n x h = absurd (omega arith)
-set-front (y ∷ xs) ys zero x h = refl
-set-front (y ∷ xs) ys (suc n) x h = ap (λ zs. y ∷ zs) (set-front xs ys n x (omega arith))
+  pub entered-changed : Changed staged (entered_in staged n row) n (L1 (length (staged_at staged n).l1)) (live_row row)
+  entered-changed = changed-by_push staged (entered_in staged n row) n (L1 (length (staged_at staged n).l1)) (live_row row) pushed
 
-pub stages_from-more : (stages more : Stages) (xs : List Slot) → ((i : ℕ) (x : Slot) → slice_get xs i ≡ Some x → x.table < length stages) → stages_from (stages ++ more) xs ≡ stages_from stages xs ++ more
-stages_from-more stages more [] h = refl
-stages_from-more stages more (x ∷ xs) h =
-    let here : x.table < length stages = h 0 x refl in
-    ap (λ s. stages_from s xs) (set-front stages more x.table _ here ∙ ap (λ o. slice_set stages x.table (entered false (placed_of x) (unwrap_or o no_stages)) ++ more) (get-front stages more x.table here))
-    ∙ stages_from-more (entered_at stages x) more xs (λ i y is. subst (λ n. y.table < n) (sym (length-set stages x.table (entered false (placed_of x) (stages_at stages x.table)))) (h (suc i) y is))
+  pub entered-free : place_at staged n (L1 (length (staged_at staged n).l1)) ≡ None
+  entered-free = pushed.was
 
-pub empty_stages-more : (tables : List Table) (t : Table) → empty_stages (tables ++ t ∷ []) ≡ empty_stages tables ++ no_stages ∷ []
-empty_stages-more [] t = refl
-empty_stages-more (u ∷ tables) t = ap (λ s. no_stages ∷ s) (empty_stages-more tables t)
+  pub entered-stages : map stages_of (entered_in staged n row) ≡ with_stages (entered false (placed row.id row.values)) n (map stages_of staged)
+  entered-stages =
+      stages-set staged n (entered_l1 (live_row row) (staged_at staged n))
+      ∙ ap (slice_set (map stages_of staged) n) (ap (λ (l : List Placed). record (stages_of (staged_at staged n)) { l1 = l }) (map-append placed_of (staged_at staged n).l1 (live_row row ∷ [])) ∙ ap (entered false (placed row.id row.values)) (sym (stages-here staged n (staged_at staged n) (get-at staged n there))))
 
 -- ---- a row that is nobody's any more
 
--- dead where it is the row of this table and id
-abbrev pub buried_at : ℕ → ℕ → Slot → Slot
-buried_at table id x = cond (nat_eq x.table table && nat_eq x.row.id id) (record x { dead = true }) x
+abbrev dead : StagedRow → StagedRow
+dead row = record row { stamp = stamp_of true }
 
-set-commutes : {X : Type 0} (xs : List X) (n m : ℕ) (x y : X) → m ≢ n → slice_set (slice_set xs n x) m y ≡ slice_set (slice_set xs m y) n x
-set-commutes [] n m x y h = refl
-set-commutes (z ∷ xs) zero zero x y h = absurd (h refl)
-set-commutes (z ∷ xs) zero (suc m) x y h = refl
-set-commutes (z ∷ xs) (suc n) zero x y h = refl
-set-commutes (z ∷ xs) (suc n) (suc m) x y h = ap (λ zs. z ∷ zs) (set-commutes xs n m x y (λ same. h (ap suc same)))
+get-same : (i : ℕ) (rows : List StagedRow) (row : StagedRow) → slice_get rows i ≡ Some row → slice_get (restamped_at (stamp_of true) i rows) i ≡ Some (dead row)
+get-same i [] row h = cc
+get-same zero (r ∷ rows) row h = ap (λ o. option_and_then (λ x. Some (dead x)) o) h
+get-same (suc i) (r ∷ rows) row h = get-same i rows row h
 
-at-same : (stages : Stages) (n : ℕ) (t : TableStages) → n < length stages → stages_at (slice_set stages n t) n ≡ t
-at-same stages n t h = ap (λ o. unwrap_or o no_stages) (get-set_same stages n t h)
+get-other : (i k : ℕ) (rows : List StagedRow) → k ≢ i → slice_get (restamped_at (stamp_of true) i rows) k ≡ slice_get rows k
+get-other i k [] h = refl
+get-other zero zero (r ∷ rows) h = absurd (h refl)
+get-other zero (suc k) (r ∷ rows) h = refl
+get-other (suc i) zero (r ∷ rows) h = refl
+get-other (suc i) (suc k) (r ∷ rows) h = get-other i k rows (λ same. h (ap suc same))
 
-at-other : (stages : Stages) (n m : ℕ) (t : TableStages) → m ≢ n → stages_at (slice_set stages n t) m ≡ stages_at stages m
-at-other stages n m t h = ap (λ o. unwrap_or o no_stages) (get-set_other stages n m t h)
+part-same : (i : ℕ) (parts : List (List StagedRow)) (p : ℕ) → slice_get (slice_set parts p (restamped_at (stamp_of true) i (get_or parts p []))) p ≡ option_map (restamped_at (stamp_of true) i) (slice_get parts p)
+part-same i [] p = refl
+part-same i (rows ∷ parts) zero = refl
+part-same i (rows ∷ parts) (suc p) = part-same i parts p
 
-buried-placed : (table id : ℕ) (x : Slot) → x.table ≡ table → buried id (placed_of x) ≡ placed_of (buried_at table id x)
-buried-placed table id x same = by (nat_eq x.row.id id) (nat_eq x.table table) (eq-eqb x.table table same)
-  where
-    by : (b c : Bool) → c ≡ true → cond b (record (placed_of x) { dead = true }) (placed_of x) ≡ placed_of (cond (c && b) (record x { dead = true }) x)
-    by true true e = refl
-    by false true e = refl
-    by b false e = cc
+in-same : (i : ℕ) (rows : Option (List StagedRow)) (row : StagedRow) → row_in rows i ≡ Some row → row_in (option_map (restamped_at (stamp_of true) i) rows) i ≡ Some (dead row)
+in-same i None row h = absurd (none_some row h)
+in-same i (Some rows) row h = get-same i rows row h
 
-dead-entered : (id : ℕ) (p : Placed) (t : TableStages) → with_dead id (entered false p t) ≡ entered false (buried id p) (with_dead id t)
-dead-entered id p t = ap (λ xs. record (with_dead id t) { l1 = xs }) (map-append (buried id) t.l1 (p ∷ []))
+in-other : (i k : ℕ) (rows : Option (List StagedRow)) → k ≢ i → row_in (option_map (restamped_at (stamp_of true) i) rows) k ≡ row_in rows k
+in-other i k None h = refl
+in-other i k (Some rows) h = get-other i k rows h
 
-table-kept : (table id : ℕ) (x : Slot) → (buried_at table id x).table ≡ x.table
-table-kept table id x = by (nat_eq x.table table && nat_eq x.row.id id)
-  where
-    by : (b : Bool) → (cond b (record x { dead = true }) x).table ≡ x.table
-    by true = refl
-    by false = refl
+row-same : (p : Place) (s : Staged) (row : StagedRow) → row_at s p ≡ Some row → row_at (restamped (stamp_of true) p s) p ≡ Some (dead row)
+row-same (L1 i) s row h = get-same i s.l1 row h
+row-same (L2 i) s row h = get-same i s.l2 row h
+row-same (Closed i) s row h = in-same i s.closed row h
+row-same (Main p i) s row h = ap (λ o. row_in o i) (part-same i s.parts p) ∙ in-same i (slice_get s.parts p) row h
 
-not-buried : (table id : ℕ) (x : Slot) → x.table ≢ table → buried_at table id x ≡ x
-not-buried table id x other = by (nat_eq x.table table) refl
-  where
-    by : (b : Bool) → nat_eq x.table table ≡ b → buried_at table id x ≡ x
-    by true e = absurd (other (eqb-true x.table table e))
-    by false e = ap (λ b. cond (b && nat_eq x.row.id id) (record x { dead = true }) x) e
-
--- in the table of the row that enters
-dead-here : (id : ℕ) (stages : Stages) (x : Slot) → x.table < length stages
-    → with_stages (with_dead id) x.table (entered_at stages x) ≡ entered_at (with_stages (with_dead id) x.table stages) (buried_at x.table id x)
-dead-here id stages x h =
-    ap (λ a. slice_set (entered_at stages x) t (with_dead id a)) (at-same stages t (entered false (placed_of x) s) h)
-    ∙ set-again stages t (entered false (placed_of x) s) (with_dead id (entered false (placed_of x) s))
-    ∙ ap (slice_set stages t) (dead-entered id (placed_of x) s ∙ ap (λ p. entered false p (with_dead id s)) (buried-placed t id x refl))
-    ∙ sym (ap (λ k. slice_set dead k (entered false (placed_of b) (stages_at dead k))) (table-kept t id x)
-    ∙ ap (λ a. slice_set dead t (entered false (placed_of b) a)) (at-same stages t (with_dead id s) h)
-    ∙ set-again stages t (with_dead id s) (entered false (placed_of b) (with_dead id s)))
-  where
-    t : ℕ
-    t = x.table
-
-    s : TableStages
-    s = stages_at stages x.table
-
-    dead : Stages
-    dead = slice_set stages x.table (with_dead id (stages_at stages x.table))
-
-    b : Slot
-    b = buried_at x.table id x
-
--- in another table
-dead-there : (table id : ℕ) (stages : Stages) (x : Slot) → table ≢ x.table
-    → with_stages (with_dead id) table (entered_at stages x) ≡ entered_at (with_stages (with_dead id) table stages) (buried_at table id x)
-dead-there table id stages x other =
-    ap (λ a. slice_set (entered_at stages x) table (with_dead id a)) (at-other stages x.table table (entered false (placed_of x) (stages_at stages x.table)) other)
-    ∙ set-commutes stages x.table table (entered false (placed_of x) (stages_at stages x.table)) (with_dead id (stages_at stages table)) other
-    ∙ ap (λ a. slice_set (with_stages (with_dead id) table stages) x.table (entered false (placed_of x) a)) (sym (at-other stages table x.table (with_dead id (stages_at stages table)) (λ same. other (sym same))))
-    ∙ ap (entered_at (with_stages (with_dead id) table stages)) (sym (not-buried table id x (λ same. other (sym same))))
-
-dead-entered_at : (table id : ℕ) (stages : Stages) (x : Slot) → x.table < length stages
-    → with_stages (with_dead id) table (entered_at stages x) ≡ entered_at (with_stages (with_dead id) table stages) (buried_at table id x)
-dead-entered_at table id stages x h = elim (cases_eq table x.table) [
-  | inl same ↦ subst (λ t. with_stages (with_dead id) t (entered_at stages x) ≡ entered_at (with_stages (with_dead id) t stages) (buried_at t id x)) (sym same) (dead-here id stages x h)
-  | inr other ↦ dead-there table id stages x other
+row-other : (p q : Place) (s : Staged) → q ≢ p → row_at (restamped (stamp_of true) p s) q ≡ row_at s q
+row-other (L1 i) (L1 k) s other = get-other i k s.l1 (λ same. other (ap L1 same))
+row-other (L1 i) (L2 k) s other = refl
+row-other (L1 i) (Closed k) s other = refl
+row-other (L1 i) (Main q k) s other = refl
+row-other (L2 i) (L1 k) s other = refl
+row-other (L2 i) (L2 k) s other = get-other i k s.l2 (λ same. other (ap L2 same))
+row-other (L2 i) (Closed k) s other = refl
+row-other (L2 i) (Main q k) s other = refl
+row-other (Closed i) (L1 k) s other = refl
+row-other (Closed i) (L2 k) s other = refl
+row-other (Closed i) (Closed k) s other = in-other i k s.closed (λ same. other (ap Closed same))
+row-other (Closed i) (Main q k) s other = refl
+row-other (Main p i) (L1 k) s other = refl
+row-other (Main p i) (L2 k) s other = refl
+row-other (Main p i) (Closed k) s other = refl
+row-other (Main p i) (Main q k) s other = elim (cases_eq q p) [
+  | inl same ↦ ap (λ x. row_in (slice_get (slice_set s.parts p (restamped_at (stamp_of true) i (get_or s.parts p []))) x) k) same ∙ ap (λ o. row_in o k) (part-same i s.parts p)
+      ∙ in-other i k (slice_get s.parts p) (λ e. other (λ x. Main (same x) (e x))) ∙ ap (λ x. row_in (slice_get s.parts x) k) (sym same)
+  | inr away ↦ ap (λ o. row_in o k) (get-set_other s.parts p q (restamped_at (stamp_of true) i (get_or s.parts p [])) away)
 ]
 
-pub dead-stages : (table id : ℕ) (stages : Stages) (xs : List Slot) → ((i : ℕ) (x : Slot) → slice_get xs i ≡ Some x → x.table < length stages)
-    → with_stages (with_dead id) table (stages_from stages xs) ≡ stages_from (with_stages (with_dead id) table stages) (map (buried_at table id) xs)
-dead-stages table id stages [] h = refl
-dead-stages table id stages (x ∷ xs) h =
-    dead-stages table id (entered_at stages x) xs (λ i y is. subst (λ n. y.table < n) (sym (length-set stages x.table (entered false (placed_of x) (stages_at stages x.table)))) (h (suc i) y is))
-    ∙ ap (λ s. stages_from s (map (buried_at table id) xs)) (dead-entered_at table id stages x (h 0 x refl))
+pub buried-changed : (staged : List Staged) (n : ℕ) (p : Place) (row : StagedRow) → place_at staged n p ≡ Some row → Changed staged (buried_in staged (position n p)) n p (record row { stamp = stamp_of true })
+buried-changed staged n p row is =
+    let there = place-within staged n p row is in
+    let at = get-at staged n there in
+    let s = staged_at staged n in
+    let new = restamped (stamp_of true) p s in
+    record {
+      here = set_here staged n new p there ∙ row-same p s row (sym (here staged n s p at) ∙ is);
+      others = λ m q. elim (cases_eq m n) [
+        | inl same ↦ elim (cases_place q p) [
+          | inl place ↦ inl (same, place)
+          | inr other ↦ inr (ap (λ k. place_at (slice_set staged n new) k q) same ∙ set_here staged n new q there ∙ row-other p q s other ∙ sym (here staged n s q at) ∙ ap (λ k. place_at staged k q) (sym same))
+        ]
+        | inr other ↦ inr (set_other staged n m new q other)
+      ];
+    }
 
-pub dead-empty : (id table : ℕ) (tables : List Table) → with_stages (with_dead id) table (empty_stages tables) ≡ empty_stages tables
-dead-empty id table [] = refl
-dead-empty id zero (t ∷ tables) = refl
-dead-empty id (suc table) (t ∷ tables) = ap (λ s. no_stages ∷ s) (dead-empty id table tables)
+-- ---- as the plain store has it: it marks each place of the id
 
--- ---- which rows are buried
-
-buried-kept : (table id : ℕ) (x : Slot) → (x.dead ≡ false → x.row.id ≢ id) → buried_at table id x ≡ x
-buried-kept table id x h = by (nat_eq x.table table && nat_eq x.row.id id) refl
+same-place : (id : ℕ) (row : StagedRow) → (is_dead row.stamp ≡ false → row.id ≢ id) → buried id (placed_of row) ≡ placed_of row
+same-place id row h = elim (cases_eq row.id id) [
+  | inl is ↦ ap (λ (b : Bool). cond b (record (placed_of row) { dead = true }) (placed_of row)) (eq-eqb row.id id is) ∙ ap (λ (b : Bool). record { id = row.id; values = row.values; dead = b }) (sym (is_dead_so (is_dead row.stamp) refl is))
+  | inr differs ↦ ap (λ (b : Bool). cond b (record (placed_of row) { dead = true }) (placed_of row)) (ne_eqb row.id id differs)
+]
   where
-    dead : (b : Bool) → x.dead ≡ b → x.row.id ≡ id → record x { dead = true } ≡ x
-    dead true e same = ap (λ b. record x { dead = b }) (sym e)
-    dead false e same = absurd (h e same)
+    is_dead_so : (b : Bool) → is_dead row.stamp ≡ b → row.id ≡ id → is_dead row.stamp ≡ true
+    is_dead_so true e is = e
+    is_dead_so false e is = absurd (h e is)
 
-    by : (b : Bool) → (nat_eq x.table table && nat_eq x.row.id id) ≡ b → cond b (record x { dead = true }) x ≡ x
-    by true e = dead x.dead refl (eqb-true x.row.id id (and_right (nat_eq x.table table) (nat_eq x.row.id id) e))
-    by false e = refl
+-- no place that is somebody's holds the id
+abbrev NoneLive : ℕ → List StagedRow → Type 0
+NoneLive id rows = (k : ℕ) (row : StagedRow) → slice_get rows k ≡ Some row → is_dead row.stamp ≡ false → row.id ≢ id
 
-buried-none : (table id : ℕ) (xs : List Slot) → ((i : ℕ) (x : Slot) → slice_get xs i ≡ Some x → x.dead ≡ false → x.row.id ≢ id) → map (buried_at table id) xs ≡ xs
-buried-none table id [] h = refl
-buried-none table id (x ∷ xs) h = (λ i. buried-kept table id x (h 0 x refl) i ∷ buried-none table id xs (λ k y is. h (suc k) y is) i)
+none-buried : (id : ℕ) (rows : List StagedRow) → NoneLive id rows → map placed_of rows ≡ map (buried id) (map placed_of rows)
+none-buried id [] none = refl
+none-buried id (row ∷ rows) none = λ i. sym (same-place id row (none 0 row refl)) i ∷ none-buried id rows (λ k r is. none (suc k) r is) i
 
--- the present row of the id alone
-pub buried-set : (table id : ℕ) (xs : List Slot) (i : ℕ) (x : Slot) → slice_get xs i ≡ Some x → x.table ≡ table → x.row.id ≡ id
-    → ((j : ℕ) (y : Slot) → slice_get xs j ≡ Some y → y.dead ≡ false → y.row.id ≡ id → j ≡ i) → map (buried_at table id) xs ≡ slice_set xs i (record x { dead = true })
-buried-set table id [] i x is of_table of_id one = cc
-buried-set table id (y ∷ xs) zero x is of_table of_id one =
-    (λ k. here k ∷ buried-none table id xs (λ j z at lives same. zero_suc j (sym (one (suc j) z at lives same))) k)
+dead-place : (id : ℕ) (row : StagedRow) → row.id ≡ id → placed_of (dead row) ≡ buried id (placed_of row)
+dead-place id row is = sym (ap (λ (b : Bool). cond b (record (placed_of row) { dead = true }) (placed_of row)) (eq-eqb row.id id is))
+
+one-buried : (id i : ℕ) (rows : List StagedRow) (row : StagedRow) → slice_get rows i ≡ Some row → row.id ≡ id → ((k : ℕ) (r : StagedRow) → slice_get rows k ≡ Some r → is_dead r.stamp ≡ false → r.id ≡ id → k ≡ i)
+    → map placed_of (restamped_at (stamp_of true) i rows) ≡ map (buried id) (map placed_of rows)
+one-buried id i [] row is of_id one = cc
+one-buried id zero (r ∷ rows) row is of_id one =
+    let same : r ≡ row = cc in
+    λ i. dead-place id r (ap (λ (x : StagedRow). x.id) same ∙ of_id) i ∷ none-buried id rows (λ k x at lives this. past k (one (suc k) x at lives this)) i
   where
-    zero_suc : (j : ℕ) → zero ≡ suc j → ⊥
-    zero_suc j e = omega arith
-
-    same_row : y ≡ x
-    same_row = cc
-
-    here : buried_at table id y ≡ record x { dead = true }
-    here = ap (buried_at table id) same_row ∙ ap (λ b. cond b (record x { dead = true }) x) (and_both (nat_eq x.table table) (nat_eq x.row.id id) (eq-eqb x.table table of_table) (eq-eqb x.row.id id of_id))
-buried-set table id (y ∷ xs) (suc i) x is of_table of_id one =
-    (λ k. buried-kept table id y (λ lives same. zero_suc (one 0 y refl lives same)) k ∷ buried-set table id xs i x is of_table of_id (λ j z at lives same. down j (one (suc j) z at lives same)) k)
+    past : (k : ℕ) → suc k ≡ zero → ⊥
+    past k e = omega arith
+one-buried id (suc i) (r ∷ rows) row is of_id one = λ j.
+    sym (same-place id r (λ lives this. past (one 0 r refl lives this))) j ∷ one-buried id i rows row is of_id (λ k x at lives this. down k (one (suc k) x at lives this)) j
   where
-    zero_suc : zero ≡ suc i → ⊥
-    zero_suc e = omega arith
+    past : zero ≡ suc i → ⊥
+    past e = omega arith
 
-    down : (j : ℕ) → suc j ≡ suc i → j ≡ i
-    down j e = omega arith
+    down : (k : ℕ) → suc k ≡ suc i → k ≡ i
+    down k e = omega arith
+
+none-parts : (id : ℕ) (parts : List (List StagedRow)) → ((g k : ℕ) (row : StagedRow) → row_in (slice_get parts g) k ≡ Some row → is_dead row.stamp ≡ false → row.id ≢ id) → map (map placed_of) parts ≡ map (map (buried id)) (map (map placed_of) parts)
+none-parts id [] none = refl
+none-parts id (rows ∷ parts) none = λ i. none-buried id rows (λ k r is. none 0 k r is) i ∷ none-parts id parts (λ g k r is. none (suc g) k r is) i
+
+one-part : (id p i : ℕ) (parts : List (List StagedRow)) (row : StagedRow) → row_in (slice_get parts p) i ≡ Some row → row.id ≡ id → ((g k : ℕ) (r : StagedRow) → row_in (slice_get parts g) k ≡ Some r → is_dead r.stamp ≡ false → r.id ≡ id → (g ≡ p) × (k ≡ i))
+    → map (map placed_of) (slice_set parts p (restamped_at (stamp_of true) i (get_or parts p []))) ≡ map (map (buried id)) (map (map placed_of) parts)
+one-part id p i [] row is of_id one = cc
+one-part id zero i (rows ∷ parts) row is of_id one = λ j.
+    one-buried id i rows row is of_id (λ k r at lives this. (one 0 k r at lives this).1) j
+    ∷ none-parts id parts (λ g k r at lives this. past g (one (suc g) k r at lives this).0) j
+  where
+    past : (g : ℕ) → suc g ≡ zero → ⊥
+    past g e = omega arith
+one-part id (suc p) i (rows ∷ parts) row is of_id one = λ j.
+    none-buried id rows (λ k r at lives this. past (one 0 k r at lives this).0) j
+    ∷ one-part id p i parts row is of_id (λ g k r at lives this. let o = one (suc g) k r at lives this in (down g o.0, o.1)) j
+  where
+    past : zero ≡ suc p → ⊥
+    past e = omega arith
+
+    down : (g : ℕ) → suc g ≡ suc p → g ≡ p
+    down g e = omega arith
+
+none-closed : (id : ℕ) (closed : Option (List StagedRow)) → ((k : ℕ) (row : StagedRow) → row_in closed k ≡ Some row → is_dead row.stamp ≡ false → row.id ≢ id) → option_map (map placed_of) closed ≡ option_map (map (buried id)) (option_map (map placed_of) closed)
+none-closed id None none = refl
+none-closed id (Some rows) none = ap Some (none-buried id rows (λ k r is. none k r is))
+
+one-closed : (id i : ℕ) (closed : Option (List StagedRow)) (row : StagedRow) → row_in closed i ≡ Some row → row.id ≡ id → ((k : ℕ) (r : StagedRow) → row_in closed k ≡ Some r → is_dead r.stamp ≡ false → r.id ≡ id → k ≡ i)
+    → option_map (map placed_of) (option_map (restamped_at (stamp_of true) i) closed) ≡ option_map (map (buried id)) (option_map (map placed_of) closed)
+one-closed id i None row is of_id one = cc
+one-closed id i (Some rows) row is of_id one = ap Some (one-buried id i rows row is of_id (λ k r at. one k r at))
+
+-- ---- places of other stages
+
+abbrev stage_number : Place → ℕ
+stage_number (L1 i) = 0
+stage_number (L2 i) = 1
+stage_number (Closed i) = 2
+stage_number (Main p i) = 3
+
+abbrev number_in : Place → ℕ
+number_in (L1 i) = i
+number_in (L2 i) = i
+number_in (Closed i) = i
+number_in (Main p i) = i
+
+abbrev part_in : Place → ℕ
+part_in (L1 i) = 0
+part_in (L2 i) = 0
+part_in (Closed i) = 0
+part_in (Main p i) = p
+
+differ : (p q : Place) → nat_eq (stage_number p) (stage_number q) ≡ false → p ≡ q → ⊥
+differ p q apart e = true≢false (sym (eq-eqb (stage_number p) (stage_number q) (ap stage_number e)) ∙ apart)
+
+-- the one place of a table that is somebody's and holds the id
+pub table-buried : (id : ℕ) (p : Place) (s : Staged) (row : StagedRow) → row_at s p ≡ Some row → row.id ≡ id → ((q : Place) (r : StagedRow) → row_at s q ≡ Some r → is_dead r.stamp ≡ false → r.id ≡ id → q ≡ p)
+    → stages_of (restamped (stamp_of true) p s) ≡ with_dead id (stages_of s)
+table-buried id (L1 i) s row is of_id one = λ j. record {
+  l1 = one-buried id i s.l1 row is of_id (λ k r at lives this. ap number_in (one (L1 k) r at lives this)) j;
+  l2 = none-buried id s.l2 (λ k r at lives this. differ (L2 k) (L1 i) refl (one (L2 k) r at lives this)) j;
+  closed = none-closed id s.closed (λ k r at lives this. differ (Closed k) (L1 i) refl (one (Closed k) r at lives this)) j;
+  parts = none-parts id s.parts (λ g k r at lives this. differ (Main g k) (L1 i) refl (one (Main g k) r at lives this)) j;
+  keep = s.keep;
+}
+table-buried id (L2 i) s row is of_id one = λ j. record {
+  l1 = none-buried id s.l1 (λ k r at lives this. differ (L1 k) (L2 i) refl (one (L1 k) r at lives this)) j;
+  l2 = one-buried id i s.l2 row is of_id (λ k r at lives this. ap number_in (one (L2 k) r at lives this)) j;
+  closed = none-closed id s.closed (λ k r at lives this. differ (Closed k) (L2 i) refl (one (Closed k) r at lives this)) j;
+  parts = none-parts id s.parts (λ g k r at lives this. differ (Main g k) (L2 i) refl (one (Main g k) r at lives this)) j;
+  keep = s.keep;
+}
+table-buried id (Closed i) s row is of_id one = λ j. record {
+  l1 = none-buried id s.l1 (λ k r at lives this. differ (L1 k) (Closed i) refl (one (L1 k) r at lives this)) j;
+  l2 = none-buried id s.l2 (λ k r at lives this. differ (L2 k) (Closed i) refl (one (L2 k) r at lives this)) j;
+  closed = one-closed id i s.closed row is of_id (λ k r at lives this. ap number_in (one (Closed k) r at lives this)) j;
+  parts = none-parts id s.parts (λ g k r at lives this. differ (Main g k) (Closed i) refl (one (Main g k) r at lives this)) j;
+  keep = s.keep;
+}
+table-buried id (Main p i) s row is of_id one = λ j. record {
+  l1 = none-buried id s.l1 (λ k r at lives this. differ (L1 k) (Main p i) refl (one (L1 k) r at lives this)) j;
+  l2 = none-buried id s.l2 (λ k r at lives this. differ (L2 k) (Main p i) refl (one (L2 k) r at lives this)) j;
+  closed = none-closed id s.closed (λ k r at lives this. differ (Closed k) (Main p i) refl (one (Closed k) r at lives this)) j;
+  parts = one-part id p i s.parts row is of_id (λ g k r at lives this. let e = one (Main g k) r at lives this in (ap part_in e, ap number_in e)) j;
+  keep = s.keep;
+}
+
+pub buried-stages : (staged : List Staged) (n id : ℕ) (p : Place) (row : StagedRow) → place_at staged n p ≡ Some row → row.id ≡ id → ((q : Place) (r : StagedRow) → place_at staged n q ≡ Some r → is_dead r.stamp ≡ false → r.id ≡ id → q ≡ p)
+    → map stages_of (buried_in staged (position n p)) ≡ with_stages (with_dead id) n (map stages_of staged)
+buried-stages staged n id p row is of_id one =
+    let there = place-within staged n p row is in
+    let at = get-at staged n there in
+    let s = staged_at staged n in
+    stages-set staged n (restamped (stamp_of true) p s)
+    ∙ ap (slice_set (map stages_of staged) n)
+    (table-buried id p s row (sym (here staged n s p at) ∙ is) of_id (λ q r is_at. one q r (here staged n s q at ∙ is_at)) ∙ ap (with_dead id) (sym (stages-here staged n s at)))

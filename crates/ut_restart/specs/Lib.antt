@@ -1,4 +1,7 @@
-pub mod Slots
+pub mod Began
+pub mod Shown
+pub mod Standing
+pub mod Rows
+pub mod Noted
 pub mod Applied
 pub mod Replayed
-pub mod Standing

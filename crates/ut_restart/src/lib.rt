@@ -1,11 +1,13 @@
-//! A store from the entries of its log.
+//! A store from the image of its page file and the entries of its log.
 #![tactic(auto)]
 
 mod error;
+mod filling;
+mod image;
+mod noting;
 mod replay;
 mod restart;
-mod slots;
-mod stages;
+mod rows;
 #[cfg(test)]
 mod tests;
 

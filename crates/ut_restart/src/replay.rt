@@ -1,5 +1,5 @@
 //! The entries of a log, each tested against the state before it.
-ghost use Rattle.std.specs.Prelude.{◌≡◌, ◌<◌, ◌≤◌, ◌^◌, [], OnOk, IfOk, IsErrOf, IsTrue, length};
+ghost use Rattle.std.specs.Prelude.{◌≡◌, ◌+◌, ◌<◌, ◌≤◌, ◌^◌, OnOk, IsErrOf, IsTrue, length};
 ghost use Rattle.std.specs.List.{AllByRecursion};
 ghost use Rattle.ut_value.specs.declared.entry.Entry.TheVariants as entries;
 ghost use Rattle.ut_value.specs.Spelling.{has_spelling};
@@ -9,59 +9,47 @@ ghost use Rattle.ut_restart.specs.Replayed.{IsReplay, Followed, Strange, Replaye
 ghost use Rattle.ut_value.specs.declared.entry.MergeKind.{MergeKind};
 
 use crate::RestartError;
-use crate::slots::Slots;
+use crate::rows::Rows;
 use std::alloc::Global;
-use std::collections::HashMap;
 use ut_plain::{Table, place_of};
-use ut_value::{Column, Entry, Name, Op, Seq};
+use ut_table::Table as Stages;
+use ut_value::{Column, Duplicate, Entry, Name, Op, Seq};
 
 /// A store may have so many tables.
 const TABLES_LIMIT: usize = 256;
 
-/// What the entries so far come to.
+/// What an image and the entries so far come to.
 #[derive(Drop)]
 pub(crate) struct Replay {
     pub tables: Vec<Table>,
-    pub slots: Slots,
+    pub rows: Rows,
     /// How many tables were made and transactions committed.
     pub commits: u32,
     pub merges: u32,
+    /// How many entries there were, those before the image included.
     pub entries: u32,
 }
 
-/// Reads entries from the first to the last.
-pub(crate) fn follow_all(alloc: Global, entries: Seq<Entry>) -> Result<Replay, RestartError>
-    requires spelled { AllByRecursion IsEntry entries }
-    requires few { length entries ≤ 2 ^ 30 }
-    ensures ok { IfOk result (Replayed entries) }
-    ensures damaged { IsErrOf result RestartError.Damaged → NoJournal entries }
-{
-    let mut replay = Replay::new(alloc);
-    for entry in entries.into_vec() {
-        replay.follow(entry)?;
-    }
-    Ok(replay)
-}
-
 impl Replay {
-    fn new(alloc: Global) -> Replay
-        ensures { Replayed [] result }
+    /// Reads entries from the first to the last.
+    pub(crate) fn follow_all(
+        &mut self,
+        alloc: Global,
+        entries: Seq<Entry>,
+    ) -> Result<(), RestartError>
+        requires sound { IsReplay self.old }
+        requires spelled { AllByRecursion IsEntry entries }
+        requires few { self.old.entries + length entries ≤ 2 ^ 30 }
+        ensures ok { OnOk result (Replayed self.old entries self.new) }
+        ensures damaged { IsErrOf result RestartError.Damaged → NoJournal self.old entries }
     {
-        let slots = Slots {
-            list: Vec::new(alloc),
-            places: HashMap::new(alloc),
-            next: 1,
-        };
-        Replay {
-            tables: Vec::new(alloc),
-            slots,
-            commits: 0,
-            merges: 0,
-            entries: 0,
+        for entry in entries.into_vec() {
+            self.follow(alloc, entry)?;
         }
+        Ok(())
     }
 
-    fn follow(&mut self, entry: Entry) -> Result<(), RestartError>
+    fn follow(&mut self, alloc: Global, entry: Entry) -> Result<(), RestartError>
         requires sound { IsReplay self.old }
         requires spelled { IsTrue (has_spelling entry) }
         requires few { self.old.entries < 2 ^ 30 }
@@ -69,14 +57,19 @@ impl Replay {
         ensures damaged { IsErrOf result RestartError.Damaged → Strange self.old entry }
     {
         match entry {
-            Entry::Create { name, columns } => self.create(name, columns),
+            Entry::Create { name, columns } => self.create(alloc, name, columns),
             Entry::Txn { ops } => self.commit(ops),
             Entry::Begun { n, table, kind: _ } => self.begin_merge(n, table),
             Entry::Ended { n } => self.end_merge(n),
         }
     }
 
-    fn create(&mut self, name: Name, columns: Seq<Column>) -> Result<(), RestartError>
+    fn create(
+        &mut self,
+        alloc: Global,
+        name: Name,
+        columns: Seq<Column>,
+    ) -> Result<(), RestartError>
         requires sound { IsReplay self.old }
         requires narrow { length columns ≤ 64 }
         requires few { self.old.entries < 2 ^ 30 }
@@ -86,8 +79,12 @@ impl Replay {
         if place_of(&self.tables, name.as_slice()).is_some() || self.tables.len() >= TABLES_LIMIT {
             return Err(RestartError::Damaged);
         }
+        let copy = columns.duplicate(alloc)?;
+        let stages = Stages::new(alloc, copy)?;
         self.tables.reserve(1)?;
+        self.rows.stages.reserve(1)?;
         self.tables.push_reserved(Table { name, columns });
+        self.rows.stages.push_reserved(stages);
         self.commits += 1;
         self.entries += 1;
         Ok(())
@@ -99,7 +96,7 @@ impl Replay {
         ensures ok { OnOk result (Followed self.old (entries.Txn ops) self.new) }
         ensures damaged { IsErrOf result RestartError.Damaged → Strange self.old (entries.Txn ops) }
     {
-        self.slots.apply(&self.tables, ops)?;
+        self.rows.apply(&self.tables, ops)?;
         self.commits += 1;
         self.entries += 1;
         Ok(())

@@ -1,58 +1,82 @@
-//! A store from the entries of its log.
-ghost use Rattle.std.specs.Prelude.{◌≡◌, ◌≤◌, ◌^◌, [], IfOk, IsErrOf};
+//! A store from the image of its page file and the entries of its log.
+ghost use Rattle.std.specs.Prelude.{◌≡◌, ◌+◌, ◌<◌, ◌≤◌, ◌^◌, false, IsTrue, IfOk, IsErrOf};
 ghost use Rattle.std.specs.List.{AllByRecursion};
+ghost use Rattle.ut_plain.specs.Capture.{Directory};
 ghost use Rattle.ut_plain.specs.Reached.{MayOpen};
+ghost use Rattle.ut_plain.specs.State.{State};
 ghost use Rattle.ut_redo.specs.Frames.{IsEntry};
-ghost use Rattle.ut_store.specs.Standing.{Reopened, journal_of};
+ghost use Rattle.ut_store.specs.Standing.{Reopened};
+ghost use Rattle.ut_restart.specs.Began.{BeginsWith};
 ghost use Rattle.ut_restart.specs.declared.error.RestartError.{RestartError};
 ghost use Rattle.ut_restart.specs.Replayed.{IsReplay};
 ghost use Rattle.ut_restart.specs.Standing.{Rebuilt};
 
 use crate::RestartError;
-use crate::replay::{Replay, follow_all};
-use crate::slots::Slots;
-use crate::stages::with_rows;
+use crate::image::first;
+use crate::replay::Replay;
+use crate::rows::Rows;
 use std::alloc::{AllocError, Global};
+use ut_image::Drawn;
+use ut_main::Main;
+use ut_pages::Root;
 use ut_store::Store;
 use ut_value::{Entry, Seq};
 
 /// A journal may have so many entries.
 const ENTRIES_LIMIT: usize = 1 << 30;
 
-/// The store of a log's entries. Each row stands in the first stage, in the order of its insert; a deleted one is nobody's.
-pub fn reopen(alloc: Global, entries: Seq<Entry>, rows_limit: u32) -> Result<Store, RestartError>
+/// The store of an image and the entries behind it. The parts of main are taken as they are, the rows of the deltas stay in theirs, and each row of the log stands in the first stage behind them; a deleted one is nobody's.
+pub fn reopen(
+    alloc: Global,
+    root: &Root,
+    tables: Seq<Drawn>,
+    mains: Seq<Main>,
+    entries: Seq<Entry>,
+    rows_limit: u32,
+) -> Result<Store, RestartError>
+    requires image { (d : Directory) × (s : State) × BeginsWith root.now tables mains d s }
     requires spelled { AllByRecursion IsEntry entries }
     requires limit { rows_limit ≤ 2 ^ 31 }
-    ensures ok { IfOk result (Reopened entries rows_limit) }
-    ensures damaged { IsErrOf result RestartError.Damaged → MayOpen [] (journal_of entries) → ⊥ }
+    // whichever directory and state it is that the store begins with
+    ensures ok { IfOk result (λ e. (d : Directory) (s : State) → BeginsWith root.now tables mains d s
+        → Reopened s d.stages entries rows_limit e) }
+    ensures damaged { IsErrOf result RestartError.Damaged → (d : Directory) (s : State) → BeginsWith root.now tables mains d s
+        → MayOpen d.stages (record { base = s; entries = entries }) → ⊥ }
 {
-    if entries.len() > ENTRIES_LIMIT {
+    if is_too_long(root, entries.len()) {
         return Err(RestartError::Damaged);
     }
-    let replay = follow_all(alloc, entries)?;
-    let store = rebuild(alloc, replay, rows_limit)?;
+    let mut replay = first(alloc, root, tables, mains)?;
+    replay.follow_all(alloc, entries)?;
+    let store = rebuilt(alloc, replay, rows_limit)?;
     Ok(store)
 }
 
-fn rebuild(alloc: Global, replay: Replay, rows_limit: u32) -> Result<Store, AllocError>
+fn is_too_long(root: &Root, entries: usize) -> bool
+    ensures long { IsTrue result → 1073741824 < root.now.length + entries }
+    ensures short { result ≡ false → root.now.length + entries ≤ 1073741824 }
+{
+    entries > ENTRIES_LIMIT || root.length as usize + entries > ENTRIES_LIMIT
+}
+
+fn rebuilt(alloc: Global, replay: Replay, rows_limit: u32) -> Result<Store, AllocError>
     requires { IsReplay replay }
     ensures { IfOk result (Rebuilt replay rows_limit) }
 {
     let Replay {
         tables,
-        slots,
+        rows,
         commits,
         merges,
         entries,
     } = replay;
-    let Slots {
-        list,
-        places: _,
+    let Rows {
+        stages,
+        positions: _,
         next,
-    } = slots;
-    let load = list.len() as u32;
+        load,
+    } = rows;
     let next_id = if next <= load { load + 1 } else { next };
-    let stages = with_rows(alloc, &tables, list)?;
     Store::restored(
         alloc, tables, stages, next_id, rows_limit, commits, merges, entries,
     )

@@ -6,6 +6,8 @@ ghost use Rattle.ut_redo.specs.Frames.{IsEntry};
 use crate::{RestartError, reopen};
 use std::alloc::{AllocError, Global};
 use ut_entry::entry_from;
+use ut_pages::Root;
+use ut_store::Store;
 use ut_value::{Entry, Seq};
 
 /// The table T with a column k of numbers.
@@ -39,13 +41,39 @@ fn entries_of(alloc: Global, log: &[&[u8]]) -> Result<Seq<Entry>, AllocError>
     Ok(Seq::from_vec(entries))
 }
 
+/// The root of a store without an image.
+const NO_IMAGE: Root = Root {
+    version: 2,
+    length: 0,
+    commits: 0,
+    merges: 0,
+    next: 1,
+    offset: 0,
+    image_len: 0,
+    first_page: 0,
+    file: 0,
+};
+
+fn opened(alloc: Global, entries: Seq<Entry>) -> Result<Store, RestartError>
+    requires { AllByRecursion IsEntry entries }
+{
+    reopen(
+        alloc,
+        &NO_IMAGE,
+        Seq::new(alloc),
+        Seq::new(alloc),
+        entries,
+        100,
+    )
+}
+
 #[test]
 fn a_log_is_a_store(rt: HostRuntime) -> Result<(), RestartError> {
     let alloc = rt.alloc();
     let log = [CREATE, INSERT, BEGUN, DELETE, ENDED, INSERT, BEGUN_SECOND];
     let entries = entries_of(alloc, &log)?;
     assert_eq!(rt; entries.len(), 7);
-    let store = reopen(alloc, entries, 100)?;
+    let store = opened(alloc, entries)?;
     assert_eq!(rt; store.entries(), 7);
     assert_eq!(rt; store.commits(), 4);
     assert_eq!(rt; store.merges(), 2);
@@ -58,7 +86,7 @@ fn a_log_is_a_store(rt: HostRuntime) -> Result<(), RestartError> {
 
 fn is_damaged(alloc: Global, log: &[&[u8]]) -> Result<bool, AllocError> {
     let entries = entries_of(alloc, log)?;
-    match reopen(alloc, entries, 100) {
+    match opened(alloc, entries) {
         Err(RestartError::Damaged) => Ok(true),
         Err(RestartError::Memory) => Err(AllocError),
         Ok(_) => Ok(false),
