@@ -1,45 +1,66 @@
 -- What the files of a store hold while it is made, and when it is opened.
-use Rattle.std.proofs.Common.{◌≡◌, ◌≢◌, ◌⊎◌, inl, inr, ⊎_elim, ℕ, ◌+◌, ◌*◌, ◌≤◌, false, List, [], length, refl, sym, ◌∙◌, ap, subst, arith, IsTrue}
-use Rattle.std.specs.Prelude.{⊤, ◌↔◌, Bool, true}
+use Rattle.std.proofs.Common.{◌≡◌, ◌≢◌, ◌⊎◌, inl, inr, ⊎_elim, ℕ, ◌+◌, ◌*◌, ◌≤◌, Bool, true, false, List, [], length, None, refl, sym, ◌∙◌, ap, subst, arith, IsTrue}
+use Rattle.std.specs.Prelude.{⊤, ◌↔◌, Contains}
 use Rattle.ut_outside.specs.declared.disk.Which.{Which}
 use Rattle.ut_outside.specs.declared.disk.Which.TheVariants.{Redo, Pages}
-use Rattle.ut_outside.specs.Disk.{Image, View, IsTold, Others, content}
+use Rattle.ut_outside.specs.Disk.{Image, View, IsTold, content}
 use Rattle.ut_outside.specs.Run.{Always, LeavesOnly, ComesFrom, ReadsOnly}
 use Rattle.ut_outside.proofs.RunLemmas.{joined, weaker}
 use Rattle.ut_outside.proofs.DiskLemmas.{same_image}
-use Rattle.ut_pages.specs.Layout.{IsMade, made_pages}
+use Rattle.ut_pages.specs.Layout.{IsMade, made_pages, empty_root}
+use Rattle.ut_pages.specs.declared.root.Root.{Root}
+use Rattle.ut_pages.specs.declared.slot.Slot.{Slot}
 use Rattle.ut_redo.specs.Frames.{Holds}
-use Rattle.ut_redo.specs.Appends.{Place, HasClosedGate}
+use Rattle.ut_redo.specs.Appends.{Place}
 use Rattle.ut_redo.specs.Logs.{IsLogFile, LogHolds}
-use Rattle.ut_redo.specs.Logs.LogHolds.{Straight}
 use Rattle.ut_redo.specs.declared.error.RedoError.{RedoError}
 use Rattle.ut_redo.specs.declared.error.RedoError.TheVariants as redo_errors
-use Rattle.ut_redo.proofs.LogLemmas.{one_reading, closed_at_log_end}
+use Rattle.ut_redo.proofs.LogLemmas.{one_reading}
+use Rattle.ut_pages.specs.declared.chain.PageError.{PageError}
+use Rattle.ut_pages.specs.declared.chain.PageError.TheVariants as page_errors
 use Rattle.ut_restart.specs.declared.error.RestartError.{RestartError}
 use Rattle.ut_restart.specs.declared.error.RestartError.TheVariants as restart_errors
+use Rattle.ut_restart.specs.Began.{BeginsWith}
 use Rattle.ut_value.specs.declared.entry.Entry.{Entry}
-use Rattle.ut_plain.specs.State.{State}
-use Rattle.ut_plain.specs.Plain.{new_store, no_savepoint}
+use Rattle.ut_plain.specs.declared.stage.Placed.{Placed}
+use Rattle.ut_plain.specs.State.{State, empty_state}
+use Rattle.ut_plain.specs.Capture.{Directory, StandsAnywhere}
+use Rattle.ut_plain.specs.Stages.{no_stages}
+use Rattle.ut_plain.specs.Plain.{Idle, no_image, new_store, opened_store}
 use Rattle.ut_plain.specs.Reached.{MayOpen}
+use Rattle.ut_store.specs.Held.{Held}
 use Rattle.ut_store.specs.Stands.{StandsFor}
-use Rattle.ut_store.specs.Standing.{journal_of, Reopened}
-use Rattle.ut_plain.specs.Journal.{Journal, empty_journal}
-use Rattle.ut_engine.specs.Files.{log_start, IsReading, HoldsJournal}
-use Rattle.ut_engine.specs.Runs.{Runs, IsNew, Opens, NotMadeOrEmpty}
+use Rattle.ut_store.specs.Standing.{Reopened}
+use Rattle.ut_plain.specs.Journal.{Journal, empty_journal, after_all, can_all}
+use Rattle.ut_durable.specs.Bytes.{image_pages, no_directory}
+use Rattle.ut_durable.specs.Calls.{Held as Files}
+use Rattle.ut_durable.specs.Directories.{IsBase}
+use Rattle.ut_durable.specs.Images.{HasImage}
+use Rattle.ut_durable.specs.Journals.{log_file, place_of, HoldsJournal}
+use Rattle.ut_durable.specs.Made.{made_held}
+use Rattle.ut_durable.specs.Rules.{IsDirectory}
+use Rattle.ut_durable.specs.Saving.{IsStored}
+use Rattle.ut_durable.proofs.OpenLemmas.{made_is_stored, opened_is_stored, reading_image}
+use Rattle.ut_durable.proofs.RestLemmas.{rests_holds}
+use Rattle.ut_reading.specs.declared.image.Image.{Image as ReadImage}
+use Rattle.ut_reading.specs.Reading.{IsImageIn, Begins}
+use Rattle.ut_reading.proofs.RuleLemmas.{in_keys}
+use Rattle.ut_reading.proofs.StoreLemmas.{one_image_each, image_is_base, directory_base}
+use Rattle.ut_nextid.specs.NextIds.{Noted, Keeps, nobody}
 use Rattle.ut_engine.specs.Logged.{Logged}
-use Rattle.ut_engine.specs.Opening.{of_redo, of_restart}
+use Rattle.ut_engine.specs.Opening.{of_redo, of_page, of_restart}
+use Rattle.ut_engine.specs.Runs.{Runs, IsNew, Opens, opening_of, NotMadeOrEmpty}
 use Rattle.ut_engine.specs.declared.error.OpenError.TheVariants as opening
 use Rattle.ut_engine.proofs.JournalLemmas.{may_open_new}
+use Rattle.ut_engine.proofs.NotedLemmas.{opened_noted}
+use Rattle.ut_engine.proofs.PlacedLemmas.{opened_rows}
+use Rattle.ut_engine.proofs.StoredLemmas.{two}
 
 pages_differ : Pages ≢ Redo
 pages_differ e = cc
 
 redo_differs : Redo ≢ Pages
 redo_differs e = cc
-
-made_is : IsMade made_pages
-unfolding made_pages
-made_is = record { long = omega arith; byte = refl }
 
 -- ---- while a store is made
 
@@ -62,8 +83,22 @@ unmade_redo v0 v1 v2 none reads run =
 abbrev pub EmptyLog : View → View → Type 0
 EmptyLog v1 v2 = Always v2 (ComesFrom v1 Redo (λ _ c. Holds 0 [] 0 c))
 
-pub empty_reading : (d c : Image) → Holds 0 [] 0 d.redo → Others Pages d c → c.pages ≡ made_pages → IsReading empty_journal log_start c
-empty_reading d c holds others is = record { made = subst IsMade (sym is) made_is; base = refl; log = Straight refl (subst (Holds 0 [] 0) (sym (others Redo redo_differs)) holds); may = may_open_new }
+-- a disk that leaves this alone
+abbrev settled_at : Image → View
+settled_at c = record { told = true; seen = c; crash_states = λ d. d ≡ c; moment = 0; crash_states_since = λ t d. d ≡ c; faults = 0 }
+
+-- files of which each outcome is that of a store without entries
+made_stored : (v : View) → (IsTold v → Always v (λ c. (c.pages ≡ made_pages) × Holds 0 [] 0 c.redo)) → IsStored empty_journal made_held empty_root no_directory None Idle v
+made_stored v left = made_is_stored (two v v) made_held false refl may_open_new left
+
+empty_holds : (c : Image) → c.pages ≡ made_pages → Holds 0 [] 0 c.redo → HoldsJournal empty_journal c
+empty_holds c pages log =
+    let stored = made_stored (settled_at c) (λ told d is. (ap (λ (i : Image). i.pages) is ∙ pages, subst (λ (i : Image). Holds 0 [] 0 i.redo) (sym is) log)) in
+    rests_holds empty_journal made_held.slot made_held.reached empty_root no_directory made_held.log c stored.image (stored.rests refl c refl)
+
+-- the redo log is as it was
+still_empty : (v1 v2 : View) → EmptyLog v1 v2 → (c : Image) (Step : List ℕ → List ℕ → Type 0) → ComesFrom v2 Pages Step c → Holds 0 [] 0 c.redo
+still_empty v1 v2 empty c Step from = subst (Holds 0 [] 0) (sym (from.2 Redo redo_differs)) (empty from.0 from.1).3
 
 -- the page file is made
 pub unmade_pages : (v0 v1 v2 v3 : View) → NoneMade v0 → ReadsOnly v0 v1 → LeavesOnly v1 v2 (ComesFrom v1 Redo (λ _ _. ⊤)) → EmptyLog v1 v2 → (NoneMade v2 → LeavesOnly v2 v3 (ComesFrom v2 Pages (λ _ c. (IsMade c → ⊥) ⊎ (c ≡ made_pages)))) → LeavesOnly v0 v3 NotMadeOrEmpty
@@ -72,89 +107,192 @@ unmade_pages v0 v1 v2 v3 none reads log empty pages =
     (weaker v2 v3 (ComesFrom v2 Pages (λ _ c. (IsMade c → ⊥) ⊎ (c ≡ made_pages))) NotMadeOrEmpty each (pages (λ c left. still_unmade v0 v1 (λ _ c. Holds 0 [] 0 c) none reads c (empty c left))))
   where
     each : (c : Image) → ComesFrom v2 Pages (λ _ c. (IsMade c → ⊥) ⊎ (c ≡ made_pages)) c → NotMadeOrEmpty c
-    each c from = ⊎_elim (λ not. inl not) (λ is. inr (record { end = log_start; reading = empty_reading from.0 c (empty from.0 from.1).3 from.2 is })) from.3
+    each c from = ⊎_elim (λ not. inl not) (λ is. inr (empty_holds c is (still_empty v1 v2 empty c (λ _ c. (IsMade c → ⊥) ⊎ (c ≡ made_pages)) from))) from.3
 
 -- files that aren't made, as was asked
 pub unmade_by : (b : Bool) (v : View) → b ≡ false → (IsTold v → (IsTrue b ↔ IsMade v.seen.pages)) → IsTold v → IsMade v.seen.pages → ⊥
 unmade_by true v e asked told made = cc
 unmade_by false v e asked told made = let t : IsTrue false = (asked told).1 made in cc
 
--- a store that was made runs
-pub new_runs : (v1 v2 v3 : View) (e : Logged) (rows : ℕ) → e.down ≡ false → StandsFor e.store (new_store no_savepoint rows) → e.log ≡ log_start → v2.told ≡ v1.told → v3.told ≡ v2.told → (IsTold v1 → EmptyLog v1 v2) → (IsTold v2 → Always v3 (ComesFrom v2 Pages (λ _ c. c ≡ made_pages)))
-    → Runs e v3 (new_store no_savepoint rows)
-new_runs v1 v2 v3 e rows up stands is told12 told23 empty pages =
-    record {
-      up = up;
-      stands = stands;
-      base = refl;
-      held = λ told c left. subst (λ (l : Place). IsReading empty_journal l c) (sym is) (reads told c left);
-      file = subst (λ (l : Place). IsLogFile l.file) (sym is) redo_differs;
-      gate = subst (λ (l : Place). HasClosedGate l v3) (sym is) (λ told c left. closed_at_log_end log_start [] log_start c (reads told c left).log);
-      short = omega (arith, ap (λ (l : Place). l.end) is);
-    }
-  where
-    reads : IsTold v3 → (c : Image) → v3.crash_states c → IsReading empty_journal log_start c
-    reads told c left =
-        let told2 : IsTold v2 = subst IsTrue told23 told in
-        let told1 : IsTold v1 = subst IsTrue told12 told2 in
-        let from = pages told2 c left in
-        empty_reading from.0 c (empty told1 from.0 from.1).3 from.2 from.3
+-- nothing stands in a store without tables
+no_element : {X : Type 0} (x : X) → Contains [] x → ⊥
+no_element x (i, lt, is) = absurd (omega (arith, lt))
 
-pub is_new : (v0 v1 v2 v3 : View) (e : Logged) (rows : ℕ) → ReadsOnly v0 v1 → (IsTold v0 → IsMade v0.seen.pages → ⊥) → e.down ≡ false → StandsFor e.store (new_store no_savepoint rows) → e.log ≡ log_start → v2.told ≡ v1.told → v3.told ≡ v2.told → (IsTold v1 → EmptyLog v1 v2)
-    → (IsTold v2 → Always v3 (ComesFrom v2 Pages (λ _ c. c ≡ made_pages))) → IsNew e rows v0 v3
-is_new v0 v1 v2 v3 e rows read unmade up stands is told12 told23 empty pages = record {
-  runs = new_runs v1 v2 v3 e rows up stands is told12 told23 empty pages;
-  unmade = unmade;
-  pages = λ told c left. (pages (subst IsTrue (sym told12) (subst IsTrue (sym read.told) told)) c left).3;
-}
+nowhere : (p : Placed) → StandsAnywhere no_stages p → ⊥
+nowhere p (inl l1) = no_element p l1
+nowhere p (inr (inl l2)) = no_element p l2
+nowhere p (inr (inr (inl closed))) = no_element p closed
+nowhere p (inr (inr (inr (part, in_parts, in_part)))) = no_element part in_parts
+
+-- what is noted of the next id behind these entries
+abbrev pub NotedBehind : ℕ → List Entry → Noted → Type 0
+NotedBehind first entries next = (s : State) → s.next ≡ first → IsTrue (can_all s entries) → next ≡ nobody (after_all s entries).next
+
+-- a store that was made
+abbrev pub made_logged : Held → Noted → Logged
+made_logged store next = record { store = store; files = made_held; begins = Redo; saving = None; next = next; down = false }
+
+new_runs : (v1 v2 v3 : View) (store : Held) (next : Noted) (rows : ℕ) → NotedBehind 1 [] next → StandsFor store (new_store (no_image image_pages) rows) → v2.told ≡ v1.told → v3.told ≡ v2.told → (IsTold v1 → EmptyLog v1 v2) → (IsTold v2 → Always v3 (ComesFrom v2 Pages (λ _ c. c ≡ made_pages)))
+    → Runs (made_logged store next) v3 (new_store (no_image image_pages) rows)
+new_runs v1 v2 v3 store next rows noted stands told12 told23 empty pages =
+    record {
+      up = refl;
+      stands = stands;
+      root = empty_root;
+      directory = no_directory;
+      stored = made_stored v3 (λ told c left.
+          let told2 : IsTold v2 = subst IsTrue told23 told in
+          let told1 : IsTold v1 = subst IsTrue told12 told2 in
+          let from = pages told2 c left in
+          (from.3, still_empty v1 v2 (empty told1) c (λ _ c. c ≡ made_pages) from));
+      begins = refl;
+      even = tt;
+      log = redo_differs;
+      short = omega arith;
+      measure = refl;
+      reached = refl;
+      rows = λ n p at. absurd (nowhere p at);
+      next = subst (λ (n : Noted). Keeps n (new_store (no_image image_pages) rows)) (sym (noted empty_state refl refl)) (opened_noted (no_image image_pages) empty_journal rows);
+    }
+
+pub is_new : (v0 v1 v2 v3 : View) (store : Held) (files : Files) (next : Noted) (rows : ℕ) → NotedBehind 1 [] next → ReadsOnly v0 v1 → (IsTold v0 → IsMade v0.seen.pages → ⊥) → StandsFor store (new_store (no_image image_pages) rows) → files ≡ made_held → v2.told ≡ v1.told → v3.told ≡ v2.told → (IsTold v1 → EmptyLog v1 v2)
+    → (IsTold v2 → Always v3 (ComesFrom v2 Pages (λ _ c. c ≡ made_pages))) → IsNew (record { store = store; files = files; begins = Redo; saving = None; next = next; down = false }) rows v0 v3
+is_new v0 v1 v2 v3 store files next rows noted read unmade stands is told12 told23 empty pages =
+    subst (λ (f : Files). IsNew (record { store = store; files = f; begins = Redo; saving = None; next = next; down = false }) rows v0 v3) (sym is)
+    (record {
+      runs = new_runs v1 v2 v3 store next rows noted stands told12 told23 empty pages;
+      unmade = unmade;
+      pages = λ told c left. (pages (subst IsTrue (sym told12) (subst IsTrue (sym read.told) told)) c left).3;
+    })
 
 -- ---- a store that is opened
 
+-- an image in memory is that of one state
+pub began : (image : ReadImage) (d : Directory) → Begins image.root image.tables image.mains d → (s : State) × BeginsWith image.root image.tables image.mains d s
+began image d begins = let base = directory_base image.root d begins.directory in (base.0, record { rules = begins.rules; shown = begins.shown; directory = begins.directory; base = base.1 })
+
+-- an image's directory keeps the rules
+directory_rules : (slot : Slot) (reached : List ℕ) (root : Root) (d : Directory) (file : List ℕ) → HasImage slot reached root d file → IsDirectory root.next root.commits d
+directory_rules slot reached root d file has = (in_keys reached root d file has.image).rules
+
 -- the files were settled, and were read without a change
-pub record IsRead (v0 v1 v2 v3 : View) : Type 0 where
-  pub first : ReadsOnly v0 v1
-  pub second : ReadsOnly v1 v2
-  pub third : ReadsOnly v2 v3
+pub record IsRead (v0 v1 v2 v3 v4 : View) : Type 0 where
+  pub settle : ReadsOnly v0 v1
+  pub made : ReadsOnly v1 v2
+  pub image : ReadsOnly v2 v3
+  pub log : ReadsOnly v3 v4
   pub settled : IsTold v0 → Always v1 (λ c. (file : Which) → content file c ≡ content file v0.seen)
 
-same_seen : (v0 v1 v2 v3 : View) → IsRead v0 v1 v2 v3 → IsTold v0 → (c : Image) → v3.crash_states c → c ≡ v0.seen
-same_seen v0 v1 v2 v3 r told c left = same_image c v0.seen (r.settled told c (r.second.no_more c (r.third.no_more c left)))
+module _ (v0 v1 v2 v3 v4 : View) (r : IsRead v0 v1 v2 v3 v4) where
+  pub told_1 : IsTold v0 → IsTold v1
+  told_1 told = subst IsTrue (sym r.settle.told) told
 
--- what the files say
-pub said : (v0 v1 v2 : View) (entries : List Entry) (end : Place) → v1.seen ≡ v0.seen → v2.seen ≡ v1.seen → IsMade v1.seen.pages → LogHolds log_start entries end v2.seen → MayOpen [] (journal_of entries) → IsReading (journal_of entries) end v0.seen
-said v0 v1 v2 entries end same same' made holds may = record {
-  made = subst (λ (i : Image). IsMade i.pages) same made;
-  base = refl;
-  log = subst (LogHolds log_start entries end) (same' ∙ same) holds;
-  may = may;
-}
+  pub told_2 : IsTold v0 → IsTold v2
+  told_2 told = subst IsTrue (sym r.made.told) (told_1 told)
 
-pub opened : (v0 v1 v2 v3 : View) (e : Logged) (entries : List Entry) (rows : ℕ) → IsRead v0 v1 v2 v3 → e.down ≡ false → Reopened entries rows e.store → IsLogFile e.log.file → e.log.end ≤ 0 + length entries * 1073741829 → (IsTold v1 → IsMade v1.seen.pages) → (IsTold v2 → LogHolds log_start entries e.log v2.seen)
-    → Opens e rows v0 v3
-opened v0 v1 v2 v3 e entries rows r up reopened file short made holds = record {
-  journal = journal_of entries;
-  runs = record {
-    up = up;
-    stands = reopened.stands no_savepoint.image_pages;
-    base = refl;
-    held = reads;
-    file = file;
-    gate = λ told c left. closed_at_log_end log_start entries e.log c (reads told c left).log;
-    short = omega (arith, short);
-  };
-  said = λ told. record { end = e.log; reading = all told };
-}
-  where
-    all : IsTold v0 → IsReading (journal_of entries) e.log v0.seen
-    all told =
-        let told1 : IsTold v1 = subst IsTrue (sym r.first.told) told in
-        let told2 : IsTold v2 = subst IsTrue (sym r.second.told) told1 in
-        said v0 v1 v2 entries e.log r.first.seen r.second.seen (made told1) (holds told2) reopened.may
+  pub told_3 : IsTold v0 → IsTold v3
+  told_3 told = subst IsTrue (sym r.image.told) (told_2 told)
 
-    reads : IsTold v3 → (c : Image) → v3.crash_states c → IsReading (journal_of entries) e.log c
-    reads told c left =
-        let told0 : IsTold v0 = subst IsTrue (r.third.told ∙ r.second.told ∙ r.first.told) told in
-        subst (λ (i : Image). IsReading (journal_of entries) e.log i) (sym (same_seen v0 v1 v2 v3 r told0 c left)) (all told0)
+  told_0 : IsTold v4 → IsTold v0
+  told_0 told = subst IsTrue (r.log.told ∙ r.image.told ∙ r.made.told ∙ r.settle.told) told
+
+  pub seen_2 : v2.seen ≡ v0.seen
+  seen_2 = r.made.seen ∙ r.settle.seen
+
+  pub seen_3 : v3.seen ≡ v0.seen
+  seen_3 = r.image.seen ∙ seen_2
+
+  same_seen : IsTold v4 → (c : Image) → v4.crash_states c → c ≡ v0.seen
+  same_seen told c left = same_image c v0.seen (r.settled (told_0 told) c (r.made.no_more c (r.image.no_more c (r.log.no_more c left))))
+
+  module _ (store : Held) (log : Place) (next : Noted) (image : ReadImage) (entries : List Entry) (rows : ℕ) where
+    abbrev files : Files
+    files = record { log = log; slot = image.pages.slot; reached = image.pages.reached }
+
+    abbrev opened_logged : Logged
+    opened_logged = record { store = store; files = files; begins = log_file image.root.file; saving = None; next = next; down = false }
+
+    abbrev journal : State → Journal
+    journal s = record { base = s; entries = entries }
+
+    module _ (reopened : (d : Directory) (s : State) → BeginsWith image.root image.tables image.mains d s → Reopened s d.stages entries rows store) (file : IsLogFile log.file) (small : log.end ≤ image.root.offset + length entries * 1073741829) (noted : NotedBehind image.root.next entries next) where
+      opened_runs : (d : Directory) (s : State) → BeginsWith image.root image.tables image.mains d s → IsStored (journal s) files image.root d None Idle v4
+          → Runs opened_logged v4 (opened_store (opening_of d (length image.pages.reached)) (journal s) rows)
+      opened_runs d s begins stored =
+          let again = reopened d s begins in
+          record {
+            up = refl;
+            stands = again.stands image_pages (length image.pages.reached);
+            root = image.root;
+            directory = d;
+            stored = stored;
+            begins = refl;
+            even = tt;
+            log = file;
+            short =
+                let offset = begins.rules.allowed.offset in
+                let long = begins.base.length in
+                omega (arith, small, offset, long);
+            measure = refl;
+            reached = refl;
+            rows = opened_rows d image.root.next image.root.commits (journal s) (length image.pages.reached) rows begins.directory begins.base.tables again.may;
+            next =
+                subst (λ (n : Noted). Keeps n (opened_store (opening_of d (length image.pages.reached)) (journal s) rows)) (sym (noted s begins.base.next again.may.journal))
+                (opened_noted (opening_of d (length image.pages.reached)) (journal s) rows);
+          }
+
+      module _ (made : IsTold v1 → IsMade v1.seen.pages) (found : IsTold v2 → (d : Directory) × IsImageIn image d v2.seen.pages) (held : IsTold v3 → LogHolds (place_of image.root) entries log v3.seen) where
+        -- what is read of a disk that tells what it holds
+        opens_told : IsTold v0 → Opens opened_logged rows v0 v4
+        opens_told told =
+            let d = (found (told_2 told)).0 in
+            let is = subst (λ (i : Image). IsImageIn image d i.pages) seen_2 (found (told_2 told)).1 in
+            let base = image_is_base image.pages.slot image.pages.reached image.root d v0.seen.pages is.has in
+            let begins : BeginsWith image.root image.tables image.mains d base.0 = record { rules = is.has.has.rules; shown = is.shown; directory = directory_rules image.pages.slot image.pages.reached image.root d v0.seen.pages is.has; base = base.1 } in
+            let again = reopened d base.0 begins in
+            let is_made = subst (λ (i : Image). IsMade i.pages) r.settle.seen (made (told_1 told)) in
+            let log_held = subst (LogHolds (place_of image.root) entries log) seen_3 (held (told_3 told)) in
+            let stored = opened_is_stored (two v4 v4) (journal base.0) d files image.root v0.seen false is_made is.selected is.there is.has base.1 log_held again.may same_seen in
+            record {
+              journal = journal base.0;
+              directory = d;
+              reached = image.pages.reached;
+              runs = opened_runs d base.0 begins stored;
+              said = λ _. record {
+                end = log;
+                reading = record {
+                  slot = image.pages.slot;
+                  reached = image.pages.reached;
+                  root = image.root;
+                  made = is_made;
+                  selected = is.selected;
+                  image = is.has;
+                  base = base.1;
+                  log = log_held;
+                  may = again.may;
+                };
+                pages = refl;
+              };
+            }
+
+        -- and of one that doesn't
+        opens_untold : (IsTold v0 → ⊥) → (d : Directory) (s : State) → BeginsWith image.root image.tables image.mains d s → Opens opened_logged rows v0 v4
+        opens_untold not d s begins =
+            let again = reopened d s begins in
+            record {
+              journal = journal s;
+              directory = d;
+              reached = image.pages.reached;
+              runs = opened_runs d s begins (record { image = reading_image (journal s) image.root d begins.base again.may begins.rules; rests = λ told c left. absurd (not (told_0 told)); under_way = tt });
+              said = λ told. absurd (not told);
+            }
+
+        pub opens : (d : Directory) (s : State) → BeginsWith image.root image.tables image.mains d s → Opens opened_logged rows v0 v4
+        opens d s begins = by v0.told refl
+          where
+            by : (b : Bool) → v0.told ≡ b → Opens opened_logged rows v0 v4
+            by true told = opens_told told
+            by false told = opens_untold (λ is. let no : false ≡ true = sym told ∙ is in cc) d s begins
 
 -- ---- files that are damaged
 
@@ -163,14 +301,30 @@ redo_damaged redo_errors.Damaged e = refl
 redo_damaged redo_errors.Disk e = cc
 redo_damaged redo_errors.Memory e = cc
 
+pub page_damaged : (error : PageError) → of_page error ≡ opening.Damaged → error ≡ page_errors.Damaged
+page_damaged page_errors.Damaged e = refl
+page_damaged page_errors.Disk e = cc
+page_damaged page_errors.Memory e = cc
+
 pub restart_damaged : (error : RestartError) → of_restart error ≡ opening.Damaged → error ≡ restart_errors.Damaged
 restart_damaged restart_errors.Damaged e = refl
 restart_damaged restart_errors.Memory e = cc
 
--- a log is read in one way, so entries that are no journal are all that it holds
-pub no_journal : (entries : List Entry) (end : Place) (c : Image) → LogHolds log_start entries end c → (MayOpen [] (journal_of entries) → ⊥) → (j : Journal) → HoldsJournal j c → ⊥
-no_journal entries end c holds none j is =
-    let reading = is.reading in
-    let one = one_reading log_start j.entries entries is.end end c reading.log holds in
-    let same : j ≡ journal_of entries = ap (λ (es : List Entry). record j { entries = es }) one.0 ∙ ap (λ (s : State). record { base = s; entries = entries }) reading.base in
-    none (subst (λ (k : Journal). MayOpen [] k) same reading.may)
+-- Files have one image, and are read in one way behind it: so a log that is none is that of no journal,
+pub no_log : (image : ReadImage) (c : Image) → (d : Directory) × IsImageIn image d c.pages → ((items : List Entry) (end : Place) → LogHolds (place_of image.root) items end c → ⊥) → (j : Journal) → HoldsJournal j c → ⊥
+no_log image c found none j is =
+    let r = is.reading in
+    let one = one_image_each image.pages.slot r.slot image.pages.reached r.reached image.root r.root found.0 is.directory c.pages found.1.selected r.selected found.1.has r.image in
+    none j.entries is.end (subst (λ (root : Root). LogHolds (place_of root) j.entries is.end c) (sym one.0) r.log)
+
+-- and entries that are none are all that it holds.
+pub no_journal : (image : ReadImage) (c : Image) (entries : List Entry) (end : Place) → (d : Directory) × IsImageIn image d c.pages → LogHolds (place_of image.root) entries end c
+    → ((d : Directory) (s : State) → BeginsWith image.root image.tables image.mains d s → MayOpen d.stages (record { base = s; entries = entries }) → ⊥) → (j : Journal) → HoldsJournal j c → ⊥
+no_journal image c entries end found holds none j is =
+    let r = is.reading in
+    let one = one_image_each image.pages.slot r.slot image.pages.reached r.reached image.root r.root found.0 is.directory c.pages found.1.selected r.selected found.1.has r.image in
+    let base = subst (λ (root : Root). IsBase root found.0 j.base) (sym one.0) (subst (λ (d : Directory). IsBase r.root d j.base) (sym one.1) r.base) in
+    let log = one_reading (place_of image.root) j.entries entries is.end end c (subst (λ (root : Root). LogHolds (place_of root) j.entries is.end c) (sym one.0) r.log) holds in
+    none found.0 j.base
+    (record { rules = found.1.has.has.rules; shown = found.1.shown; directory = directory_rules image.pages.slot image.pages.reached image.root found.0 c.pages found.1.has; base = base })
+    (subst (λ (es : List Entry). MayOpen found.0.stages (record { base = j.base; entries = es })) log.0 (subst (λ (d : Directory). MayOpen d.stages j) (sym one.1) r.may))

@@ -1,13 +1,12 @@
--- Journals that can be opened, and what stands in front of their last entry.
-use Rattle.std.proofs.Common.{◌≡◌, ◌-◌, List, [], ◌∷◌, ◌++◌, length, refl, sym, ◌∙◌, ap, arith, IsTrue}
+-- Journals that can be opened, and the spelling of their last entry.
+use Rattle.std.proofs.Common.{◌≡◌, List, [], ◌∷◌, ◌++◌, length, refl, sym, ap, arith, IsTrue}
 use Rattle.ut_value.specs.declared.entry.Entry.{Entry}
 use Rattle.ut_value.specs.Spelling.{has_spelling}
 use Rattle.ut_plain.specs.State.{State, empty_state, after, can, suits}
-use Rattle.ut_plain.specs.Journal.{Journal, empty_journal, can_all, journal_len, prefix, appended, IsJournal}
+use Rattle.ut_plain.specs.Journal.{Journal, empty_journal, can_all, appended, IsJournal}
 use Rattle.ut_plain.specs.Plain.{Plain, new_store, no_savepoint}
 use Rattle.ut_plain.specs.Reached.{IsPlain, MayOpen}
 use Rattle.ut_plain.proofs.BoolLemmas.{and_left, and_right}
-use Rattle.ut_plain.proofs.ListLemmas.{take_within, take_whole}
 use Rattle.ut_plain.proofs.OpenedLaws.{IsPlain-new}
 
 -- what a running store has written can be opened
@@ -25,15 +24,6 @@ may_open p h base = record {
 
 pub may_open_new : MayOpen [] empty_journal
 may_open_new = may_open (new_store no_savepoint 0) (IsPlain-new no_savepoint.image_pages 0 (omega arith)) refl
-
--- all of a journal
-pub prefix_all : (j : Journal) → prefix j (journal_len j) ≡ j
-prefix_all j = ap (λ (es : List Entry). record j { entries = es }) (take_whole (journal_len j - j.base.length) j.entries (omega arith))
-
--- all but the last entry
-pub prefix_appended : (j : Journal) (e : Entry) → prefix (appended j e) (journal_len j) ≡ j
-prefix_appended j e =
-    ap (λ (es : List Entry). record j { entries = es }) (take_within (journal_len j - j.base.length) j.entries (e ∷ []) (omega arith)) ∙ prefix_all j
 
 -- the last entry has a spelling
 last_can : (s : State) (es : List Entry) (e : Entry) → IsTrue (can_all s (es ++ e ∷ [])) → IsTrue (has_spelling e)

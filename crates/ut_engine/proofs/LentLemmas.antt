@@ -3,7 +3,8 @@ use Rattle.std.proofs.Common.{◌≡◌, ◌⊎◌, ⊎_elim, ℕ, false, true}
 use Rattle.ut_outside.specs.Disk.{View}
 use Rattle.ut_plain.specs.declared.statement.Statement.{Statement}
 use Rattle.ut_plain.specs.declared.reply.Reply.{Reply}
-use Rattle.ut_plain.specs.Plain.{Plain, new_store, no_savepoint}
+use Rattle.ut_plain.specs.Plain.{Plain, no_image, new_store}
+use Rattle.ut_durable.specs.Bytes.{image_pages}
 use Rattle.ut_engine.specs.Logged.{Logged}
 use Rattle.ut_engine.specs.Runs.{Runs, IsNew, Opens}
 use Rattle.ut_engine.specs.Serves.{Serves, IsAnswered, IsLost}
@@ -16,7 +17,7 @@ goes_on old new before after session st reply p runs serves up = by_case (serves
 
 -- a store that was just made or opened runs from some plain state
 pub made_runs : (e : Logged) (rows : ℕ) (before after : View) → IsNew e rows before after → (p : Plain) × Runs e after p
-made_runs e rows before after new = (new_store no_savepoint rows, new.runs)
+made_runs e rows before after new = (new_store (no_image image_pages) rows, new.runs)
 
 pub opened_runs : (e : Logged) (rows : ℕ) (before after : View) → Opens e rows before after → (p : Plain) × Runs e after p
 opened_runs e rows before after opens = (_, opens.runs)

@@ -114,9 +114,9 @@ brought old new store turn before after session name kind n reply job p stands a
     let begun = subst (λ (t : Turn). Answers old.store session st t store) (said ∙ ap Answered is) answers in
     let answer = begun.each p stands in
     absurd (no_begin p name n answer.after answer.logs (begins p session name kind (replies.Merge n) answer.after answer.may))
-brought old new store turn before after session name kind n reply job p stands answers hands is (Logs said same down moments done) =
+brought old new store turn before after session name kind n reply job p stands answers hands is (Logs said same moments done) =
     let has = subst (λ (t : Turn). jobs.HandsOut (MergeBegin name kind) t job store) said hands in
-    (has.0, has.1 ∙ ap pending_job (sym same))
+    (has.0, has.1 ∙ ap (λ (e : Logged). pending_job e.store) (sym same))
 brought old new store turn before after session name kind n reply job p stands answers hands is (Fails kept said fault down moments failed) = absurd (not_merge n (sym fault ∙ is))
 
 brings : (st : Statement) (reply : Reply) (job : Option JobValue) (e : Held) → ((name : List ℕ) (kind : MergeKind) (n : ℕ) → st ≡ MergeBegin name kind → reply ≡ replies.Merge n → IsSome job × (job ≡ pending_job e)) → BringsJob st reply job e

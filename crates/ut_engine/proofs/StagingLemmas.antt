@@ -1,8 +1,7 @@
 -- What the operator is answered about the stages of a table: no entry is appended, and the reply is one of few.
-use Rattle.std.proofs.Common.{◌≡◌, ◌⊎◌, ⊎_elim, inl, ℕ, Bool, true, false, not, List, Option, None, Some, is_some, Result, Ok, Err, IfOk, IsErrOf, refl, sym, ◌∙◌, ap, subst, arith, IsTrue}
+use Rattle.std.proofs.Common.{◌≡◌, ◌⊎◌, ⊎_elim, ℕ, Bool, true, false, not, List, Option, None, Some, is_some, Result, Ok, Err, IfOk, IsErrOf, refl, sym, ◌∙◌, ap, subst, arith, IsTrue}
 use Rattle.std.specs.Option.{option_map, unwrap_or}
 use Rattle.ut_outside.specs.Disk.{View, Image}
-use Rattle.ut_outside.proofs.RunLemmas.{started}
 use Rattle.ut_plain.specs.declared.table.Table.{Table}
 use Rattle.ut_plain.specs.declared.statement.Statement.{Statement}
 use Rattle.ut_plain.specs.declared.statement.Statement.TheVariants as statements
@@ -19,10 +18,9 @@ use Rattle.ut_plain.specs.Refusals.{state_why, merge_why, save_why, unless, or_e
 use Rattle.ut_plain.specs.Step.{step, step_by, may_lack_memory, writes_savepoint, MayFault, MayAnswer, Steps, LacksMemory}
 use Rattle.ut_plain.specs.View as views
 use Rattle.ut_engine.specs.Logged.{Logged}
-use Rattle.ut_engine.specs.Files.{HoldsPrefix}
 use Rattle.ut_engine.specs.Runs.{Runs}
 use Rattle.ut_engine.specs.Serves.{Serves, IsAnswered, IsLost}
-use Rattle.ut_engine.proofs.RunsLemmas.{holds_all}
+use Rattle.ut_engine.proofs.UnchangedLemmas.{serves_unchanged}
 use Rattle.ut_engine.specs.declared.error.L1Error.{L1Error}
 use Rattle.ut_engine.specs.declared.error.L1Error.TheVariants as errors
 use Rattle.ut_engine.specs.Staging.{merge_reply, shape_reply, is_merge_reply, is_shape_reply, table_meant, may_tell}
@@ -234,15 +232,7 @@ stages_answered old new before after st reply name p runs is serves = by_case (s
 
 -- where memory was wanting before anything was done
 pub wants_memory : (e : Logged) (disk : View) (session : ℕ) (st : Statement) → ((c : Image) → disk.crash_states_since disk.moment c → disk.crash_states c) → IsTrue (may_lack_memory st) → Serves e disk session st (replies.Refused refusals.Memory) e disk
-wants_memory e disk session st only lacks = record {
-  each = λ p runs. inl (record {
-    plain = p;
-    may = LacksMemory lacks refl refl;
-    runs = runs;
-    sound = λ fault. cc;
-    any_moment = λ told. started disk (HoldsPrefix p.journal (journal_len p.journal)) (λ c left. holds_all p.journal e.log (journal_len p.journal) c (omega arith) (runs.held told c (only c left)));
-  });
-  told = refl;
-  later = omega arith;
-  cause = λ fault. cc;
-}
+wants_memory e disk session st only lacks = serves_unchanged e disk session st (replies.Refused refusals.Memory) only (λ p runs. LacksMemory lacks refl refl) (λ fault. cc) (λ n is. no_root n is)
+  where
+    no_root : (n : ℕ) → replies.Refused refusals.Memory ≡ replies.Root n → ⊥
+    no_root n is = cc

@@ -6,10 +6,10 @@ use Rattle.ut_outside.specs.Faults.{Rose}
 use Rattle.ut_outside.specs.Run.{Always, LeavesOnly, ReadsOnly}
 use Rattle.ut_pages.specs.Layout.{IsMade}
 use Rattle.ut_plain.specs.Journal.{Journal}
+use Rattle.ut_durable.specs.Journals.{HoldsJournal}
 use Rattle.ut_engine.specs.declared.error.OpenError.{OpenError}
 use Rattle.ut_engine.specs.declared.error.OpenError.TheVariants as errors
 use Rattle.ut_engine.specs.Logged.{Logged}
-use Rattle.ut_engine.specs.Files.{HoldsJournal}
 use Rattle.ut_engine.specs.Opening.{MayOnlyRead}
 use Rattle.ut_engine.specs.Runs.{IsNew, Opens, NotMadeOrEmpty}
 use Rattle.ut_engine.specs.declared.unopened.Unopened.{Unopened}

@@ -1,4 +1,3 @@
-pub mod Files
 pub mod Logged
 pub mod Opening
 pub mod Runs
@@ -9,3 +8,5 @@ pub mod Beginning
 pub mod Tables
 pub mod Staging
 pub mod Merging
+pub mod Savepoints
+pub mod Saves

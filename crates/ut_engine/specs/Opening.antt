@@ -4,6 +4,8 @@ use Rattle.ut_outside.specs.Disk.{View, IsTold}
 use Rattle.ut_pages.specs.Layout.{IsMade}
 use Rattle.ut_redo.specs.declared.error.RedoError.{RedoError}
 use Rattle.ut_redo.specs.declared.error.RedoError.TheVariants as redo
+use Rattle.ut_pages.specs.declared.chain.PageError.{PageError}
+use Rattle.ut_pages.specs.declared.chain.PageError.TheVariants as pages
 use Rattle.ut_restart.specs.declared.error.RestartError.{RestartError}
 use Rattle.ut_restart.specs.declared.error.RestartError.TheVariants as restart
 use Rattle.ut_engine.specs.declared.error.OpenError.{OpenError}
@@ -13,6 +15,11 @@ abbrev pub of_redo : RedoError → OpenError
 of_redo redo.Damaged = opening.Damaged
 of_redo redo.Disk = opening.Disk
 of_redo redo.Memory = opening.Memory
+
+abbrev pub of_page : PageError → OpenError
+of_page pages.Damaged = opening.Damaged
+of_page pages.Disk = opening.Disk
+of_page pages.Memory = opening.Memory
 
 abbrev pub of_restart : RestartError → OpenError
 of_restart restart.Damaged = opening.Damaged

@@ -1,6 +1,6 @@
-//! Why a store could not be made or opened, why no row was moved from a first stage to a second, and why no merge began.
+//! Why a store could not be made or opened, why no row was moved from a first stage to a second, and why no merge or savepoint began or went on.
 ghost use Rattle.std.specs.Prelude.{◌≡◌};
-ghost use Rattle.ut_engine.specs.Opening.{of_redo, of_restart};
+ghost use Rattle.ut_engine.specs.Opening.{of_page, of_redo, of_restart};
 ghost use Rattle.ut_engine.specs.declared.error.OpenError.TheVariants.{Disk as DiskFault, Memory};
 ghost use Rattle.ut_engine.specs.declared.error.L1Error.TheVariants.{Memory as L1Memory};
 ghost use Rattle.ut_engine.specs.declared.error.BeginError.TheVariants.{Memory as BeginMemory};
@@ -8,6 +8,8 @@ ghost use Rattle.ut_engine.specs.declared.error.BeginError.TheVariants.{Memory a
 use std::alloc::AllocError;
 use thiserror::Error;
 use ut_outside::Failed;
+use ut_pages::PageError;
+use ut_plain::Why;
 use ut_redo::RedoError;
 use ut_restart::RestartError;
 
@@ -39,6 +41,18 @@ impl From<AllocError> for OpenError {
 
     fn from(_: AllocError) -> Self {
         OpenError::Memory
+    }
+}
+
+impl From<PageError> for OpenError {
+    ghost from_gives = { λ x e. e ≡ of_page x };
+
+    fn from(error: PageError) -> Self {
+        match error {
+            PageError::Damaged => OpenError::Damaged,
+            PageError::Disk => OpenError::Disk,
+            PageError::Memory => OpenError::Memory,
+        }
     }
 }
 
@@ -103,4 +117,26 @@ impl From<AllocError> for BeginError {
     fn from(_: AllocError) -> Self {
         BeginError::Memory
     }
+}
+
+/// Why no savepoint began. `State` says that one is under way, `Full` that there are no numbers for its pages.
+#[derive(Clone, Copy, Debug, PartialEq, Eq, Error)]
+pub enum SaveError {
+    #[error("a savepoint is under way")]
+    State(Why),
+    #[error("there are no page numbers for a savepoint")]
+    Full,
+    #[error("out of memory")]
+    Memory,
+    #[error("the disk failed")]
+    Disk,
+}
+
+/// Why a savepoint did not go on. `State` says that it isn't the turn of this call.
+#[derive(Clone, Copy, Debug, PartialEq, Eq, Error)]
+pub enum PhaseError {
+    #[error("it is not the turn of this call")]
+    State(Why),
+    #[error("the disk failed")]
+    Disk,
 }

@@ -6,11 +6,13 @@ mod error;
 mod logged;
 mod merges;
 mod readers;
+mod savepoints;
+mod saving;
 mod stages;
 #[cfg(test)]
 mod tests;
 mod unopened;
 
 pub use engine::{Engine, engine_is_sent};
-pub use error::{BeginError, L1Error, OpenError};
+pub use error::{BeginError, L1Error, OpenError, PhaseError, SaveError};
 pub use unopened::Unopened;

@@ -1,5 +1,5 @@
-//! The store and its log.
-ghost use Rattle.std.specs.Prelude.{◌≡◌, ◌<◌, ◌≤◌, ◌^◌, Some, IsTrue, IfOk, OnOk, IsErrOf, is_some, length, option_map, slice_get};
+//! The store and its files.
+ghost use Rattle.std.specs.Prelude.{◌≡◌, ◌<◌, ◌≤◌, ◌^◌, Some, false, IsTrue, IfOk, OnOk, IsErrOf, is_some, length, option_map, slice_get};
 ghost use Rattle.ut_outside.specs.declared.disk.Which.{Which};
 ghost use Rattle.ut_outside.specs.Disk.{IsTold, content};
 ghost use Rattle.ut_outside.specs.Faults.{Rose, HasCause};
@@ -9,12 +9,14 @@ ghost use Rattle.ut_plain.specs.declared.statement.Statement.TheVariants as stat
 ghost use Rattle.ut_plain.specs.Journal.{Journal};
 ghost use Rattle.ut_plain.specs.Names.{has_table};
 ghost use Rattle.ut_plain.specs.Plain.{Plain};
+ghost use Rattle.ut_plain.specs.Refusals.{is_save};
 ghost use Rattle.ut_plain.specs.Spelled.{is_spelled};
-ghost use Rattle.ut_redo.specs.Appends.{HasClosedGate};
+ghost use Rattle.ut_redo.specs.Logs.{IsLogFile};
+ghost use Rattle.ut_durable.specs.Calls.{IsSettled};
+ghost use Rattle.ut_durable.specs.Journals.{HoldsJournal};
 ghost use Rattle.ut_store.specs.Jobs.{pending_job};
 ghost use Rattle.ut_store.specs.Listed.{Lists};
 ghost use Rattle.ut_store.specs.Standing.{Stands, suits_session};
-ghost use Rattle.ut_engine.specs.Files.{HoldsJournal};
 ghost use Rattle.ut_engine.specs.Handing.{HandsOut};
 ghost use Rattle.ut_engine.specs.Merging.{BringsJob};
 ghost use Rattle.ut_engine.specs.Opening.{MayOnlyRead};
@@ -22,23 +24,33 @@ ghost use Rattle.ut_engine.specs.Runs.{Runs, IsNew, Opens, NotMadeOrEmpty};
 ghost use Rattle.ut_engine.specs.Serves.{Serves};
 
 use crate::error::OpenError;
+use crate::saving::log_file;
 use std::alloc::{AllocError, Global};
 use std::marker::Model;
+use ut_durable::Durable;
 use ut_merge::{Built, Job};
+use ut_nextid::NextIds;
 use ut_outside::{Disk, Failed, Which};
 use ut_pages::Pages;
-use ut_plain::{PendingMerge, Reply, Statement};
+use ut_plain::{PendingMerge, Reply, Statement, is_save};
+use ut_reading::{Image, read_image};
 use ut_redo::Redo;
 use ut_restart::reopen;
+use ut_savepoint::Savepoint;
 use ut_store::{Store, Turn};
 use ut_value::{Name, Row, Seq};
 
-/// A store in memory behind its log. Each call that may write is lent the disk.
+/// A store in memory before its files. Each call that may write is lent the disk.
 #[derive(Drop)]
 pub(crate) struct LoggedStore {
-    store: Store,
-    redo: Redo,
-    down: bool,
+    pub(crate) store: Store,
+    pub(crate) files: Durable,
+    /// The file in which the selected root's log begins.
+    pub(crate) begins: Which,
+    pub(crate) saving: Option<Savepoint>,
+    /// The next id of the journal.
+    pub(crate) next: NextIds,
+    pub(crate) down: bool,
 }
 
 impl Model for LoggedStore {
@@ -46,7 +58,7 @@ impl Model for LoggedStore {
 
     ghost Value = { Logged };
 
-    ghost view = { λ e. record { store = e.store; log = e.redo; down = e.down } };
+    ghost view = { λ e. record { store = e.store; files = e.files; begins = e.begins; saving = e.saving; next = e.next; down = e.down } };
 }
 
 impl LoggedStore {
@@ -73,11 +85,15 @@ impl LoggedStore {
             return Err(OpenError::Made);
         }
         let store = Store::new(alloc, rows)?; // before a file is touched
+        let next = NextIds::opened(alloc, 1, &[])?;
         let redo = Redo::make(disk)?; // before the page file is made
         Pages::make(disk)?;
         Ok(LoggedStore {
             store,
-            redo,
+            files: Durable::new(redo, Pages::fresh(alloc)),
+            begins: Which::Redo,
+            saving: None,
+            next,
             down: false,
         })
     }
@@ -101,11 +117,22 @@ impl LoggedStore {
         if !Pages::made(disk)? {
             return Err(OpenError::NotMade);
         }
-        let (redo, entries) = Redo::read_all(alloc, disk, Which::Redo, 0)?;
-        let store = reopen(alloc, entries, rows)?;
+        let Image {
+            pages,
+            root,
+            tables,
+            mains,
+        } = read_image(alloc, disk)?;
+        let begins = log_file(root.file);
+        let (redo, entries) = Redo::read_all(alloc, disk, begins, root.offset)?;
+        let next = NextIds::opened(alloc, root.next, entries.as_slice())?;
+        let store = reopen(alloc, &root, tables, mains, entries, rows)?;
         Ok(LoggedStore {
             store,
-            redo,
+            files: Durable::new(redo, pages),
+            begins,
+            saving: None,
+            next,
             down: false,
         })
     }
@@ -124,8 +151,15 @@ impl LoggedStore {
         requires runs { (p : Plain) × Runs self.old (D.view disk.old) p }
         ensures { Serves self.old (D.view disk.old) session st.now result self.new (D.view disk.new) }
     {
+        if is_save(st) {
+            return self.save(alloc, disk, st);
+        }
+        let before = self.store.next_id();
         let turn = self.store.statement(alloc, session, st);
-        self.hand_out(disk, turn)
+        let reply = self.hand_out(disk, turn);
+        let after = self.store.next_id();
+        self.next.note(session, st, &reply, before, after);
+        reply
     }
 
     /// Answers a statement as `statement` does, and hands out the job of a merge that it begins.
@@ -139,12 +173,16 @@ impl LoggedStore {
         requires seat { session < 17 }
         requires suits { IsTrue (suits_session session st.now) }
         requires spelled { IsTrue (is_spelled st.now) }
+        requires served { is_save st.now ≡ false }
         requires runs { (p : Plain) × Runs self.old (D.view disk.old) p }
         ensures serves { Serves self.old (D.view disk.old) session st.now result.0 self.new (D.view disk.new) }
         ensures job { BringsJob st.now result.0 result.1 self.new.store }
     {
+        let before = self.store.next_id();
         let outcome = self.store.statement_with_job(alloc, session, st);
         let reply = self.hand_out(disk, outcome.turn);
+        let after = self.store.next_id();
+        self.next.note(session, st, &reply, before, after);
         (reply, outcome.job)
     }
 
@@ -163,8 +201,13 @@ impl LoggedStore {
         requires runs { (p : Plain) × Runs self.old (D.view disk.old) p }
         ensures { Serves self.old (D.view disk.old) session statements.MergeEnd result self.new (D.view disk.new) }
     {
+        let before = self.store.next_id();
         let turn = self.store.merge_end(session, built);
-        self.hand_out(disk, turn)
+        let reply = self.hand_out(disk, turn);
+        let after = self.store.next_id();
+        self.next
+            .note(session, &Statement::MergeEnd, &reply, before, after);
+        reply
     }
 
     /// The merge that was begun and has not ended.
@@ -183,18 +226,18 @@ impl LoggedStore {
 
     // Hands out the reply of a turn in memory: at once, or once the frame that it wrote is on the disk.
     fn hand_out<D: Disk>(&mut self, disk: &mut D, turn: Turn) -> Reply
-        requires room { self.old.log.end ≤ 2 ^ 61 }
-        requires gate { HasClosedGate self.old.log (D.view disk.old) }
+        requires log { IsLogFile self.old.files.log.file }
+        requires room { self.old.files.log.end ≤ 2 ^ 61 }
+        requires settled { IsSettled self.old.files (D.view disk.old) }
         ensures { HandsOut turn self.old (D.view disk.old) result self.new (D.view disk.new) }
     {
         match turn {
             Turn::Answered(reply) => reply,
-            Turn::Append(reply) => match self.redo.append(disk, self.store.frame()) {
+            Turn::Append(reply) => match self.files.append(disk, self.store.frame()) {
                 Ok(()) => reply,
                 Err(_) => {
                     drop(reply); // it is not handed out
-                    self.down = true;
-                    Reply::DiskFault
+                    self.goes_down()
                 }
             },
         }

@@ -4,12 +4,12 @@ ghost use Rattle.ut_outside.specs.Faults.{Rose};
 ghost use Rattle.ut_value.specs.Text.{is_name};
 ghost use Rattle.ut_plain.specs.Spelled.{is_spelled};
 
-use crate::{BeginError, Engine, L1Error, OpenError};
+use crate::{BeginError, Engine, L1Error, OpenError, PhaseError, SaveError};
 use std::alloc::{AllocError, Global};
 use std::process::Abort;
 use std::test::Fail;
 use ut_outside::{Disk, MemDisk, Which};
-use ut_plain::{Reply, Statement};
+use ut_plain::{Progress, Reply, Shape, Statement, Why};
 use ut_value::{Column, Kind, MergeKind, Name, Seq, Value, is_name};
 
 /// Ids enough.
@@ -75,16 +75,106 @@ fn made_and_left<D: Disk>(alloc: Global, disk: &mut D) -> Result<(), OpenError>
     }
 }
 
+// Calls of a store that is up, which promise nothing here: what they answer is tried, and the tests' own proofs stay short.
+
+fn answered(
+    rt: &impl Abort,
+    alloc: Global,
+    engine: &mut Engine<'_, MemDisk>,
+    statement: &Statement,
+) -> Reply
+    requires { IsTrue (is_spelled statement.now) }
+{
+    assert!(rt; !engine.down());
+    engine.statement(alloc, 1, statement)
+}
+
+fn moved(
+    rt: &impl Abort,
+    alloc: Global,
+    engine: &mut Engine<'_, MemDisk>,
+    table: &Name,
+) -> Result<u32, L1Error> {
+    assert!(rt; !engine.down());
+    engine.merge_l1(alloc, table, 1)
+}
+
+fn shape(
+    rt: &impl Abort,
+    alloc: Global,
+    engine: &mut Engine<'_, MemDisk>,
+    table: &Name,
+) -> Result<Option<Shape>, AllocError> {
+    assert!(rt; !engine.down());
+    engine.shape(alloc, table)
+}
+
+fn ids(
+    rt: &impl Abort,
+    alloc: Global,
+    engine: &Engine<'_, MemDisk>,
+    table: &Name,
+) -> Result<Option<Vec<u32>>, AllocError> {
+    assert!(rt; !engine.down());
+    let Some(rows) = engine.rows(alloc, table)? else {
+        return Ok(None);
+    };
+    let mut ids = Vec::new(alloc);
+    for row in rows.as_slice() {
+        ids.push(row.id)?;
+    }
+    Ok(Some(ids))
+}
+
+fn lengths(rt: &impl Abort, engine: &Engine<'_, MemDisk>) -> (u32, u32) {
+    assert!(rt; !engine.down());
+    assert_eq!(rt; engine.tables(), 1);
+    assert_eq!(rt; engine.table_name(0).as_slice(), b"T".as_slice());
+    (engine.l1_len(0), engine.l2_len(0))
+}
+
+fn begun(
+    rt: &impl Abort,
+    alloc: Global,
+    engine: &mut Engine<'_, MemDisk>,
+) -> Result<u32, SaveError> {
+    assert!(rt; !engine.down());
+    engine.save_begin(alloc)
+}
+
+fn stepped(rt: &impl Abort, engine: &mut Engine<'_, MemDisk>) -> Result<(), PhaseError> {
+    assert!(rt; !engine.down());
+    engine.save_step()
+}
+
+fn sealed(rt: &impl Abort, engine: &mut Engine<'_, MemDisk>) -> Result<(), PhaseError> {
+    assert!(rt; !engine.down());
+    engine.save_seal()
+}
+
+fn flipped(rt: &impl Abort, engine: &mut Engine<'_, MemDisk>) -> Result<u32, PhaseError> {
+    assert!(rt; !engine.down());
+    engine.save_flip()
+}
+
+fn dropped(rt: &impl Abort, engine: &mut Engine<'_, MemDisk>) -> Result<(), PhaseError> {
+    assert!(rt; !engine.down());
+    engine.save_drop()
+}
+
+fn phase(rt: &impl Abort, engine: &Engine<'_, MemDisk>) -> Progress {
+    assert!(rt; !engine.down());
+    engine.phase()
+}
+
 /// Makes the table, with two rows.
 fn fill(rt: &impl Abort, alloc: Global, engine: &mut Engine<'_, MemDisk>) -> Result<(), Fail> {
     let statement = create(rt, alloc)?;
-    assert!(rt; !engine.down());
-    let reply = engine.statement(alloc, 1, &statement);
+    let reply = answered(rt, alloc, engine, &statement);
     assert!(rt; matches!(reply, Reply::Committed(1)));
     for number in [3, 4] {
         let statement = insert(rt, alloc, number)?;
-        assert!(rt; !engine.down());
-        let reply = engine.statement(alloc, 1, &statement);
+        let reply = answered(rt, alloc, engine, &statement);
         assert!(rt; matches!(reply, Reply::Changed { rows: 1, .. }));
     }
     assert_eq!(rt; engine.commits(), 3);
@@ -101,21 +191,16 @@ fn check(
     l1: u32,
     l2: u32,
 ) -> Result<(), Fail> {
-    assert!(rt; !engine.down());
-    assert_eq!(rt; engine.tables(), 1);
-    assert_eq!(rt; engine.table_name(0).as_slice(), b"T".as_slice());
-    assert_eq!(rt; engine.l1_len(0), l1);
-    assert_eq!(rt; engine.l2_len(0), l2);
+    let (first, second) = lengths(rt, engine);
+    assert_eq!(rt; first, l1);
+    assert_eq!(rt; second, l2);
     let table = name(rt, alloc, b"T")?;
-    let mut ids = Vec::new(alloc);
-    if let Some(rows) = engine.rows(alloc, &table)? {
-        for row in rows.as_slice() {
-            ids.push(row.id)?;
-        }
-    }
-    assert_eq!(rt; ids.as_slice(), [1, 2].as_slice());
+    let Some(found) = ids(rt, alloc, engine, &table)? else {
+        panic!(rt; "there is no table")
+    };
+    assert_eq!(rt; found.as_slice(), [1, 2].as_slice());
     let other = name(rt, alloc, b"t")?;
-    assert!(rt; engine.rows(alloc, &other)?.is_none());
+    assert!(rt; ids(rt, alloc, engine, &other)?.is_none());
     Ok(())
 }
 
@@ -123,12 +208,11 @@ fn check(
 fn merge(rt: &impl Abort, alloc: Global, engine: &mut Engine<'_, MemDisk>) -> Result<(), Fail> {
     let table = name(rt, alloc, b"T")?;
     let other = name(rt, alloc, b"t")?;
-    assert!(rt; !engine.down());
-    assert_eq!(rt; engine.merge_l1(alloc, &other, 1), Err(L1Error::Name));
-    assert_eq!(rt; engine.merge_l1(alloc, &table, 1), Ok(1));
-    let shape = engine.shape(alloc, &table)?;
-    assert!(rt; matches!(&shape, Some(shape) if shape.l1 == 1 && shape.l2 == 1));
-    assert!(rt; engine.shape(alloc, &other)?.is_none());
+    assert_eq!(rt; moved(rt, alloc, engine, &other), Err(L1Error::Name));
+    assert_eq!(rt; moved(rt, alloc, engine, &table), Ok(1));
+    let found = shape(rt, alloc, engine, &table)?;
+    assert!(rt; matches!(&found, Some(shape) if shape.l1 == 1 && shape.l2 == 1));
+    assert!(rt; shape(rt, alloc, engine, &other)?.is_none());
     Ok(())
 }
 
@@ -188,6 +272,37 @@ fn a_merge_begins_and_hands_out_its_job(rt: HostRuntime) -> Result<(), Fail> {
     assert!(rt; matches!(engine.pending(), Some(head) if head.number == 1 && head.table == 0));
     assert_eq!(rt; engine.merges(), 1);
     assert_eq!(rt; engine.journal_len(), 4);
+    Ok(())
+}
+
+/// A savepoint of one page is written and selected.
+fn save(rt: &impl Abort, alloc: Global, engine: &mut Engine<'_, MemDisk>) -> Result<(), Fail> {
+    assert_eq!(rt; begun(rt, alloc, engine)?, 1);
+    assert!(rt; matches!(phase(rt, engine), Progress::Writing { done: 0, pages: 1 }));
+    assert!(rt; matches!(begun(rt, alloc, engine), Err(SaveError::State(Why::Saving))));
+    stepped(rt, engine)?;
+    sealed(rt, engine)?;
+    assert_eq!(rt; flipped(rt, engine)?, 3);
+    Ok(())
+}
+
+#[test]
+fn a_store_is_opened_from_its_savepoint(rt: HostRuntime) -> Result<(), Fail> {
+    let alloc = rt.alloc();
+    let mut disk = MemDisk::of(alloc, &[], &[], &[])?;
+    let mut engine = made(alloc, &mut disk)?;
+    assert!(rt;
+        matches!(
+            dropped(&rt, &mut engine),
+            Err(PhaseError::State(Why::Nothing))
+        )
+    );
+    fill(&rt, alloc, &mut engine)?;
+    merge(&rt, alloc, &mut engine)?;
+    save(&rt, alloc, &mut engine)?;
+    let disk = engine.release();
+    let engine = opened(alloc, disk)?;
+    check(&rt, alloc, &engine, 1, 1)?;
     Ok(())
 }
 

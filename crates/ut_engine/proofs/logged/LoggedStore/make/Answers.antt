@@ -1,10 +1,10 @@
-use Rattle.std.proofs.Common.{false, refl, sym, subst}
+use Rattle.std.proofs.Common.{◌≡◌, sym, ◌∙◌, subst}
 use Rattle.std.specs.Prelude.{IsTrue}
 use Rattle.ut_outside.specs.Disk.{View, IsTold}
-use Rattle.ut_engine.specs.Logged.{Logged}
+use Rattle.ut_durable.specs.Bytes.{image_pages}
+use Rattle.ut_durable.specs.Made.{made_held}
 use Rattle.ut_engine.proofs.FileLemmas.{unmade_redo, unmade_pages, unmade_by, is_new}
 use Rattle.ut_engine.proofs.logged.LoggedStore.make.Goals as goal
-use Rattle.ut_plain.specs.Plain.{no_savepoint}
 
 pub returns-in_err-redo-clause-any_moment : goal.returns-in_err-redo-clause-any_moment
 returns-in_err-redo-clause-any_moment g c told none =
@@ -34,5 +34,6 @@ returns-clause-new g c =
     let v1 : View = g.D.Disk.view c.made.new.disk in
     let v2 : View = g.D.Disk.view c.make.new.disk in
     let v3 : View = g.D.Disk.view c.make-2.new.disk in
-    let e : Logged = record { store = c.in_ok-store.store; log = c.in_ok-redo.redo; down = false } in
-    is_new v0 v1 v2 v3 e c.args.rows c.in_ok-made.ensures.reads (unmade_by _ v0 c.if-branch.false c.in_ok-made.ensures.made) refl (c.in_ok-store.ensures no_savepoint.image_pages) c.in_ok-redo.ensures.place c.make.ensures.told c.make-2.ensures.told c.in_ok-redo.ensures.empty c.in_ok-make.ensures.made
+    let files : c.new-2.result ≡ made_held = c.new-2.ensures ∙ (λ i. record { log = c.in_ok-redo.ensures.place i; slot = (c.fresh.ensures i).slot; reached = (c.fresh.ensures i).reached }) in
+    is_new v0 v1 v2 v3 c.in_ok-store.store c.new-2.result c.in_ok-next.next c.args.rows c.in_ok-next.ensures c.in_ok-made.ensures.reads (unmade_by _ v0 c.if-branch.false c.in_ok-made.ensures.made) (c.in_ok-store.ensures image_pages) files
+    c.make.ensures.told c.make-2.ensures.told c.in_ok-redo.ensures.empty c.in_ok-make.ensures.made

@@ -1,55 +1,113 @@
-use Rattle.std.proofs.Common.{◌≡◌, Err, false, refl, sym, ◌∙◌, ap, subst}
+use Rattle.std.proofs.Common.{◌≡◌, false, List, Err, None, sym, ◌∙◌, ap, subst}
 use Rattle.std.specs.Prelude.{IsTrue}
 use Rattle.std.proofs.lemmas.Result.{err_from_is_err_and}
+use Rattle.ut_value.specs.declared.entry.Entry.{Entry}
+use Rattle.ut_outside.specs.declared.disk.Which.{Which}
 use Rattle.ut_outside.specs.Disk.{View, Image, IsTold}
-use Rattle.ut_pages.specs.Layout.{IsMade}
+use Rattle.ut_pages.specs.Layout.{IsMade, IsSelected}
 use Rattle.ut_redo.specs.Logs.{LogHolds}
-use Rattle.ut_engine.specs.Files.{log_start}
-use Rattle.ut_engine.specs.Logged.{Logged}
+use Rattle.ut_durable.specs.Images.{HasImage}
+use Rattle.ut_durable.specs.Journals.{place_of}
+use Rattle.ut_reading.specs.Reading.{IsImageIn}
+use Rattle.ut_plain.specs.Capture.{Directory}
 use Rattle.ut_engine.specs.declared.error.OpenError.TheVariants.{Damaged}
-use Rattle.ut_engine.proofs.FileLemmas.{IsRead, opened, redo_damaged, restart_damaged, no_journal}
+use Rattle.ut_engine.specs.Logged.{Logged}
+use Rattle.ut_engine.specs.Runs.{Opens}
+use Rattle.ut_engine.proofs.FileLemmas.{IsRead, NotedBehind, began, opens, page_damaged, redo_damaged, restart_damaged, no_log, no_journal}
 use Rattle.ut_engine.proofs.logged.LoggedStore.open.Goals as goal
+
+-- the page file is made where its image is read
+pub read_image-requires : goal.read_image-requires
+read_image-requires g c = record {
+  made = λ told.
+      let second = c.in_ok-made.ensures.reads in
+      let told1 = subst IsTrue second.told told in
+      subst (λ (i : Image). IsMade i.pages) (sym second.seen) ((c.in_ok-made.ensures.made told1).0 c.if-not-branch.false);
+}
+
+-- whatever the disk tells, the image is that of a state
+pub reopen-requires-clause-image : goal.reopen-requires-clause-image
+reopen-requires-clause-image g c =
+    let begins = c.in_ok-pages.ensures.begins in
+    let base = began c.in_ok-pages.field-0 begins.0 begins.1 in
+    (begins.0, base.0, base.1)
+
+pub returns-in_err-pages-clause-damaged : goal.returns-in_err-pages-clause-damaged
+returns-in_err-pages-clause-damaged g c is told =
+    let first = c.in_ok-settle.ensures.reads in
+    let second = c.in_ok-made.ensures.reads in
+    let told1 = subst IsTrue (sym first.told) told in
+    let told2 = subst IsTrue (sym second.told) told1 in
+    let made = (c.in_ok-made.ensures.made told1).0 c.if-not-branch.false in
+    let p = err_from_is_err_and c.from_residual-in_err-pages.result c.from_residual-in_err-pages.ensures.1 in
+    let same : p.0 ≡ Damaged = cc in
+    let error = page_damaged c.in_err-pages.field-0.0 (sym p.2 ∙ same) in
+    let seen = second.seen ∙ first.seen in (
+      subst (λ (i : Image). IsMade i.pages) first.seen made,
+      λ j holds.
+          let r = holds.reading in
+          let at = subst (λ (i : Image). IsSelected r.slot i.pages × HasImage r.slot r.reached r.root holds.directory i.pages) (sym seen) (r.selected, r.image) in
+          c.in_err-pages.ensures.damaged (ap Err error) told2 r.slot r.reached r.root holds.directory at.0 at.1,
+    )
 
 pub returns-in_err-redo-clause-damaged : goal.returns-in_err-redo-clause-damaged
 returns-in_err-redo-clause-damaged g c is told =
-    let v0 : View = g.D.Disk.view c.args.disk.now in
-    let v1 : View = g.D.Disk.view c.settle.new.disk in
-    let v2 : View = g.D.Disk.view c.made.new.disk in
     let first = c.in_ok-settle.ensures.reads in
     let second = c.in_ok-made.ensures.reads in
-    let told1 : IsTold v1 = subst IsTrue (sym first.told) told in
-    let told2 : IsTold v2 = subst IsTrue (sym second.told) told1 in
-    let made : IsMade v1.seen.pages = (c.in_ok-made.ensures.made told1).0 c.if-not-branch.false in
+    let third = c.in_ok-pages.ensures.reads in
+    let told1 = subst IsTrue (sym first.told) told in
+    let told2 = subst IsTrue (sym second.told) told1 in
+    let told3 = subst IsTrue (sym third.told) told2 in
+    let seen2 = second.seen ∙ first.seen in
+    let seen3 = third.seen ∙ seen2 in
+    let made = (c.in_ok-made.ensures.made told1).0 c.if-not-branch.false in
+    let found = subst (λ (i : Image). (d : Directory) × IsImageIn c.in_ok-pages.field-0 d i.pages) seen2 (c.in_ok-pages.ensures.found told2) in
     let p = err_from_is_err_and c.from_residual-in_err-redo.result c.from_residual-in_err-redo.ensures.1 in
     let same : p.0 ≡ Damaged = cc in
     let error = redo_damaged c.in_err-redo.field-0.0 (sym p.2 ∙ same) in (
       subst (λ (i : Image). IsMade i.pages) first.seen made,
-      λ j holds. c.in_err-redo.ensures.damaged (ap Err error) told2 j.entries holds.end (subst (LogHolds log_start j.entries holds.end) (sym (second.seen ∙ first.seen)) holds.reading.log),
+      no_log c.in_ok-pages.field-0 (g.D.Disk.view c.args.disk.now).seen found
+          (λ items end holds.
+          let there = subst (λ (i : Image). LogHolds (place_of c.in_ok-pages.field-0.root) items end i) (sym seen3) holds in
+          c.in_err-redo.ensures.damaged (ap Err error) told3 items end
+          (subst (λ (file : Which). LogHolds (record { file = file; end = c.in_ok-pages.field-0.root.offset }) items end (g.D.Disk.view c.read_image.new.disk).seen) (sym c.log_file-begins.ensures) there)),
     )
 
 pub returns-in_err-store-clause-damaged : goal.returns-in_err-store-clause-damaged
 returns-in_err-store-clause-damaged g c is told =
-    let v0 : View = g.D.Disk.view c.args.disk.now in
-    let v1 : View = g.D.Disk.view c.settle.new.disk in
-    let v2 : View = g.D.Disk.view c.made.new.disk in
     let first = c.in_ok-settle.ensures.reads in
     let second = c.in_ok-made.ensures.reads in
-    let told1 : IsTold v1 = subst IsTrue (sym first.told) told in
-    let told2 : IsTold v2 = subst IsTrue (sym second.told) told1 in
-    let made : IsMade v1.seen.pages = (c.in_ok-made.ensures.made told1).0 c.if-not-branch.false in
+    let third = c.in_ok-pages.ensures.reads in
+    let told1 = subst IsTrue (sym first.told) told in
+    let told2 = subst IsTrue (sym second.told) told1 in
+    let told3 = subst IsTrue (sym third.told) told2 in
+    let seen2 = second.seen ∙ first.seen in
+    let seen3 = third.seen ∙ seen2 in
+    let made = (c.in_ok-made.ensures.made told1).0 c.if-not-branch.false in
+    let found = subst (λ (i : Image). (d : Directory) × IsImageIn c.in_ok-pages.field-0 d i.pages) seen2 (c.in_ok-pages.ensures.found told2) in
+    let there = subst (λ (file : Which). LogHolds (record { file = file; end = c.in_ok-pages.field-0.root.offset }) c.in_ok-redo.entries c.in_ok-redo.redo (g.D.Disk.view c.read_image.new.disk).seen) c.log_file-begins.ensures (c.in_ok-redo.ensures.found told3) in
+    let log = subst (λ (i : Image). LogHolds (place_of c.in_ok-pages.field-0.root) c.in_ok-redo.entries c.in_ok-redo.redo i) seen3 there in
     let p = err_from_is_err_and c.from_residual-in_err-store.result c.from_residual-in_err-store.ensures.1 in
     let same : p.0 ≡ Damaged = cc in
     let error = restart_damaged c.in_err-store.field-0.0 (sym p.2 ∙ same) in
-    let holds = subst (LogHolds log_start c.in_ok-redo.entries c.in_ok-redo.redo) (second.seen ∙ first.seen) (c.in_ok-redo.ensures.found told2) in
-    (subst (λ (i : Image). IsMade i.pages) first.seen made, no_journal c.in_ok-redo.entries c.in_ok-redo.redo v0.seen holds (c.in_err-store.ensures.damaged (ap Err error)))
+    (subst (λ (i : Image). IsMade i.pages) first.seen made, no_journal c.in_ok-pages.field-0 (g.D.Disk.view c.args.disk.now).seen c.in_ok-redo.entries c.in_ok-redo.redo found log (c.in_err-store.ensures.damaged (ap Err error)))
 
 pub returns-clause-opens : goal.returns-clause-opens
 returns-clause-opens g c =
     let v0 : View = g.D.Disk.view c.args.disk.now in
     let v1 : View = g.D.Disk.view c.settle.new.disk in
     let v2 : View = g.D.Disk.view c.made.new.disk in
-    let v3 : View = g.D.Disk.view c.read_all.new.disk in
-    let e : Logged = record { store = c.in_ok-store.store; log = c.in_ok-redo.redo; down = false } in
-    let read : IsRead v0 v1 v2 v3 = record { first = c.in_ok-settle.ensures.reads; second = c.in_ok-made.ensures.reads; third = c.in_ok-redo.ensures.reads; settled = c.in_ok-settle.ensures.settled } in
+    let v3 : View = g.D.Disk.view c.read_image.new.disk in
+    let v4 : View = g.D.Disk.view c.read_all.new.disk in
+    let image = c.in_ok-pages in
     let log = c.in_ok-redo.ensures in
-    opened v0 v1 v2 v3 e c.in_ok-redo.entries c.args.rows read refl c.in_ok-store.ensures.ok log.log log.small (λ told. (c.in_ok-made.ensures.made told).0 c.if-not-branch.false) log.found
+    let read : IsRead v0 v1 v2 v3 v4 = record { settle = c.in_ok-settle.ensures.reads; made = c.in_ok-made.ensures.reads; image = image.ensures.reads; log = log.reads; settled = c.in_ok-settle.ensures.settled } in
+    let begins = image.ensures.begins in
+    let base = began image.field-0 begins.0 begins.1 in
+    let held : IsTold v3 → LogHolds (place_of image.field-0.root) c.in_ok-redo.entries c.in_ok-redo.redo v3.seen =
+    λ told. subst (λ (file : Which). LogHolds (record { file = file; end = image.field-0.root.offset }) c.in_ok-redo.entries c.in_ok-redo.redo v3.seen) c.log_file-begins.ensures (log.found told) in
+    let opened =
+    opens v0 v1 v2 v3 v4 read c.in_ok-store.store c.in_ok-redo.redo c.in_ok-next.next image.field-0 c.in_ok-redo.entries c.args.rows c.in_ok-store.ensures.ok log.log log.small
+    (subst (λ (entries : List Entry). NotedBehind image.field-0.root.next entries c.in_ok-next.next) c.as_slice.ensures c.in_ok-next.ensures)
+    (λ told. (c.in_ok-made.ensures.made told).0 c.if-not-branch.false) image.ensures.found held begins.0 base.0 base.1 in
+    subst (λ (e : Logged). Opens e c.args.rows v0 v4) (λ i. record { store = c.in_ok-store.store; files = (sym c.new.ensures) i; begins = (sym c.log_file-begins.ensures) i; saving = None; next = c.in_ok-next.next; down = false }) opened

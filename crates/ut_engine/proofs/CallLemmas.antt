@@ -1,0 +1,74 @@
+-- What the calls of a savepoint serve, by what the calls below them did.
+use Rattle.std.proofs.Common.{◌≡◌, ℕ, ◌≤◌, min, true, Option, None, Ok, Err, refl, sym, subst}
+use Rattle.ut_outside.specs.Disk.{View}
+use Rattle.ut_outside.specs.Faults.{Rose}
+use Rattle.ut_plain.specs.declared.statement.Statement.TheVariants as statements
+use Rattle.ut_plain.specs.declared.reply.Reply.{Reply}
+use Rattle.ut_plain.specs.declared.reply.Reply.TheVariants as replies
+use Rattle.ut_plain.specs.declared.reply.Refusal.TheVariants as refusals
+use Rattle.ut_plain.specs.declared.reply.Why.{Why}
+use Rattle.ut_plain.specs.Plain.{Plain}
+use Rattle.ut_plain.specs.Refusals.{save_why}
+use Rattle.ut_durable.specs.Calls.{Stays}
+use Rattle.ut_durable.specs.Saving.{Saving}
+use Rattle.ut_engine.specs.declared.error.PhaseError.TheVariants as phases
+use Rattle.ut_engine.specs.Logged.{Logged}
+use Rattle.ut_engine.specs.Runs.{Runs}
+use Rattle.ut_engine.specs.Savepoints.{progress_of, told_of, IsCounted, TellsPhase, TellsFlip}
+use Rattle.ut_engine.specs.Saves.{pages_left, Goes, Seals}
+use Rattle.ut_engine.specs.Serves.{Serves}
+use Rattle.ut_engine.proofs.PhaseLemmas.{is_counted}
+use Rattle.ut_engine.proofs.SaveLemmas.{may_fault}
+use Rattle.ut_engine.proofs.WriteLemmas.{written_answer, sealed_answer, serves_lost}
+
+-- ---- which answer tells a reply
+
+pub out_of_turn_told : (why : Why) (saving : Option Saving) → TellsPhase (replies.Refused (refusals.State why)) saving
+out_of_turn_told why saving = (Err (phases.State why), refl)
+
+pub fault_told : (reply : Reply) (saving : Option Saving) → reply ≡ replies.DiskFault → TellsPhase reply saving
+fault_told reply saving is = (Err phases.Disk, sym is)
+
+pub phase_told : (reply : Reply) (saving : Option Saving) → reply ≡ told_of (progress_of saving) → TellsPhase reply saving
+phase_told reply saving is = (Ok tt, sym is)
+
+pub out_of_turn_flip : (why : Why) → TellsFlip (replies.Refused (refusals.State why))
+out_of_turn_flip why = (Err (phases.State why), refl)
+
+pub fault_flip : (reply : Reply) → reply ≡ replies.DiskFault → TellsFlip reply
+fault_flip reply is = (Err phases.Disk, sym is)
+
+pub root_told : (entries : ℕ) → TellsFlip (replies.Root entries)
+root_told entries = (Ok entries, refl)
+
+-- ---- how far it is then can be told
+
+pub written_counted : (old new : Logged) (before after : View) (n : ℕ) (p : Plain) → Runs old before p → save_why p.phase (statements.SaveStep n) ≡ None → Goes (min n (pages_left old.saving)) old before new after → Stays old.files before after → IsCounted new.saving
+written_counted old new before after n p runs none goes stays =
+    let answer = written_answer old before 0 n p runs none new after (told_of (progress_of new.saving)) goes stays refl in
+    is_counted new after answer.plain answer.runs
+
+pub sealed_counted : (old new : Logged) (before after : View) (p : Plain) → Runs old before p → save_why p.phase statements.SaveSeal ≡ None → Seals old before new after → Stays old.files before after → IsCounted new.saving
+sealed_counted old new before after p runs none seals stays =
+    let answer = sealed_answer old before 0 p runs none new after (told_of (progress_of new.saving)) seals stays refl in
+    is_counted new after answer.plain answer.runs
+
+-- ---- where the disk failed
+
+step_flip : (n : ℕ) → statements.SaveStep n ≡ statements.SaveFlip → ⊥
+step_flip n is = cc
+
+seal_flip : statements.SaveSeal ≡ statements.SaveFlip → ⊥
+seal_flip is = cc
+
+pub serves_unwritten : (old new : Logged) (before after : View) (session n : ℕ) (reply : Reply) → ((p : Plain) → Runs old before p → save_why p.phase (statements.SaveStep n) ≡ None) → Stays old.files before after → reply ≡ replies.DiskFault → new.down ≡ true
+    → after.told ≡ before.told → before.faults ≤ after.faults → Rose before.faults after.faults → Serves old before session (statements.SaveStep n) reply new after
+serves_unwritten old new before after session n reply none stays fault down told later rose =
+    subst (λ (r : Reply). Serves old before session (statements.SaveStep n) r new after) (sym fault)
+    (serves_lost old new before after session (statements.SaveStep n) refl (step_flip n) (λ p runs. may_fault p session (statements.SaveStep n) refl (none p runs) refl refl) stays down told later rose)
+
+pub serves_unsealed : (old new : Logged) (before after : View) (session : ℕ) (reply : Reply) → ((p : Plain) → Runs old before p → save_why p.phase statements.SaveSeal ≡ None) → Stays old.files before after → reply ≡ replies.DiskFault → new.down ≡ true
+    → after.told ≡ before.told → before.faults ≤ after.faults → Rose before.faults after.faults → Serves old before session statements.SaveSeal reply new after
+serves_unsealed old new before after session reply none stays fault down told later rose =
+    subst (λ (r : Reply). Serves old before session statements.SaveSeal r new after) (sym fault)
+    (serves_lost old new before after session statements.SaveSeal refl seal_flip (λ p runs. may_fault p session statements.SaveSeal refl (none p runs) refl refl) stays down told later rose)
