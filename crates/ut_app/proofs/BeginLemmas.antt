@@ -1,33 +1,54 @@
 -- How a run begins.
-use Rattle.std.proofs.Common.{ℕ, inl, inr, ◌≡◌, refl, sym, ◌∙◌, subst, arith, IsTrue, Result, Ok, Err}
-use Rattle.std.specs.Prelude.{IsErrOf, IfOk, IfErr}
+use Rattle.std.proofs.Common.{ℕ, inl, inr, ◌≡◌, ◌-◌, refl, sym, ap, ◌∙◌, subst, arith, IsTrue, length, Result, Ok, Err}
+use Rattle.std.specs.Prelude.{take, drop, IsErrOf, IfOk, IfErr}
 use Rattle.ut_outside.specs.Faults.{Rose}
 use Rattle.ut_outside.specs.Disk.{View, Image, IsTold}
 use Rattle.ut_outside.specs.Run.{Always, LeavesOnly, ReadsOnly}
 use Rattle.ut_outside.proofs.RunLemmas.{reads_start}
 use Rattle.ut_pages.specs.Layout.{IsMade}
-use Rattle.ut_plain.specs.Journal.{Journal, empty_journal, journal_len}
-use Rattle.ut_plain.specs.Plain.{new_store, no_savepoint}
+use Rattle.ut_plain.specs.Journal.{Journal, empty_journal, journal_len, after_all, since}
+use Rattle.ut_plain.specs.Plain.{no_image, new_store}
+use Rattle.ut_durable.specs.Bytes.{image_pages}
+use Rattle.ut_durable.specs.Journals.{HoldsJournal, HoldsPrefix}
+use Rattle.ut_durable.proofs.JournalLemmas.{part-all}
 use Rattle.ut_engine.specs.Logged.{Logged}
-use Rattle.ut_engine.specs.Files.{HoldsJournal, HoldsPrefix}
 use Rattle.ut_engine.specs.declared.error.OpenError.{OpenError}
 use Rattle.ut_engine.specs.declared.error.OpenError.TheVariants as errors
 use Rattle.ut_engine.specs.Opening.{MayOnlyRead}
-use Rattle.ut_engine.specs.Runs.{Runs, Opens, NotMadeOrEmpty}
+use Rattle.ut_engine.specs.Runs.{Runs, Opens, opening_of, NotMadeOrEmpty}
 use Rattle.ut_engine.specs.Lent.{Lent}
 use Rattle.ut_engine.specs.Beginning.{disk_left, store_or_cause, Makes, Reopens}
 use Rattle.ut_engine.specs.declared.unopened.Unopened.{Unopened}
 use Rattle.ut_app.specs.declared.begin.Start.{Start}
 use Rattle.ut_app.specs.declared.begin.Start.TheVariants.{New, Open}
-use Rattle.ut_app.specs.Keeping.{Begins, SinceEntry, HoldsRun, NothingPending}
+use Rattle.ut_app.specs.Origin.{Origin, fresh, IsSaid, Begins}
+use Rattle.ut_app.specs.Keeping.{SinceEntry, HoldsRun, NothingPending}
 use Rattle.ut_app.specs.declared.report.Status.{Status}
 use Rattle.ut_app.specs.declared.report.Status.TheVariants.{NoStore, Exists, DiskFault, Damaged, Memory}
 use Rattle.ut_app.specs.Serving.{LosesNothing}
 use Rattle.ut_app.specs.Beginning.{Begun, NotBegun, OpenStatus}
-use Rattle.ut_app.proofs.SayLemmas.{whole}
 
+-- a journal behind its own base is itself
+since_base : (j : Journal) → since j j.base.length ≡ j
+since_base j =
+    let none : j.base.length - j.base.length ≡ 0 = omega arith in
+    ap (λ (n : ℕ). record { base = after_all j.base (take n j.entries); entries = drop n j.entries }) none
+
+-- a whole journal is a prefix of itself
 whole_of : (j : Journal) (c : Image) → HoldsJournal j c → HoldsPrefix j (journal_len j) c
-whole_of j c h = whole j h.end c h.reading
+whole_of j c h = record {
+  from = j.base.length;
+  count = journal_len j;
+  begins = omega arith;
+  within = omega arith;
+  no_fewer = omega arith;
+  no_more = omega arith;
+  holds = subst (λ (k : Journal). HoldsJournal k c) (sym (part-all j j.base.length (omega arith) (omega arith) ∙ since_base j)) h;
+}
+
+-- the files hold the journal that they say
+pub said_journal : (o : Origin) (c : Image) → IsSaid o c → HoldsJournal o.journal c
+said_journal o c s = record { directory = s.directory; end = s.says.end; reading = s.says.reading }
 
 -- while a store is made
 new_run : (c : Image) → NotMadeOrEmpty c → HoldsRun New empty_journal (journal_len empty_journal) c
@@ -35,45 +56,48 @@ new_run c (inl unmade) = inr unmade
 new_run c (inr h) = inl (whole_of empty_journal c h)
 
 none_made : (entry : View) → (IsMade entry.seen.pages → ⊥) → NothingPending entry → Always entry (λ c. IsMade c.pages → ⊥)
-none_made entry unmade nothing c h made = unmade (subst (λ (i : Image). IsMade i.pages) (nothing c h) made)
+none_made entry unmade pends c h made = unmade (subst (λ (i : Image). IsMade i.pages) (pends c h) made)
 
-pub since_made : (entry now : View) → (IsTold entry → Always entry (λ c. IsMade c.pages → ⊥) → LeavesOnly entry now NotMadeOrEmpty) → IsTold entry → (first : Journal) → Begins New first entry.seen → NothingPending entry
-    → SinceEntry New entry now first first
-since_made entry now leaves told first begins nothing =
-    let l = leaves told (none_made entry begins.1 nothing) in
-    record { past = l.later; holds = λ c h. subst (λ (j : Journal). HoldsRun New j (journal_len j) c) (sym begins.0) (new_run c (l.each c h)) }
+pub since_made : (entry now : View) → (IsTold entry → Always entry (λ c. IsMade c.pages → ⊥) → LeavesOnly entry now NotMadeOrEmpty) → IsTold entry → (first : Origin) → Begins New first entry.seen → NothingPending entry
+    → SinceEntry New entry now first.journal first.journal
+since_made entry now leaves told first begins pends =
+    let l = leaves told (none_made entry begins.1 pends) in
+    record { past = l.later; holds = λ c h. subst (λ (o : Origin). HoldsRun New o.journal (journal_len o.journal) c) (sym begins.0) (new_run c (l.each c h)) }
 
 pub since_opened : (entry now : View) → ReadsOnly entry now → (first : Journal) → HoldsJournal first entry.seen → NothingPending entry → SinceEntry Open entry now first first
-since_opened entry now reads first holds nothing =
+since_opened entry now reads first holds pends =
     let l = reads.any_moment in
-    record { past = l.later; holds = λ c h. subst (λ (i : Image). HoldsPrefix first (journal_len first) i) (sym (nothing c (l.each c h))) (whole_of first entry.seen holds) }
+    record { past = l.later; holds = λ c h. subst (λ (i : Image). HoldsPrefix first (journal_len first) i) (sym (pends c (l.each c h))) (whole_of first entry.seen holds) }
 
-pub begun_new : (rows : ℕ) (entry now : View) (e : Logged) → now.told ≡ entry.told → Runs e now (new_store no_savepoint rows) → (IsTold entry → IsMade entry.seen.pages → ⊥)
+pub begun_new : (rows : ℕ) (entry now : View) (e : Logged) → now.told ≡ entry.told → Runs e now (new_store (no_image image_pages) rows) → (IsTold entry → IsMade entry.seen.pages → ⊥)
     → (IsTold entry → Always entry (λ c. IsMade c.pages → ⊥) → LeavesOnly entry now NotMadeOrEmpty) → Begun New rows entry now e
 begun_new rows entry now e same runs unmade leaves = record {
-  first = empty_journal;
+  first = fresh;
   runs = runs;
   begins = λ told. (refl, unmade told);
   kept = λ told. record {
     told = same ∙ told;
     no_more = omega arith;
     acknowledged = tt;
-    since_entry = since_made entry now leaves told empty_journal (refl, unmade told);
+    since_entry = since_made entry now leaves told fresh (refl, unmade told);
   };
 }
 
 pub begun_open : (rows : ℕ) (entry now : View) (e : Logged) → Opens e rows entry now → ReadsOnly entry now → Begun Open rows entry now e
 begun_open rows entry now e opens reads = record {
-  first = opens.journal;
+  first = record { journal = opens.journal; opening = opening_of opens.directory (length opens.reached) };
   runs = opens.runs;
-  begins = opens.said;
+  begins = said;
   kept = λ told. record {
     told = subst IsTrue (sym reads.told) told;
     no_more = omega arith;
     acknowledged = tt;
-    since_entry = since_opened entry now reads opens.journal (opens.said told);
+    since_entry = since_opened entry now reads opens.journal (said_journal _ _ (said told));
   };
 }
+  where
+    said : IsTold entry → IsSaid (record { journal = opens.journal; opening = opening_of opens.directory (length opens.reached) }) entry.seen
+    said told = record { directory = opens.directory; reached = opens.reached; says = opens.said told; opening = refl }
 
 -- ---- where no store could be made or opened
 
@@ -81,14 +105,14 @@ pub loses_opened : (entry now : View) (status : Status) → ReadsOnly entry now 
 loses_opened entry now status reads = record {
   reads = λ told may. reads;
   unbegun = λ memory. reads;
-  since_entry = λ told first begins nothing c h. (since_opened entry now reads first begins nothing).holds c h;
+  since_entry = λ told first begins pends c h. (since_opened entry now reads first.journal (said_journal first entry.seen begins) pends).holds c h;
 }
 
 pub loses_made : (entry now : View) (status : Status) → (IsTold entry → IsMade entry.seen.pages → ReadsOnly entry now) → (status ≡ Memory → ReadsOnly entry now) → (IsTold entry → Always entry (λ c. IsMade c.pages → ⊥) → LeavesOnly entry now NotMadeOrEmpty) → LosesNothing New entry now status
 loses_made entry now status kept unbegun leaves = record {
   reads = kept;
   unbegun = unbegun;
-  since_entry = λ told first begins nothing c h. (since_made entry now leaves told first begins nothing).holds c h;
+  since_entry = λ told first begins pends c h. (since_made entry now leaves told first begins pends).holds c h;
 }
 
 -- nothing was done
@@ -97,7 +121,7 @@ loses_untouched Open v status only = loses_opened v v status (reads_start v only
 loses_untouched New v status only = record {
   reads = λ told made. reads_start v only;
   unbegun = λ memory. reads_start v only;
-  since_entry = λ told first begins nothing c h. inr (λ made. begins.1 (subst (λ (i : Image). IsMade i.pages) (nothing c (only c h)) made));
+  since_entry = λ told first begins pends c h. inr (λ made. begins.1 (subst (λ (i : Image). IsMade i.pages) (pends c (only c h)) made));
 }
 
 -- an answer that is this error

@@ -7,7 +7,6 @@ use Rattle.ut_outside.specs.Faults.{Rose}
 use Rattle.ut_outside.specs.declared.ack.Ack.{Ack}
 use Rattle.ut_outside.specs.Acks.{Acks}
 use Rattle.ut_plain.specs.declared.reply.Reply.TheVariants as replies
-use Rattle.ut_plain.specs.Journal.{Journal}
 use Rattle.ut_plain.specs.Plain.{Plain}
 use Rattle.ut_plain.specs.Transcript.{Answer}
 use Rattle.ut_script.specs.Grammar.{parsed}
@@ -25,7 +24,7 @@ use Rattle.ut_app.specs.declared.tally.Heard.TheVariants as heards
 use Rattle.ut_app.specs.declared.tally.Tally.{Tally}
 use Rattle.ut_app.specs.World.{World}
 use Rattle.ut_app.specs.Plans.{start_of}
-use Rattle.ut_app.specs.Keeping.{Begins}
+use Rattle.ut_app.specs.Origin.{Origin, Begins}
 use Rattle.ut_app.specs.Beginning.{Begun, NotBegun}
 use Rattle.ut_app.specs.Serving.{Served}
 use Rattle.ut_app.specs.Ends.{FitsStore, HasRisen, IsEarly, IsLate}
@@ -185,7 +184,7 @@ bench_completes : (plan : Plan) (before after : World) (status : Status) → (Is
 bench_completes plan before after status kind store cause = record { complete = by status kind store cause }
   where
     by : (status : Status) → (IsReached status ⊎ IsEarly status) → (IsTold before.disk → FitsStore status (start_of plan) before.disk.seen) → HasRisen status before after
-        → IsTold before.disk → (first : Journal) → Begins (start_of plan) first before.disk.seen → (Rose before.writes after.writes → ⊥) → (Rose before.disk.faults after.disk.faults → ⊥) → (status ≡ Done) ⊎ (status ≡ Memory)
+        → IsTold before.disk → (first : Origin) → Begins (start_of plan) first before.disk.seen → (Rose before.writes after.writes → ⊥) → (Rose before.disk.faults after.disk.faults → ⊥) → (status ≡ Done) ⊎ (status ≡ Memory)
     by Done kind store cause told first begins writes faults = inl refl
     by Usage (inl r) store cause told first begins writes faults = absurd r
     by Usage (inr r) store cause told first begins writes faults = absurd r
@@ -195,7 +194,7 @@ bench_completes plan before after status kind store cause = record { complete = 
     by ReadFault (inr r) store cause told first begins writes faults = absurd r
     by WriteFault kind store cause told first begins writes faults = absurd (writes cause)
     by DiskFault kind store cause told first begins writes faults = absurd (faults cause)
-    by Damaged kind store cause told first begins writes faults = let s = store told in absurd (s.2 first (opened_made (start_of plan) before.disk.seen first begins s.0))
+    by Damaged kind store cause told first begins writes faults = let s = store told in absurd (s.2 first.journal (opened_made (start_of plan) before.disk.seen first begins s.0))
     by Memory kind store cause told first begins writes faults = inr refl
     by TooLong (inl r) store cause told first begins writes faults = absurd r
     by TooLong (inr r) store cause told first begins writes faults = absurd r

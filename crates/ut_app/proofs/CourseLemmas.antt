@@ -5,7 +5,7 @@ use Rattle.ut_outside.specs.Faults.{Rose}
 use Rattle.ut_outside.specs.declared.ack.Ack.{Ack}
 use Rattle.ut_plain.specs.declared.statement.Parsed.{Parsed}
 use Rattle.ut_plain.specs.Journal.{journal_len}
-use Rattle.ut_plain.specs.Plain.{Plain, opened_store, no_savepoint}
+use Rattle.ut_plain.specs.Plain.{Plain}
 use Rattle.ut_plain.specs.Transcript.{Answer, AnswersLine, Faults}
 use Rattle.ut_script.specs.Grammar.{parsed}
 use Rattle.ut_engine.specs.Logged.{Logged}
@@ -14,6 +14,7 @@ use Rattle.ut_app.specs.declared.begin.Start.{Start}
 use Rattle.ut_app.specs.declared.report.Status.{Status}
 use Rattle.ut_app.specs.Telling.{Tells, AnswersAll, AnswersToFault}
 use Rattle.ut_app.specs.Saying.{Keeps}
+use Rattle.ut_app.specs.Origin.{opened}
 use Rattle.ut_app.specs.Keeping.{Kept}
 use Rattle.ut_app.specs.Beginning.{Begun}
 use Rattle.ut_app.specs.Serving.{parsed_lines, lengths_of, Course, IsFault, Served}
@@ -38,7 +39,7 @@ pub course-start : (start : Start) (rows : ℕ) (entry now : View) (store : Logg
 course-start start rows entry now store acks journal begun none is =
     subst (λ (ks : List Ack). Course start rows entry now [] [] store ks journal) (sym none) (record {
       first = begun.first;
-      plain = opened_store no_savepoint begun.first rows;
+      plain = opened begun.first rows;
       begins = begun.begins;
       tells = (refl, refl, refl);
       runs = begun.runs;
@@ -50,7 +51,7 @@ course-start start rows entry now store acks journal begun none is =
 pub course-end : (start : Start) (rows : ℕ) (entry now : View) (script : List (List ℕ)) (answers : List Answer) (store : Logged) (acks : List Ack) (journal : ℕ) (status : Status) → (c : Course start rows entry now script answers store acks journal)
     → Served start rows entry now status script answers acks journal c.plain
 course-end start rows entry now script answers store acks journal status c =
-    let all : AnswersAll (opened_store no_savepoint c.first rows) (parsed_lines script) answers (lengths_of acks) journal c.plain = record { tells = c.tells; length_is = c.length_is } in
+    let all : AnswersAll (opened c.first rows) (parsed_lines script) answers (lengths_of acks) journal c.plain = record { tells = c.tells; length_is = c.length_is } in
     record {
       first = c.first;
       begins = c.begins;
@@ -62,7 +63,7 @@ course-end start rows entry now script answers store acks journal status c =
 module _ (start : Start) (rows : ℕ) (entry was now : View) (script : List (List ℕ)) (answers : List Answer) (old new : Logged) (acks acks_now : List Ack) (journal journal_now : ℕ) (line : List ℕ)
     (told : now.told ≡ was.told) (only : OnlyNow now) (counts : CountsNow now) (p : Course start rows entry was script answers old acks journal) where
   abbrev pub first : Plain
-  first = opened_store no_savepoint p.first rows
+  first = opened p.first rows
 
   -- an acknowledgement now
   abbrev pub ack_of : ℕ → Ack
@@ -71,18 +72,18 @@ module _ (start : Start) (rows : ℕ) (entry was now : View) (script : List (Lis
   abbrev pub more : List (List ℕ)
   more = script ++ line ∷ []
 
-  goes : (q : Plain) → GoesOn p.plain.journal q.journal → Keeps was now q.journal (journal_len p.plain.journal) → IsTold entry → Kept start entry now p.first q.journal acks
-  goes q on keeps e = let kept = p.kept e in kept_on start entry was now p.first p.plain.journal q.journal acks on (told ∙ kept.told) (keeps kept.told) kept
+  goes : (q : Plain) → GoesOn p.plain.journal q.journal → Keeps was now q.journal (journal_len p.plain.journal) → IsTold entry → Kept start entry now p.first.journal q.journal acks
+  goes q on keeps e = let kept = p.kept e in kept_on start entry was now p.first.journal p.plain.journal q.journal acks on (told ∙ kept.told) (keeps kept.told) kept
 
-  goes_acked : (q : Plain) → GoesOn p.plain.journal q.journal → Keeps was now q.journal (journal_len p.plain.journal) → Runs new now q → IsTold entry → Kept start entry now p.first q.journal (acks ++ ack_of (journal_len q.journal) ∷ [])
+  goes_acked : (q : Plain) → GoesOn p.plain.journal q.journal → Keeps was now q.journal (journal_len p.plain.journal) → Runs new now q → IsTold entry → Kept start entry now p.first.journal q.journal (acks ++ ack_of (journal_len q.journal) ∷ [])
   goes_acked q on keeps runs e =
       let kept = goes q on keeps e in
-      kept_ack start entry now p.first q.journal acks (journal_len q.journal) (omega arith) (λ c h. runs_whole new now q runs kept.told c (only c h)) kept
+      kept_ack start entry now p.first.journal q.journal acks (journal_len q.journal) (omega arith) (λ c h. runs_whole new now q runs kept.told c (only c h)) kept
 
-  loses_acked : (q : Plain) → GoesOn p.plain.journal q.journal → Keeps was now q.journal (journal_len p.plain.journal) → IsTold entry → Kept start entry now p.first q.journal (acks ++ ack_of (journal_len p.plain.journal) ∷ [])
+  loses_acked : (q : Plain) → GoesOn p.plain.journal q.journal → Keeps was now q.journal (journal_len p.plain.journal) → IsTold entry → Kept start entry now p.first.journal q.journal (acks ++ ack_of (journal_len p.plain.journal) ∷ [])
   loses_acked q on keeps e =
       let l = keeps (p.kept e).told in
-      kept_ack start entry now p.first q.journal acks (journal_len p.plain.journal) (no_shorter p.plain.journal q.journal on) (λ c h. l.each c (counts was.moment c l.later (only c h))) (goes q on keeps e)
+      kept_ack start entry now p.first.journal q.journal acks (journal_len p.plain.journal) (no_shorter p.plain.journal q.journal on) (λ c h. l.each c (counts was.moment c l.later (only c h))) (goes q on keeps e)
 
   -- the lines with one more, and its answer
   tells_one : (a : Answer) (q : Plain) → AnswersLine p.plain (parsed false line) (a ∷ []) q → Tells first (parsed_lines more) (answers ++ a ∷ []) (lengths_of (acks ++ ack_of (journal_len q.journal) ∷ [])) q

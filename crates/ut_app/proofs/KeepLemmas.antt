@@ -1,12 +1,13 @@
 -- What a run keeps, line by line.
-use Rattle.std.proofs.Common.{inl, inr, ℕ, ◌≡◌, ◌≤◌, ◌-◌, ◌⊎◌, List, [], ◌∷◌, ◌++◌, sym, ap, ◌∙◌, subst, arith}
-use Rattle.std.proofs.lemmas.List.{take-append-le, length-append}
+use Rattle.std.proofs.Common.{inl, inr, ℕ, ◌≡◌, ◌≤◌, ◌⊎◌, List, [], ◌∷◌, ◌++◌, sym, ap, subst, arith, append_assoc, append-nil}
+use Rattle.std.proofs.lemmas.List.{length-append}
 use Rattle.ut_outside.specs.Disk.{View, Image, IsTold}
 use Rattle.ut_outside.specs.Run.{LeavesOnly}
 use Rattle.ut_outside.specs.declared.ack.Ack.{Ack}
 use Rattle.ut_value.specs.declared.entry.Entry.{Entry}
-use Rattle.ut_plain.specs.Journal.{Journal, journal_len, prefix}
-use Rattle.ut_engine.specs.Files.{HoldsJournal, HoldsPrefix}
+use Rattle.ut_plain.specs.Journal.{Journal, journal_len, appended}
+use Rattle.ut_durable.specs.Journals.{HoldsPrefix}
+use Rattle.ut_durable.proofs.MomentLemmas.{prefix_of_more, prefix_of_fewer}
 use Rattle.ut_app.specs.declared.begin.Start.{Start}
 use Rattle.ut_app.specs.declared.begin.Start.TheVariants.{New, Open}
 use Rattle.ut_app.specs.Keeping.{IsKept, AreKept, SinceEntry, Kept, HoldsRun, behind}
@@ -16,22 +17,19 @@ pub record GoesOn (j k : Journal) : Type 0 where
   pub more : List Entry
   pub is : k ≡ behind j more
 
-longer : (j : Journal) (more : List Entry) (n : ℕ) → n ≤ journal_len j → prefix (behind j more) n ≡ prefix j n
-longer j more n h = ap (λ es. record j { entries = es }) (take-append-le (n - j.base.length) j.entries more (omega (arith, h)))
-
 pub no_shorter : (j k : Journal) → GoesOn j k → journal_len j ≤ journal_len k
 no_shorter j k g = let e : journal_len k ≡ journal_len (behind j g.more) = ap journal_len g.is in omega (arith, e, length-append j.entries g.more)
 
 pub holds_longer : (j k : Journal) (least : ℕ) (c : Image) → GoesOn j k → HoldsPrefix j least c → HoldsPrefix k least c
-holds_longer j k least c g h = record {
-  count = h.count;
-  no_fewer = h.no_fewer;
-  no_more = let e = no_shorter j k g in omega (arith, e, h.no_more);
-  holds = subst (λ i. HoldsJournal i c) (sym (longer j g.more h.count h.no_more) ∙ ap (λ i. prefix i h.count) (sym g.is)) h.holds;
-}
+holds_longer j k least c g h = subst (λ (i : Journal). HoldsPrefix i least c) (sym g.is) (with_more j g.more h)
+  where
+    with_more : (j : Journal) (more : List Entry) → HoldsPrefix j least c → HoldsPrefix (behind j more) least c
+    with_more j [] h = subst (λ (es : List Entry). HoldsPrefix (record j { entries = es }) least c) (sym (append-nil j.entries)) h
+    with_more j (e ∷ es) h =
+        subst (λ (xs : List Entry). HoldsPrefix (record j { entries = xs }) least c) (append_assoc j.entries (e ∷ []) es) (with_more (appended j e) es (prefix_of_more j e least c h))
 
 holds_less : (j : Journal) (n m : ℕ) (c : Image) → m ≤ n → HoldsPrefix j n c → HoldsPrefix j m c
-holds_less j n m c le h = record { count = h.count; no_fewer = omega (arith, le, h.no_fewer); no_more = h.no_more; holds = h.holds }
+holds_less = prefix_of_fewer
 
 ack_kept : (old new : View) (j k : Journal) (ack : Ack) → GoesOn j k → LeavesOnly old new (HoldsPrefix k (journal_len j)) → IsKept old j ack → IsKept new k ack
 ack_kept old new j k ack g l kept = record {

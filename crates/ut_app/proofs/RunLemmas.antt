@@ -6,13 +6,11 @@ use Rattle.ut_outside.specs.Faults.{Rose}
 use Rattle.ut_outside.proofs.RunLemmas.{reads_start}
 use Rattle.ut_outside.specs.declared.ack.Ack.{Ack}
 use Rattle.ut_outside.specs.declared.ask.Ask.{Ask}
-use Rattle.ut_plain.specs.Journal.{Journal}
-use Rattle.ut_plain.specs.Plain.{opened_store, no_savepoint}
 use Rattle.ut_script.specs.Lines.{Reading, NextLine, StepsLine, AsksFew, Counts}
 use Rattle.ut_script.specs.Grammar.{parsed}
 use Rattle.ut_pages.specs.Layout.{IsMade}
+use Rattle.ut_durable.specs.Journals.{HoldsJournal}
 use Rattle.ut_engine.specs.Logged.{Logged}
-use Rattle.ut_engine.specs.Files.{HoldsJournal}
 use Rattle.ut_words.specs.declared.plan.Plan.{Plan}
 use Rattle.ut_app.specs.declared.begin.Start.{Start}
 use Rattle.ut_app.specs.declared.begin.Start.TheVariants.{New, Open}
@@ -26,7 +24,7 @@ use Rattle.ut_app.specs.World.{World, StreamsStay}
 use Rattle.ut_app.specs.Plans.{start_of}
 use Rattle.ut_app.specs.Script.{all_fit, is_too_long, FitsInput}
 use Rattle.ut_app.specs.Turning.{Turns, TurnCauses, EndStatus}
-use Rattle.ut_app.specs.Keeping.{Begins}
+use Rattle.ut_app.specs.Origin.{Origin, opened, Begins}
 use Rattle.ut_app.specs.Beginning.{Begun, NotBegun}
 use Rattle.ut_app.specs.Asking.{replies_of, AsksInTime}
 use Rattle.ut_app.specs.Serving.{parsed_lines, lengths_of, Answered, IsWritten, DidNothing}
@@ -34,7 +32,7 @@ use Rattle.ut_app.specs.Input.{NoLine}
 use Rattle.ut_app.specs.Ends.{FitsStore, HasRisen, IsEarly, IsLate, Early, Late, IsComplete, Run}
 use Rattle.ut_app.specs.Going.{Going}
 use Rattle.ut_app.proofs.SayLemmas.{OnlyNow}
-use Rattle.ut_app.proofs.BeginLemmas.{loses_untouched}
+use Rattle.ut_app.proofs.BeginLemmas.{said_journal, loses_untouched}
 use Rattle.ut_app.proofs.CourseLemmas.{CountsNow}
 use Rattle.ut_app.proofs.ServeLemmas.{progress-start, progress-more, progress-end, write_end, disk_end}
 use Rattle.ut_app.proofs.AskLemmas.{in_time_read}
@@ -44,7 +42,7 @@ use Rattle.ut_app.proofs.EndsLemmas.{fit_more, reading-start, reading-more, Ends
 
 -- what a run begins with
 abbrev pub BeginsWith : Start → Image → Type 0
-BeginsWith start c = (first : Journal) × Begins start first c
+BeginsWith start c = (first : Origin) × Begins start first c
 
 pub late_fits : (status : Status) (start : Start) (c : Image) → IsLate status → BeginsWith start c → FitsStore status start c
 late_fits Done start c l b = b
@@ -63,20 +61,20 @@ late_words status l e = subst IsLate e l
 
 -- ---- completeness
 
-pub unmade_twice : (start : Start) (c : Image) (first : Journal) → Begins start first c → start ≡ New → IsMade c.pages → ⊥
+pub unmade_twice : (start : Start) (c : Image) (first : Origin) → Begins start first c → start ≡ New → IsMade c.pages → ⊥
 unmade_twice New c first b e made = b.1 made
 unmade_twice Open c first b e made = cc
 
-pub opened_made : (start : Start) (c : Image) (first : Journal) → Begins start first c → start ≡ Open → HoldsJournal first c
+pub opened_made : (start : Start) (c : Image) (first : Origin) → Begins start first c → start ≡ Open → HoldsJournal first.journal c
 opened_made New c first b e = cc
-opened_made Open c first b e = b
+opened_made Open c first b e = said_journal first c b
 
 pub completes : (plan : Plan) (before after : World) (status : Status) → (IsTold before.disk → FitsStore status (start_of plan) before.disk.seen) → FitsInput plan.lines status before.source → HasRisen status before after → (status ≡ Usage → ⊥)
     → IsComplete plan before after status
 completes plan before after status store input cause taken = record { complete = by status store input cause taken }
   where
     by : (status : Status) → (IsTold before.disk → FitsStore status (start_of plan) before.disk.seen) → FitsInput plan.lines status before.source → HasRisen status before after → (status ≡ Usage → ⊥)
-        → IsTold before.disk → (first : Journal) → Begins (start_of plan) first before.disk.seen → (input : List ℕ) → before.source ≡ Some input → is_too_long plan.lines input ≡ false
+        → IsTold before.disk → (first : Origin) → Begins (start_of plan) first before.disk.seen → (input : List ℕ) → before.source ≡ Some input → is_too_long plan.lines input ≡ false
         → (Rose before.reads after.reads → ⊥) → (Rose before.writes after.writes → ⊥) → (Rose before.disk.faults after.disk.faults → ⊥) → (status ≡ Done) ⊎ (status ≡ Memory)
     by Done store input cause taken told first begins bytes is short reads writes faults = inl refl
     by Usage store input cause taken told first begins bytes is short reads writes faults = absurd (taken refl)
@@ -85,7 +83,7 @@ completes plan before after status store input cause taken = record { complete =
     by ReadFault store input cause taken told first begins bytes is short reads writes faults = absurd (reads cause)
     by WriteFault store input cause taken told first begins bytes is short reads writes faults = absurd (writes cause)
     by DiskFault store input cause taken told first begins bytes is short reads writes faults = absurd (faults cause)
-    by Damaged store input cause taken told first begins bytes is short reads writes faults = let s = store told in absurd (s.2 first (opened_made (start_of plan) before.disk.seen first begins s.0))
+    by Damaged store input cause taken told first begins bytes is short reads writes faults = let s = store told in absurd (s.2 first.journal (opened_made (start_of plan) before.disk.seen first begins s.0))
     by Memory store input cause taken told first begins bytes is short reads writes faults = inr refl
     by TooLong store input cause taken told first begins bytes is short reads writes faults = let long = subst (λ (o : Option (List ℕ)). FitsInput plan.lines TooLong o) is input in let no : true ≡ false = sym long ∙ short in cc
 
@@ -192,7 +190,7 @@ asked : (plan : Plan) (before mid : World) (count : ℕ) (lines : Reading) (stor
     → AsksInTime before.source before.sink before.asks (replies_of (parsed_lines g.script) g.progress.answers) now
 asked plan before mid count lines store acks journal now g few =
     let p = g.progress in
-    in_time_read (opened_store no_savepoint p.course.first plan.rows) before.source before.sink before.asks g.script (parsed_lines g.script) p.answers (lengths_of acks) p.course.plain lines mid.source mid.sink mid.marks acks mid.asks now (parsed_count g.script) g.reading p.course.tells p.written p.in_time few
+    in_time_read (opened p.course.first plan.rows) before.source before.sink before.asks g.script (parsed_lines g.script) p.answers (lengths_of acks) p.course.plain lines mid.source mid.sink mid.marks acks mid.asks now (parsed_count g.script) g.reading p.course.tells p.written p.in_time few
 
 -- a line more was answered
 pub going-more : (plan : Plan) (before mid now : World) (count : ℕ) (lines next : Reading) (old new : Logged) (acks acks_now : List Ack) (journal journal_now : ℕ) → Going plan before mid count lines old acks journal

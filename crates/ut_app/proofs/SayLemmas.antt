@@ -1,6 +1,5 @@
 -- What a line comes to.
-use Rattle.std.proofs.Common.{inl, inr, ℕ, zero, suc, ◌≡◌, ◌-◌, ◌⊎◌, Bool, true, false, List, [], ◌∷◌, Option, None, Some, refl, ap, ◌∙◌, sym, subst, arith}
-use Rattle.std.proofs.lemmas.List.{take_all}
+use Rattle.std.proofs.Common.{inl, inr, ℕ, zero, suc, ◌≡◌, ◌⊎◌, Bool, true, false, List, [], ◌∷◌, Option, None, Some, refl, ap, ◌∙◌, sym, subst}
 use Rattle.ut_outside.specs.Disk.{View, Image, IsTold}
 use Rattle.ut_outside.proofs.RunLemmas.{started}
 use Rattle.ut_value.specs.declared.entry.Op.{Op}
@@ -13,7 +12,7 @@ use Rattle.ut_plain.specs.declared.reply.Reply.TheVariants as replies
 use Rattle.ut_plain.specs.declared.reply.Refusal.{Refusal}
 use Rattle.ut_plain.specs.declared.reply.Refusal.TheVariants as refusals
 use Rattle.ut_plain.specs.declared.transaction.OpenTransaction.{OpenTransaction}
-use Rattle.ut_plain.specs.Journal.{Journal, journal_len, prefix}
+use Rattle.ut_plain.specs.Journal.{journal_len}
 use Rattle.ut_plain.specs.Plain.{Plain, Phase, Idle, Writing, Sealed, open_at}
 use Rattle.ut_plain.specs.View.{view}
 use Rattle.ut_plain.specs.Refusals.{refusal}
@@ -23,9 +22,9 @@ use Rattle.ut_plain.specs.Transcript.{Answer, AnswersLine}
 use Rattle.ut_reply.specs.Texts.{reply_text, is_small}
 use Rattle.ut_script.specs.Statements.{needs_memory}
 use Rattle.ut_script.specs.Grammar.{MayLackMemory}
-use Rattle.ut_redo.specs.Appends.{Place}
+use Rattle.ut_durable.specs.Journals.{HoldsPrefix}
+use Rattle.ut_durable.proofs.SavingLemmas.{stored_holds_all}
 use Rattle.ut_engine.specs.Logged.{Logged}
-use Rattle.ut_engine.specs.Files.{IsReading, HoldsPrefix}
 use Rattle.ut_engine.specs.Runs.{Runs}
 use Rattle.ut_engine.specs.Serves.{Serves, IsAnswered, IsLost}
 use Rattle.ut_app.specs.declared.say.Said.{Said}
@@ -37,15 +36,9 @@ use Rattle.ut_app.specs.Saying.{IsText, Whole, Lacking, Keeps, Outcome, Quiet, R
 abbrev pub OnlyNow : View → Type 0
 OnlyNow v = (c : Image) → v.crash_states_since v.moment c → v.crash_states c
 
--- a whole journal is a prefix of itself
-pub whole : (j : Journal) (end : Place) (c : Image) → IsReading j end c → HoldsPrefix j (journal_len j) c
-whole j end c r =
-    let all : prefix j (journal_len j) ≡ j = ap (λ es. record j { entries = es }) (take_all (journal_len j - j.base.length) j.entries (omega arith)) in
-    record { count = journal_len j; no_fewer = omega arith; no_more = omega arith; holds = record { end = end; reading = subst (λ k. IsReading k end c) (sym all) r } }
-
 -- what a running store holds of its files
 pub runs_whole : (e : Logged) (v : View) (p : Plain) → Runs e v p → IsTold v → HoldsWhole v p.journal
-runs_whole e v p runs told c h = whole p.journal e.log c (runs.held told c h)
+runs_whole e v p runs told = (stored_holds_all {D = Unit {0}} (λ (u : Unit {0}). v) p.journal e.files runs.root runs.directory e.saving p.phase tt runs.stored).1 told
 
 -- a store that does nothing keeps all
 pub still : (e : Logged) (v : View) (p : Plain) → OnlyNow v → Runs e v p → Keeps v v p.journal (journal_len p.journal)

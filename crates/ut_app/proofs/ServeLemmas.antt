@@ -7,7 +7,7 @@ use Rattle.ut_outside.specs.declared.ask.Ask.{Ask}
 use Rattle.ut_outside.specs.declared.faults.Failed as fails
 use Rattle.ut_plain.specs.declared.statement.Parsed.{Parsed}
 use Rattle.ut_plain.specs.Journal.{journal_len}
-use Rattle.ut_plain.specs.Plain.{Plain, opened_store, no_savepoint}
+use Rattle.ut_plain.specs.Plain.{Plain}
 use Rattle.ut_plain.specs.Transcript.{Answer, AnswersLine, Faults}
 use Rattle.ut_script.specs.Grammar.{parsed}
 use Rattle.ut_engine.specs.Logged.{Logged}
@@ -23,6 +23,7 @@ use Rattle.ut_app.specs.Asking.{replies_of, AsksInTime}
 use Rattle.ut_app.specs.Saying.{Keeps}
 use Rattle.ut_app.specs.Turning.{Sunk, Noted, Turn, Quiet, Told, Unwritten, Lost, LostUnwritten}
 use Rattle.ut_app.specs.Plans.{start_of}
+use Rattle.ut_app.specs.Origin.{opened}
 use Rattle.ut_app.specs.Beginning.{Begun}
 use Rattle.ut_app.specs.Serving.{parsed_lines, lengths_of, Course, Progress, IsFault, IsWritten, Answered}
 use Rattle.ut_app.proofs.SayLemmas.{OnlyNow}
@@ -87,7 +88,7 @@ module _ (plan : Plan) (before was now : World) (script : List (List ℕ)) (old 
   c = p.course
 
   abbrev first : Plain
-  first = opened_store no_savepoint c.first plan.rows
+  first = opened c.first plan.rows
 
   -- an acknowledgement now
   abbrev ack_of : ℕ → Ack

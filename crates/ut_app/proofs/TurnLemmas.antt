@@ -15,7 +15,7 @@ use Rattle.ut_app.specs.declared.turn.TurnEnd.TheVariants as ends
 use Rattle.ut_app.specs.Writing.{Writes}
 use Rattle.ut_app.specs.Saying.{Says, Outcome, Quiet, Replied, Failed}
 use Rattle.ut_app.specs.Turning as turns
-use Rattle.ut_app.specs.Turning.{Sunk, Noted, with_ack, Turn, Turns}
+use Rattle.ut_app.specs.Turning.{Sunk, with_ack, Turn, Turns}
 
 noted : (acks now : List Ack) (old j jn n m : ℕ) → now ≡ acks ++ record { journal = j; moment = m } ∷ [] → jn ≡ j → j ≡ n → record { acks = now; journal = jn } ≡ with_ack (record { acks = acks; journal = old }) n m
 noted acks now old j jn n m e f h =

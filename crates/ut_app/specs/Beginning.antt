@@ -2,8 +2,6 @@
 use Rattle.std.specs.Prelude.{ℕ, ◌≡◌, []}
 use Rattle.ut_outside.specs.Disk.{View, IsTold}
 use Rattle.ut_outside.specs.Faults.{Rose}
-use Rattle.ut_plain.specs.Journal.{Journal}
-use Rattle.ut_plain.specs.Plain.{opened_store, no_savepoint}
 use Rattle.ut_engine.specs.declared.error.OpenError.{OpenError}
 use Rattle.ut_engine.specs.declared.error.OpenError.TheVariants as errors
 use Rattle.ut_engine.specs.Logged.{Logged}
@@ -11,16 +9,17 @@ use Rattle.ut_engine.specs.Runs.{Runs}
 use Rattle.ut_app.specs.declared.begin.Start.{Start}
 use Rattle.ut_app.specs.declared.report.Status.{Status}
 use Rattle.ut_app.specs.declared.report.Status.TheVariants.{NoStore, Exists, DiskFault, Damaged, Memory}
-use Rattle.ut_app.specs.Keeping.{Begins, Kept}
+use Rattle.ut_app.specs.Origin.{Origin, opened, Begins}
+use Rattle.ut_app.specs.Keeping.{Kept}
 use Rattle.ut_app.specs.Serving.{LosesNothing}
 use Rattle.ut_app.specs.Ends.{FitsStore, IsEarly}
 
 -- the store runs from what it was opened with, for so many rows at most, and nothing was lost on the way
 pub record Begun (start : Start) (rows : ℕ) (entry now : View) (store : Logged) : Type 0 where
-  pub first : Journal
-  pub runs : Runs store now (opened_store no_savepoint first rows)
+  pub first : Origin
+  pub runs : Runs store now (opened first rows)
   pub begins : IsTold entry → Begins start first entry.seen
-  pub kept : IsTold entry → Kept start entry now first first []
+  pub kept : IsTold entry → Kept start entry now first.journal first.journal []
 
 -- why it doesn't, and that nothing was lost
 pub record NotBegun (start : Start) (entry now : View) (status : Status) : Type 0 where

@@ -4,7 +4,6 @@ use Rattle.ut_outside.specs.Disk.{View, IsTold}
 use Rattle.ut_outside.specs.Faults.{Rose}
 use Rattle.ut_outside.specs.declared.ack.Ack.{Ack}
 use Rattle.ut_outside.specs.declared.faults.Failed.{Failed}
-use Rattle.ut_plain.specs.Journal.{Journal}
 use Rattle.ut_plain.specs.Plain.{Plain}
 use Rattle.ut_plain.specs.Transcript.{Answer}
 use Rattle.ut_engine.specs.Logged.{Logged}
@@ -15,7 +14,7 @@ use Rattle.ut_app.specs.declared.report.Status.TheVariants.{Done, Usage, WriteFa
 use Rattle.ut_app.specs.World.{World}
 use Rattle.ut_app.specs.Plans.{start_of}
 use Rattle.ut_app.specs.Writing.{Writes}
-use Rattle.ut_app.specs.Keeping.{Begins}
+use Rattle.ut_app.specs.Origin.{Origin, Begins}
 use Rattle.ut_app.specs.Serving.{Course, Served, EndedEarly}
 use Rattle.ut_app.specs.Ends.{FitsStore, HasRisen, IsEarly}
 use Rattle.ut_store.specs.Held.{Held}
@@ -113,7 +112,7 @@ pub data BenchEnd (plan : Plan) (before after : World) (status : Status) (lines 
 
 -- Where the files are what the run begins with and no count of faults rose, the status is Done or Memory.
 pub record IsWholeBench (plan : Plan) (before after : World) (status : Status) : Type 0 where
-  pub complete : IsTold before.disk → (first : Journal) → Begins (start_of plan) first before.disk.seen → (Rose before.writes after.writes → ⊥) → (Rose before.disk.faults after.disk.faults → ⊥) → (status ≡ Done) ⊎ (status ≡ Memory)
+  pub complete : IsTold before.disk → (first : Origin) → Begins (start_of plan) first before.disk.seen → (Rose before.writes after.writes → ⊥) → (Rose before.disk.faults after.disk.faults → ⊥) → (status ≡ Done) ⊎ (status ≡ Memory)
 
 -- All that holds of a run of the benchmark.
 pub record BenchRun (plan : Plan) (before after : World) (status : Status) (lines : ℕ) (acks : List Ack) (journal : ℕ) : Type 0 where

@@ -5,7 +5,7 @@ use Rattle.ut_outside.specs.Faults.{Rose}
 use Rattle.ut_outside.specs.declared.ack.Ack.{Ack}
 use Rattle.ut_pages.specs.Layout.{IsMade}
 use Rattle.ut_plain.specs.Journal.{Journal}
-use Rattle.ut_engine.specs.Files.{HoldsJournal}
+use Rattle.ut_durable.specs.Journals.{HoldsJournal}
 use Rattle.ut_app.specs.declared.begin.Start.{Start}
 use Rattle.ut_app.specs.declared.begin.Start.TheVariants.{New, Open}
 use Rattle.ut_app.specs.declared.report.Status.{Status}
@@ -14,7 +14,7 @@ use Rattle.ut_words.specs.declared.plan.Plan.{Plan}
 use Rattle.ut_app.specs.World.{World}
 use Rattle.ut_app.specs.Plans.{start_of}
 use Rattle.ut_app.specs.Script.{is_too_long, FitsInput}
-use Rattle.ut_app.specs.Keeping.{Begins}
+use Rattle.ut_app.specs.Origin.{Origin, Begins}
 use Rattle.ut_app.specs.Serving.{Ran, EndedEarly}
 
 -- ---- the store
@@ -27,7 +27,7 @@ FitsStore Damaged start c = (start ≡ Open) × IsMade c.pages × ((j : Journal)
 FitsStore Usage start c = Unit {0}
 FitsStore DiskFault start c = Unit {0}
 FitsStore Memory start c = Unit {0}
-FitsStore _ start c = (first : Journal) × Begins start first c
+FitsStore _ start c = (first : Origin) × Begins start first c
 
 -- ---- the causes
 
@@ -66,7 +66,7 @@ pub data RunEnd (plan : Plan) (before after : World) (status : Status) (lines : 
 
 -- Where the files are what the run begins with, the input keeps to the limits and no count of faults rose, the status is Done or Memory.
 pub record IsComplete (plan : Plan) (before after : World) (status : Status) : Type 0 where
-  pub complete : IsTold before.disk → (first : Journal) → Begins (start_of plan) first before.disk.seen → (input : List ℕ) → before.source ≡ Some input → is_too_long plan.lines input ≡ false
+  pub complete : IsTold before.disk → (first : Origin) → Begins (start_of plan) first before.disk.seen → (input : List ℕ) → before.source ≡ Some input → is_too_long plan.lines input ≡ false
       → (Rose before.reads after.reads → ⊥) → (Rose before.writes after.writes → ⊥) → (Rose before.disk.faults after.disk.faults → ⊥) → (status ≡ Done) ⊎ (status ≡ Memory)
 
 -- All that holds of a run of the source's lines.

@@ -5,19 +5,14 @@ use Rattle.ut_outside.specs.Run.{Always}
 use Rattle.ut_outside.specs.declared.ack.Ack.{Ack}
 use Rattle.ut_pages.specs.Layout.{IsMade}
 use Rattle.ut_value.specs.declared.entry.Entry.{Entry}
-use Rattle.ut_plain.specs.Journal.{Journal, empty_journal, journal_len}
-use Rattle.ut_engine.specs.Files.{HoldsJournal, HoldsPrefix}
+use Rattle.ut_plain.specs.Journal.{Journal, journal_len}
+use Rattle.ut_durable.specs.Journals.{HoldsPrefix}
 use Rattle.ut_app.specs.declared.begin.Start.{Start}
 use Rattle.ut_app.specs.declared.begin.Start.TheVariants.{New, Open}
 
 -- nothing is pending on a disk: a crash leaves what a read returns
 abbrev pub NothingPending : View → Type 0
 NothingPending disk = Always disk (λ c. c ≡ disk.seen)
-
--- the journal that a run begins with: the empty one of a store that isn't made yet, or that of the files
-abbrev pub Begins : Start → Journal → Image → Type 0
-Begins New j c = (j ≡ empty_journal) × (IsMade c.pages → ⊥)
-Begins Open j c = HoldsJournal j c
 
 -- what files hold of a run that began with so many entries: a prefix of its journal with all of these, or while the store is made no store yet
 abbrev pub HoldsRun : Start → Journal → ℕ → Image → Type 0

@@ -5,6 +5,7 @@ pub mod Writing
 pub mod Telling
 pub mod Asking
 pub mod Saying
+pub mod Origin
 pub mod Keeping
 pub mod Turning
 pub mod Serving

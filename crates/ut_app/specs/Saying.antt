@@ -13,9 +13,9 @@ use Rattle.ut_plain.specs.Plain.{Plain}
 use Rattle.ut_plain.specs.Spelled.{is_spelled}
 use Rattle.ut_plain.specs.Transcript.{Answer, AnswersLine, Faults}
 use Rattle.ut_store.specs.Standing.{suits_session}
+use Rattle.ut_durable.specs.Journals.{HoldsPrefix}
 use Rattle.ut_reply.specs.Texts.{reply_text, reply_room, is_small}
 use Rattle.ut_engine.specs.Logged.{Logged}
-use Rattle.ut_engine.specs.Files.{HoldsPrefix}
 use Rattle.ut_engine.specs.Runs.{Runs}
 use Rattle.ut_app.specs.declared.say.Said.{Said}
 use Rattle.ut_app.specs.declared.say.Said.TheVariants as saids

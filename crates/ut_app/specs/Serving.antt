@@ -6,8 +6,8 @@ use Rattle.ut_outside.specs.Run.{ReadsOnly}
 use Rattle.ut_outside.specs.declared.ack.Ack.{Ack}
 use Rattle.ut_pages.specs.Layout.{IsMade}
 use Rattle.ut_plain.specs.declared.statement.Parsed.{Parsed}
-use Rattle.ut_plain.specs.Journal.{Journal, journal_len}
-use Rattle.ut_plain.specs.Plain.{Plain, opened_store, no_savepoint}
+use Rattle.ut_plain.specs.Journal.{journal_len}
+use Rattle.ut_plain.specs.Plain.{Plain}
 use Rattle.ut_plain.specs.Transcript.{Answer, Transcript}
 use Rattle.ut_script.specs.Grammar.{parsed}
 use Rattle.ut_engine.specs.Logged.{Logged}
@@ -23,7 +23,8 @@ use Rattle.ut_app.specs.Script.{all_fit, ReadsInput}
 use Rattle.ut_app.specs.Telling.{Tells, AnswersAll, AnswersToFault}
 use Rattle.ut_app.specs.Writing.{HasWritten, HasFront}
 use Rattle.ut_app.specs.Asking.{replies_of, AsksInTime}
-use Rattle.ut_app.specs.Keeping.{Begins, Kept, HoldsRun, HoldsWhole, NothingPending}
+use Rattle.ut_app.specs.Origin.{Origin, opened, Begins}
+use Rattle.ut_app.specs.Keeping.{Kept, HoldsRun, HoldsWhole, NothingPending}
 
 -- lines as the grammar reads them
 abbrev pub parsed_lines : List (List ℕ) → List Parsed
@@ -35,12 +36,12 @@ lengths_of acks = map (λ (a : Ack). a.journal) acks
 
 -- These lines were answered so one after the other, with so many rows at most; what was acknowledged and kept meanwhile.
 pub record Course (start : Start) (rows : ℕ) (entry now : View) (script : List (List ℕ)) (answers : List Answer) (store : Logged) (acks : List Ack) (journal : ℕ) : Type 0 where
-  pub first : Journal
+  pub first : Origin
   pub plain : Plain
   pub begins : IsTold entry → Begins start first entry.seen
-  pub tells : Tells (opened_store no_savepoint first rows) (parsed_lines script) answers (lengths_of acks) plain
+  pub tells : Tells (opened first rows) (parsed_lines script) answers (lengths_of acks) plain
   pub runs : Runs store now plain
-  pub kept : IsTold entry → Kept start entry now first plain.journal acks
+  pub kept : IsTold entry → Kept start entry now first.journal plain.journal acks
   pub length_is : journal ≡ journal_len plain.journal
 
 -- and what was written
@@ -74,14 +75,14 @@ pub record LastFaulted (p : Plain) (script : List (List ℕ)) (answers : List An
 
 -- What was answered to these lines, acknowledged and kept, and the state after them.
 pub record Served (start : Start) (rows : ℕ) (entry now : View) (status : Status) (script : List (List ℕ)) (answers : List Answer) (acks : List Ack) (journal : ℕ) (plain : Plain) : Type 0 where
-  -- the journal at the entry
-  pub first : Journal
+  -- the journal at the entry, and what the store was opened with beside it
+  pub first : Origin
   pub begins : IsTold entry → Begins start first entry.seen
-  pub transcript : Transcript (opened_store no_savepoint first rows) (parsed_lines script) answers plain
+  pub transcript : Transcript (opened first rows) (parsed_lines script) answers plain
   -- one acknowledgement for each answer, with the length of the journal after its line, or before it where the disk failed
-  pub ended : AllAnswered (opened_store no_savepoint first rows) script answers acks journal plain now
-      ⊎ LastFaulted (opened_store no_savepoint first rows) script answers acks journal plain entry now status
-  pub kept : IsTold entry → Kept start entry now first plain.journal acks
+  pub ended : AllAnswered (opened first rows) script answers acks journal plain now
+      ⊎ LastFaulted (opened first rows) script answers acks journal plain entry now status
+  pub kept : IsTold entry → Kept start entry now first.journal plain.journal acks
 
 -- and what was written
 pub record Answered (plan : Plan) (before after : World) (status : Status) (script : List (List ℕ)) (acks : List Ack) (journal : ℕ) : Type 0 where
@@ -110,7 +111,7 @@ MayOnlyRead New c = IsMade c.pages
 pub record LosesNothing (start : Start) (entry now : View) (status : Status) : Type 0 where
   pub reads : IsTold entry → MayOnlyRead start entry.seen → ReadsOnly entry now
   pub unbegun : status ≡ statuses.Memory → ReadsOnly entry now
-  pub since_entry : IsTold entry → (first : Journal) → Begins start first entry.seen → NothingPending entry → (c : Image) → now.crash_states_since entry.moment c → HoldsRun start first (journal_len first) c
+  pub since_entry : IsTold entry → (first : Origin) → Begins start first entry.seen → NothingPending entry → (c : Image) → now.crash_states_since entry.moment c → HoldsRun start first.journal (journal_len first.journal) c
 
 -- The run ended before a line was read, and no store was opened: only the disk was asked.
 pub record EndedEarly (start : Start) (before after : World) (status : Status) (lines : ℕ) (acks : List Ack) (journal : ℕ) : Type 0 where
