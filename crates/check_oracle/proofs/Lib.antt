@@ -6,3 +6,7 @@ pub mod ShapeLemmas
 pub mod MergeLemmas
 pub mod NeededLemmas
 pub mod ReplayLemmas
+pub mod MeasureLemmas
+pub mod SaveLemmas
+pub mod OracleLemmas
+pub mod HeldLemmas

@@ -1,11 +1,10 @@
 -- Merges into main: one begins where it may, or is refused.
-use Rattle.std.proofs.Common.{◌≡◌, ℕ, ◌<◌, Bool, true, false, ◌&&◌, nat_lt, List, length, get_or, Option, None, Some, refl, sym, ap, ◌∙◌, subst}
+use Rattle.std.proofs.Common.{◌≡◌, ℕ, ◌<◌, Bool, true, false, ◌&&◌, nat_lt, List, length, get_or, None, sym, ap, ◌∙◌, subst}
 use Rattle.ut_value.specs.declared.entry.MergeKind.{MergeKind}
 use Rattle.ut_plain.specs.declared.table.Table.{Table}
 use Rattle.ut_plain.specs.declared.stage.TableStages.{TableStages}
 use Rattle.ut_plain.specs.declared.statement.Statement.TheVariants.{MergeBegin}
 use Rattle.ut_plain.specs.declared.reply.Reply.{Reply}
-use Rattle.ut_plain.specs.declared.reply.Refusal.{Refusal}
 use Rattle.ut_plain.specs.declared.reply.Refusal.TheVariants as refusals
 use Rattle.ut_plain.specs.Tables.{place_in}
 use Rattle.ut_plain.specs.Journal.{current}

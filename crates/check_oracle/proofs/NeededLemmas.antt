@@ -1,20 +1,19 @@
 -- Which rows somebody needs, told by the ids of rows that were worked out.
-use Rattle.std.proofs.Common.{◌≡◌, ℕ, ◌+◌, ◌-◌, Bool, true, false, ◌||◌, nat_eq, List, [], ◌∷◌, ◌++◌, ◌<◌, length, get_or, map, take, Option, None, Some, refl, sym, ap, ◌∙◌, arith}
+use Rattle.std.proofs.Common.{◌≡◌, ℕ, Bool, true, false, ◌||◌, nat_eq, List, [], ◌++◌, ◌<◌, length, get_or, map, Option, None, Some, refl, sym, ap, ◌∙◌}
 use Rattle.std.proofs.lemmas.List.Folds.{list_any-append}
 use Rattle.std.specs.Ordering.{nat_cmp}
-use Rattle.std.specs.Cmp.{nat_cmp_total, unsigned_tied}
+use Rattle.std.specs.Cmp.{unsigned_tied}
 use Rattle.std.specs.Option.{is_some, unwrap_or}
 use Rattle.std.proofs.lemmas.Option.{slice_get_read}
 use Rattle.std.specs.List.{list_any}
 use Rattle.std.specs.FinMap as finmap
 use Rattle.std.specs.FinMap.Entries.{is_some-find}
 use Rattle.ut_value.specs.declared.entry.Op.{Op}
-use Rattle.ut_value.specs.declared.entry.Entry.{Entry}
 use Rattle.ut_plain.specs.declared.table.Stored.{Stored}
 use Rattle.ut_plain.specs.declared.transaction.OpenTransaction.{OpenTransaction}
 use Rattle.ut_plain.specs.Rows.{Rows, with_ops, ops_at}
-use Rattle.ut_plain.specs.State.{empty_state}
-use Rattle.ut_plain.specs.Journal.{after_all}
+use Rattle.ut_plain.specs.State.{State}
+use Rattle.ut_plain.specs.Journal.{Journal, state_at}
 use Rattle.ut_plain.specs.Merges.{open_needs}
 use Rattle.ut_plain.specs.Plain.{Sessions, open_at}
 use Rattle.ut_plain.proofs.RowLaws.{get-with_ops}
@@ -45,21 +44,24 @@ or_false : (a : Bool) → (a || false) ≡ a
 or_false true = refl
 or_false false = refl
 
+-- these are the ids of what is there
+pub there_now : (s : State) (rows : List (ℕ × Stored)) (ids : List ℕ) → rows ≡ finmap.entries s.rows → ids ≡ ids_of rows → (id : ℕ) → list_any (nat_eq id) ids ≡ is_some (finmap.get s.rows id)
+there_now s rows ids r i id = ap (list_any (nat_eq id)) i ∙ ap (λ rows. list_any (nat_eq id) (ids_of rows)) r ∙ there-entries s.rows id
+
 -- the ids of what is there
-pub needed-first : (es : List Entry) (rows : List (ℕ × Stored)) (ids : List ℕ) → rows ≡ finmap.entries (after_all empty_state es).rows → ids ≡ ids_of rows → (id : ℕ) → list_any (nat_eq id) ids ≡ (is_some (finmap.get (after_all empty_state es).rows id) || false)
-needed-first es rows ids r i id = ap (list_any (nat_eq id)) i ∙ ap (λ rows. list_any (nat_eq id) (ids_of rows)) r ∙ there-entries (after_all empty_state es).rows id ∙ sym (or_false (is_some (finmap.get (after_all empty_state es).rows id)))
+pub needed-first : (s : State) (rows : List (ℕ × Stored)) (ids : List ℕ) → rows ≡ finmap.entries s.rows → ids ≡ ids_of rows → (id : ℕ) → list_any (nat_eq id) ids ≡ (is_some (finmap.get s.rows id) || false)
+needed-first s rows ids r i id = there_now s rows ids r i id ∙ sym (or_false (is_some (finmap.get s.rows id)))
 
 -- the transaction at a place that is there
 pub open_read : (sessions : Sessions) (i : ℕ) (o : Option OpenTransaction) → i < length sessions → o ≡ get_or sessions i o → open_at sessions i ≡ o
 open_read sessions i o h e = ap (λ x. unwrap_or x None) (slice_get_read sessions (length sessions) i o refl h e)
 
 -- the ids of what an open transaction needs were added
-pub needed-more : (es : List Entry) (t : OpenTransaction) (old new : List ℕ) (then own : List (ℕ × Stored)) → then ≡ finmap.entries (after_all empty_state (take t.snapshot es)).rows → own ≡ listed_all [] t.ops → new ≡ (old ++ ids_of then) ++ ids_of own
-    → (id : ℕ) → list_any (nat_eq id) new ≡ (list_any (nat_eq id) old || open_needs (record { base = empty_state; entries = es }) id (Some t))
-needed-more es t old new then own th ow n id =
-    let whole : t.snapshot ≡ t.snapshot - 0 = omega arith in
+pub needed-more : (j : Journal) (t : OpenTransaction) (old new : List ℕ) (then own : List (ℕ × Stored)) → then ≡ finmap.entries (state_at j t.snapshot).rows → own ≡ listed_all [] t.ops → new ≡ (old ++ ids_of then) ++ ids_of own
+    → (id : ℕ) → list_any (nat_eq id) new ≡ (list_any (nat_eq id) old || open_needs j id (Some t))
+needed-more j t old new then own th ow n id =
     let has = λ (ids : List ℕ). list_any (nat_eq id) ids in
-    let a : has (ids_of then) ≡ is_some (finmap.get (after_all empty_state (take (t.snapshot - 0) es)).rows id) = ap (λ rows. has (ids_of rows)) th ∙ there-entries (after_all empty_state (take t.snapshot es)).rows id ∙ ap (λ n. is_some (finmap.get (after_all empty_state (take n es)).rows id)) whole in
+    let a : has (ids_of then) ≡ is_some (finmap.get (state_at j t.snapshot).rows id) = ap (λ rows. has (ids_of rows)) th ∙ there-entries (state_at j t.snapshot).rows id in
     let b : has (ids_of own) ≡ is_some (ops_at id t.ops None) = ap (λ rows. has (ids_of rows)) ow ∙ there-own t.ops id in
     ap has n ∙ list_any-append (nat_eq id) (old ++ ids_of then) (ids_of own) ∙ ap (λ x. x || has (ids_of own)) (list_any-append (nat_eq id) old (ids_of then)) ∙ or_or (has old) (has (ids_of then)) (has (ids_of own)) ∙ (λ i. has old || (a i || b i))
 

@@ -1,5 +1,5 @@
 -- What a session sees is worked out from the entries, and has no more rows than there are ids.
-use Rattle.std.proofs.Common.{◌≡◌, ℕ, zero, suc, ◌+◌, ◌-◌, ◌<◌, ◌≤◌, max, not, nat_eq, List, [], ◌∷◌, length, take, Option, None, Some, sym, ap, ◌∙◌, arith}
+use Rattle.std.proofs.Common.{◌≡◌, ℕ, zero, suc, ◌+◌, ◌-◌, ◌<◌, ◌≤◌, max, not, nat_eq, List, [], ◌∷◌, length, take, Option, None, Some, sym, ap, ◌∙◌, subst, arith}
 use Rattle.std.specs.Ordering.{nat_cmp}
 use Rattle.std.specs.declared.cmp.Ordering.TheVariants.{Less, Equal, Greater}
 use Rattle.std.specs.List.{sum_by}
@@ -14,15 +14,18 @@ use Rattle.ut_plain.specs.declared.table.Stored.{Stored}
 use Rattle.ut_plain.specs.declared.transaction.OpenTransaction.{OpenTransaction}
 use Rattle.ut_plain.specs.Rows.{Rows, with_ops, op_inserts, inserts_of}
 use Rattle.ut_plain.specs.State.{State, empty_state, after, entry_inserts}
-use Rattle.ut_plain.specs.Journal.{Journal, after_all, load_of, empty_journal}
+use Rattle.ut_plain.specs.declared.stage.Progress.TheVariants as steps
+use Rattle.ut_plain.specs.Capture.{Directory}
+use Rattle.ut_plain.specs.Progress.{phase_of}
+use Rattle.ut_plain.specs.Journal.{Journal, after_all, journal_len, current, state_at, load_of, empty_journal}
+use Rattle.ut_plain.proofs.JournalLaws.{after_all-length}
 use Rattle.ut_plain.specs.Stages.{Stages}
-use Rattle.ut_plain.specs.Plain.{no_savepoint, Plain, Sessions, Idle, new_store, no_sessions, open_at, open_inserts, inserts_open, seen_by, seen}
+use Rattle.ut_plain.specs.Plain.{no_savepoint, Plain, Sessions, new_store, no_sessions, open_at, open_inserts, inserts_open, seen_by, seen}
 use Rattle.ut_plain.specs.Reached.{IsPlain}
 use Rattle.check_rows.specs.declared.known.Known.{Known}
-use Rattle.check_oracle.specs.declared.held.Held.{Held}
 use Rattle.check_rows.specs.Listed.{listed, listed_all}
 use Rattle.check_rows.specs.Known.{IsKnown}
-use Rattle.check_oracle.specs.Store.{plain_of, IsSight}
+use Rattle.check_oracle.specs.Store.{IsSight}
 use Rattle.check_rows.proofs.FilterLemmas.{length-filter_le}
 use Rattle.check_rows.proofs.ListedLemmas.{entries-with_ops}
 
@@ -31,9 +34,23 @@ use Rattle.check_rows.proofs.ListedLemmas.{entries-with_ops}
 first_id : 1 ≡ max 1 (load_of empty_journal + 1)
 first_id = omega (arith, finmap.len-empty nat_cmp Stored)
 
-pub plain_new : (es : List Entry) (sessions : Sessions) (limit : ℕ) (stages : Stages) → es ≡ [] → sessions ≡ no_sessions → stages ≡ []
-    → record { journal = record { base = empty_state; entries = es }; opening = 0; sessions = sessions; next_id = 1; rows_limit = limit; pending = None; phase = Idle; image_pages = no_savepoint.image_pages; root_pages = 0; stages = stages } ≡ new_store no_savepoint limit
-plain_new es sessions limit stages e s t = λ i. record (new_store no_savepoint limit) { journal = record { base = empty_state; entries = e i }; sessions = s i; next_id = first_id i; stages = t i }
+pub plain_new : (first es : List Entry) (sessions : Sessions) (limit captured : ℕ) (image : Directory) (stages : Stages) → first ≡ [] → es ≡ [] → sessions ≡ no_sessions → stages ≡ []
+    → record { journal = record { base = after_all empty_state first; entries = es }; opening = 0; sessions = sessions; next_id = 1; rows_limit = limit; pending = None; phase = phase_of steps.Idle captured image; image_pages = no_savepoint.image_pages; root_pages = 0; stages = stages } ≡ new_store no_savepoint limit
+plain_new first es sessions limit captured image stages f e s t = λ i. record (new_store no_savepoint limit) { journal = record { base = after_all empty_state (f i); entries = e i }; sessions = s i; next_id = first_id i; stages = t i }
+
+-- the base has the length of its entries
+pub base_len : (first : List Entry) → (after_all empty_state first).length ≡ length first
+base_len first = omega (arith, after_all-length empty_state first)
+
+-- what was worked out of the entries is the state of their journal
+pub known_now : (first es fs gs : List Entry) (known : Known) → fs ≡ first → gs ≡ es → IsKnown known (after_all (after_all empty_state fs) gs) → IsKnown known (after_all (after_all empty_state first) es)
+known_now first es fs gs known f g k = subst (λ (s : State). IsKnown known s) (λ i. after_all (after_all empty_state (f i)) (g i)) k
+
+-- and so is what was worked out of those up to a place
+pub known_at : (first es fs gs : List Entry) (count behind : ℕ) (known : Known) → behind ≡ count - length first → fs ≡ first → gs ≡ take behind es → IsKnown known (after_all (after_all empty_state fs) gs) → IsKnown known (state_at (record { base = after_all empty_state first; entries = es }) count)
+known_at first es fs gs count behind known n f g k =
+    let same : behind ≡ count - (after_all empty_state first).length = omega (arith, n, base_len first) in
+    known_now first (take (count - (after_all empty_state first).length) es) fs gs known f (g ∙ ap (λ n. take n es) same) k
 
 -- ---- how many rows there are
 
@@ -89,21 +106,19 @@ few_seen p session h =
 
 -- ---- what was worked out is what is seen
 
-pub seen_rows : (es : List Entry) (t : OpenTransaction) (rows : List (ℕ × Stored)) (known : Known) → IsKnown known (after_all empty_state (take t.snapshot es)) → rows ≡ listed_all known.rows.items t.ops → rows ≡ finmap.entries (seen_by (record { base = empty_state; entries = es }) (Some t))
-seen_rows es t rows known k r =
-    let whole : t.snapshot ≡ t.snapshot - 0 = omega arith in
-    r ∙ ap (λ x. listed_all x t.ops) k.rows ∙ sym (entries-with_ops (after_all empty_state (take t.snapshot es)).rows t.ops) ∙ ap (λ n. finmap.entries (with_ops (after_all empty_state (take n es)).rows t.ops)) whole
+pub seen_rows : (j : Journal) (t : OpenTransaction) (rows : List (ℕ × Stored)) (known : Known) → IsKnown known (state_at j t.snapshot) → rows ≡ listed_all known.rows.items t.ops → rows ≡ finmap.entries (seen_by j (Some t))
+seen_rows j t rows known k r = r ∙ ap (λ x. listed_all x t.ops) k.rows ∙ sym (entries-with_ops (state_at j t.snapshot).rows t.ops)
 
-pub sight_is : (h : Held) (session : ℕ) (now sight : Known) (o : Option OpenTransaction) → IsPlain (plain_of h) → open_at h.sessions.items session ≡ o → IsKnown now (after_all empty_state h.entries.items) → now.commits ≤ length h.entries.items
-    → now.merges ≤ length h.entries.items → sight.tables.items ≡ now.tables.items → sight.commits ≡ now.commits → sight.merges ≡ now.merges → sight.rows.items ≡ finmap.entries (seen_by (plain_of h).journal o) → IsSight sight (plain_of h) session
-sight_is h session now sight o plain own k n m t c d r =
-    let rows : sight.rows.items ≡ finmap.entries (seen (plain_of h) session) = r ∙ ap (λ o. finmap.entries (seen_by (plain_of h).journal o)) (sym own) in
+pub sight_is : (p : Plain) (session : ℕ) (now sight : Known) (o : Option OpenTransaction) → IsPlain p → open_at p.sessions session ≡ o → IsKnown now (current p.journal) → now.commits ≤ journal_len p.journal
+    → now.merges ≤ journal_len p.journal → sight.tables.items ≡ now.tables.items → sight.commits ≡ now.commits → sight.merges ≡ now.merges → sight.rows.items ≡ finmap.entries (seen_by p.journal o) → IsSight sight p session
+sight_is p session now sight o plain own k n m t c d r =
+    let rows : sight.rows.items ≡ finmap.entries (seen p session) = r ∙ ap (λ o. finmap.entries (seen_by p.journal o)) (sym own) in
     record {
       tables = t ∙ k.tables;
       rows = rows;
       commits = c ∙ k.commits;
       merges = d ∙ k.merges;
-      few = let few = few_seen (plain_of h) session plain in omega (arith, few, ap length rows);
+      few = let few = few_seen p session plain in omega (arith, few, ap length rows);
       counted = let short = plain.short in omega (arith, short, n, c);
       merged = let short = plain.short in omega (arith, short, m, d);
     }

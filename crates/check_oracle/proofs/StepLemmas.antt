@@ -5,20 +5,19 @@ use Rattle.ut_value.specs.declared.value.Value.{Value}
 use Rattle.ut_value.specs.declared.entry.Op.{Op}
 use Rattle.ut_plain.specs.declared.statement.Pred.{Pred}
 use Rattle.ut_plain.specs.declared.statement.Statement.{Statement}
-use Rattle.ut_plain.specs.declared.statement.Statement.TheVariants as statements
 use Rattle.ut_plain.specs.declared.statement.Statement.TheVariants.{Insert, Bulk, Update, Delete, Commit}
 use Rattle.ut_plain.specs.declared.reply.Reply.{Reply}
 use Rattle.ut_plain.specs.declared.reply.Refusal.{Refusal}
 use Rattle.ut_plain.specs.declared.reply.Refusal.TheVariants as refusals
 use Rattle.ut_plain.specs.Journal.{current}
-use Rattle.ut_plain.specs.Plain.{Plain, Phase, Idle, Writing, Sealed, open_at}
+use Rattle.ut_plain.specs.Plain.{Plain, open_at}
 use Rattle.ut_plain.specs.View.{View, view, own_ops}
 use Rattle.ut_plain.specs.Limits.{has_commit_room}
 use Rattle.ut_plain.specs.declared.transaction.OpenTransaction.{OpenTransaction}
 use Rattle.ut_plain.specs.Made.{made, changes}
 use Rattle.ut_plain.specs.Names.{names_known}
 use Rattle.ut_plain.specs.Kinds.{kinds_fit}
-use Rattle.ut_plain.specs.Refusals.{is_supported, state_why, merge_why, save_why, unless, or_else, conflict, refusal}
+use Rattle.ut_plain.specs.Refusals.{state_why, merge_why, save_why, unless, or_else, conflict, refusal}
 use Rattle.ut_plain.specs.Step.{Stepped, step, step_by, effect_of, committed, committed_by}
 use Rattle.check_rows.specs.declared.known.Known.{Known}
 use Rattle.check_oracle.specs.Store.{Gives, Allowed, early, late, refuses, change_by, change_step}
@@ -29,47 +28,18 @@ or_else_else : (a b c : Option Refusal) → or_else a (or_else b c) ≡ or_else 
 or_else_else None b c = refl
 or_else_else (Some why) b c = refl
 
--- a statement that is there does not ask how far a savepoint is
-no_save : (phase : Phase) (st : Statement) → is_supported st ≡ true → save_why phase st ≡ None
-no_save Idle (statements.SaveStep n) h = cc
-no_save Idle statements.SaveSeal h = cc
-no_save Idle statements.SaveFlip h = cc
-no_save Idle statements.SaveDrop h = cc
-no_save Idle _ h = refl
-no_save (Writing captured done pages image) statements.SaveBegin h = cc
-no_save (Writing captured done pages image) (statements.SaveStep n) h = cc
-no_save (Writing captured done pages image) statements.SaveSeal h = cc
-no_save (Writing captured done pages image) statements.SaveFlip h = cc
-no_save (Writing captured done pages image) _ h = refl
-no_save (Sealed captured pages image) statements.SaveBegin h = cc
-no_save (Sealed captured pages image) (statements.SaveStep n) h = cc
-no_save (Sealed captured pages image) statements.SaveSeal h = cc
-no_save (Sealed captured pages image) _ h = refl
-
-without_save : (phase : Phase) (st : Statement) (a b c d late : Option Refusal)
-    → or_else (unless (is_supported st) refusals.Syntax) (or_else a (or_else b (or_else c (or_else d (or_else (option_map refusals.State (save_why phase st)) late)))))
-    ≡ or_else (unless (is_supported st) refusals.Syntax) (or_else a (or_else b (or_else c (or_else d late))))
-without_save phase st a b c d late = by (is_supported st) refl
-  where
-    by : (t : Bool) → is_supported st ≡ t
-        → or_else (unless t refusals.Syntax) (or_else a (or_else b (or_else c (or_else d (or_else (option_map refusals.State (save_why phase st)) late)))))
-        ≡ or_else (unless t refusals.Syntax) (or_else a (or_else b (or_else c (or_else d late))))
-    by true is = λ i. or_else a (or_else b (or_else c (or_else d (or_else (option_map refusals.State (no_save phase st is i)) late))))
-    by false is = refl
-
-refusal_parts : (v : View) (st : Statement) → refusal v st ≡ or_else (early v.tables (is_some v.own) v.pending st) (late v st)
+refusal_parts : (v : View) (st : Statement) → refusal v st ≡ or_else (early v.tables (is_some v.own) v.pending v.phase st) (late v st)
 refusal_parts v st =
-    let a = unless (is_supported st) refusals.Syntax in
-    let b = unless (names_known v.tables st) refusals.Name in
-    let c = unless (kinds_fit v.tables st) refusals.Kind in
-    let d = option_map refusals.State (state_why (is_some v.own) st) in
-    let e = option_map refusals.State (merge_why v.pending st) in
-    without_save v.phase st b c d e (late v st)
-    ∙ ap (λ x. or_else a (or_else b (or_else c x))) (or_else_else d e (late v st)) ∙ ap (λ x. or_else a (or_else b x)) (or_else_else c (or_else d e) (late v st)) ∙ ap (or_else a) (or_else_else b (or_else c (or_else d e)) (late v st))
+    let a = unless (names_known v.tables st) refusals.Name in
+    let b = unless (kinds_fit v.tables st) refusals.Kind in
+    let c = option_map refusals.State (state_why (is_some v.own) st) in
+    let d = option_map refusals.State (merge_why v.pending st) in
+    let e = option_map refusals.State (save_why v.phase st) in
+    ap (λ x. or_else a (or_else b (or_else c x))) (or_else_else d e (late v st)) ∙ ap (λ x. or_else a (or_else b x)) (or_else_else c (or_else d e) (late v st)) ∙ ap (or_else a) (or_else_else b (or_else c (or_else d e)) (late v st))
     ∙ or_else_else a (or_else b (or_else c (or_else d e))) (late v st)
 
 -- a statement that an early refusal meets
-pub gives_early : (p : Plain) (session : ℕ) (st : Statement) (why : Refusal) (reply : Reply) (q : Plain) → early (current p.journal).tables (is_some (open_at p.sessions session)) p.pending st ≡ Some why → Gives (refuses p why) reply q → Gives (step p session st) reply q
+pub gives_early : (p : Plain) (session : ℕ) (st : Statement) (why : Refusal) (reply : Reply) (q : Plain) → early (current p.journal).tables (is_some (open_at p.sessions session)) p.pending p.phase st ≡ Some why → Gives (refuses p why) reply q → Gives (step p session st) reply q
 gives_early p session st why reply q h g =
     let is : step p session st ≡ refuses p why = ap (λ o. step_by o p session st) (refusal_parts (view p session) st ∙ ap (λ o. or_else o (late (view p session) st)) h) in
     record { answer = g.answer ∙ ap (λ (s : Stepped). s.reply) (sym is); state = g.state ∙ ap (λ (s : Stepped). s.plain) (sym is) }

@@ -23,7 +23,7 @@ use Rattle.ut_plain.specs.View.{View, view}
 use Rattle.ut_plain.specs.Names.{names_known}
 use Rattle.ut_plain.specs.Made.{rows_of, inserts, updates, deletes_all, changed_value}
 use Rattle.ut_plain.specs.Limits.{has_ids, has_entry_room, has_journal_room, has_ops_room}
-use Rattle.ut_plain.specs.Refusals.{is_supported, unless, or_else, first_taken}
+use Rattle.ut_plain.specs.Refusals.{unless, or_else, first_taken}
 use Rattle.ut_plain.specs.Step.{step}
 use Rattle.ut_plain.proofs.BoolLemmas.{and_left}
 use Rattle.ut_plain.proofs.StateLaws.{IsState-current}
@@ -41,12 +41,8 @@ name_passed : (names : Bool) (rest : Option Refusal) → or_else (unless names r
 name_passed true rest h = refl
 name_passed false rest h = cc
 
-support_passed : (supported : Bool) (rest : Option Refusal) → or_else (unless supported refusals.Syntax) rest ≡ None → rest ≡ None
-support_passed true rest h = h
-support_passed false rest h = cc
-
 pub names_passed : (p : Plain) (sight : Known) (session : ℕ) (st : Statement) → Allowed p sight session st → names_known (current p.journal).tables st ≡ true
-names_passed p sight session st h = name_passed (names_known (current p.journal).tables st) _ (support_passed (is_supported st) _ h.clear)
+names_passed p sight session st h = name_passed (names_known (current p.journal).tables st) _ h.clear
 
 pub few_tables : (p : Plain) (sight : Known) (session : ℕ) (st : Statement) → Allowed p sight session st → length sight.tables.items ≤ 256
 few_tables p sight session st h =

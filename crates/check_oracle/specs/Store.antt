@@ -1,62 +1,126 @@
 -- The plain state that the slow program stands for, and what it answers.
-use Rattle.std.specs.Prelude.{ℕ, ◌+◌, ◌<◌, ◌≤◌, ◌≡◌, Bool, List, length, Option, None, Some, is_some, nat_eq, IsTrue}
+use Rattle.std.specs.Prelude.{ℕ, ◌+◌, ◌<◌, ◌≤◌, ◌≡◌, Bool, List, [], length, Option, None, Some, is_some}
 use Rattle.std.specs.Option.{option_map}
-use Rattle.std.specs.List.{list_all}
 use Rattle.std.specs.FinMap as finmap
 use Rattle.ut_value.specs.declared.entry.Op.{Op}
 use Rattle.ut_value.specs.declared.entry.Entry.{Entry}
 use Rattle.ut_plain.specs.declared.table.Table.{Table}
 use Rattle.ut_plain.specs.declared.stage.PendingMerge.{PendingMerge}
 use Rattle.ut_plain.specs.declared.statement.Statement.{Statement}
+use Rattle.ut_plain.specs.declared.statement.Statement.TheVariants.{SaveBegin}
 use Rattle.ut_plain.specs.declared.reply.Reply.{Reply}
 use Rattle.ut_plain.specs.declared.reply.Reply.TheVariants as replies
 use Rattle.ut_plain.specs.declared.reply.Refusal.{Refusal}
 use Rattle.ut_plain.specs.declared.reply.Refusal.TheVariants as refusals
 use Rattle.ut_plain.specs.Rows.{inserts_of}
 use Rattle.ut_plain.specs.State.{empty_state}
-use Rattle.ut_plain.specs.Journal.{current}
+use Rattle.ut_plain.specs.Journal.{Journal, after_all, journal_len, current, state_at}
 use Rattle.ut_plain.specs.Stages.{Stages, with_inserts}
-use Rattle.ut_plain.specs.Plain.{Plain, Sessions, Idle, no_savepoint, open_at, seen}
-use Rattle.ut_plain.specs.View.{View, view}
+use Rattle.ut_plain.specs.Capture.{Directory}
+use Rattle.ut_plain.specs.Plain.{Plain, Phase, Sealed, Opening, Sessions, open_at, seen}
+use Rattle.ut_plain.specs.Progress.{phase_of}
+use Rattle.ut_plain.specs.View.{View, view, captured_now}
 use Rattle.ut_plain.specs.Names.{names_known}
 use Rattle.ut_plain.specs.Kinds.{kinds_fit}
 use Rattle.ut_plain.specs.Limits.{has_room, has_ops_room}
-use Rattle.ut_plain.specs.Refusals.{is_supported, state_why, merge_why, unless, or_else, conflict}
-use Rattle.ut_plain.specs.Reached.{IsPlain}
+use Rattle.ut_plain.specs.Refusals.{state_why, merge_why, save_why, unless, or_else, conflict}
+use Rattle.ut_plain.specs.Reached.{IsPlain, IsCaptured}
 use Rattle.ut_plain.specs.Step.{Stepped, with_made, said_changed}
 use Rattle.check_rows.specs.declared.known.Known.{Known}
 use Rattle.check_oracle.specs.declared.held.Held.{Held}
+use Rattle.check_oracle.specs.declared.image.Image.{Image}
+
+-- the image that an opening begins with: the directory of the first entries, so many
+pub record Selected : Type 0 where
+  pub length : ℕ
+  pub directory : Directory
+
+abbrev pub no_image : Selected
+no_image = record { length = 0; directory = record { tables = []; stages = [] } }
+
+abbrev pub directory_of : Image → Directory
+directory_of i = record { tables = i.tables; stages = i.stages }
+
+abbrev pub selected_of : Image → Selected
+selected_of i = record { length = i.length; directory = directory_of i }
 
 -- what the store keeps, as lists
 pub record Kept : Type 0 where
+  -- the entries that the journal's base holds, and those behind them
+  pub first : List Entry
   pub entries : List Entry
   pub opening : ℕ
   pub sessions : Sessions
   pub next_id : ℕ
   pub rows_limit : ℕ
   pub pending : Option PendingMerge
+  pub phase : Phase
+  pub selected : Selected
+  pub root_pages : ℕ
   pub stages : Stages
 
-abbrev pub kept_of : Held → Kept
-kept_of h = record { entries = h.entries.items; opening = h.opening; sessions = h.sessions.items; next_id = h.next_id; rows_limit = h.rows_limit; pending = h.pending; stages = h.stages.items }
+abbrev pub kept_of : Held → Image → Kept
+kept_of h image = record {
+  first = h.first.items;
+  entries = h.entries.items;
+  opening = h.opening;
+  sessions = h.sessions.items;
+  next_id = h.next_id;
+  rows_limit = h.rows_limit;
+  pending = h.pending;
+  phase = phase_of h.progress h.captured.length (directory_of h.captured);
+  selected = selected_of image;
+  root_pages = h.root_pages;
+  stages = h.stages.items;
+}
 
--- its plain state: a journal that begins with nothing, and no savepoints
-abbrev pub plain_with : Kept → Plain
-plain_with k = record {
-  journal = record { base = empty_state; entries = k.entries };
+-- its journal, which begins with the state after the first entries
+abbrev pub journal_with : Kept → Journal
+journal_with k = record { base = after_all empty_state k.first; entries = k.entries }
+
+-- Its plain state. How many pages the image of a directory takes it doesn't know.
+abbrev pub plain_with : (Directory → ℕ) → Kept → Plain
+plain_with image_pages k = record {
+  journal = journal_with k;
   opening = k.opening;
   sessions = k.sessions;
   next_id = k.next_id;
   rows_limit = k.rows_limit;
   pending = k.pending;
-  phase = Idle;
-  image_pages = no_savepoint.image_pages;
-  root_pages = 0;
+  phase = k.phase;
+  image_pages = image_pages;
+  root_pages = k.root_pages;
   stages = k.stages;
 }
 
+-- the same where each image takes as many pages as was told
 abbrev pub plain_of : Held → Plain
-plain_of h = plain_with (kept_of h)
+plain_of h = plain_with (λ (d : Directory). h.told) (kept_of h (record { length = 0; tables = []; stages = [] }))
+
+-- where a savepoint is to begin, what it captures takes this many pages
+abbrev pub Tells : ℕ → Statement → Plain → Type 0
+Tells pages st p = st ≡ SaveBegin → p.image_pages (captured_now p) ≡ pages
+
+-- the image that is selected behind a reply: a root is that of a sealed savepoint
+abbrev pub selected_behind : Selected → Phase → Reply → Selected
+selected_behind s (Sealed captured pages image) (replies.Root n) = record { length = captured; directory = image }
+selected_behind s phase reply = s
+
+-- what an opening begins with
+abbrev pub opening_with : (Directory → ℕ) → Kept → Opening
+opening_with image_pages k = record { stages = k.selected.directory.stages; image_pages = image_pages; root_pages = k.root_pages }
+
+-- an image has the tables of the first entries, those at the base included, and nothing of it is being merged
+pub record IsSelected (s : Selected) (p : Plain) : Type 0 where
+  pub since : p.journal.base.length ≤ s.length
+  pub until : s.length ≤ journal_len p.journal
+  pub tables : s.directory.tables ≡ (state_at p.journal s.length).tables
+  pub captured : IsCaptured s.directory
+
+-- what holds of the store: its plain state is one that a store reaches, and it has an image to be opened with
+pub record IsKept (h : Held) (image : Image) : Type 0 where
+  pub plain : IsPlain (plain_of h)
+  pub selects : IsSelected (selected_of image) (plain_of h)
 
 -- a reply and a state are those of a step
 pub record Gives (does : Stepped) (reply : Reply) (new : Plain) : Type 0 where
@@ -74,12 +138,12 @@ pub record IsSight (sight : Known) (p : Plain) (session : ℕ) : Type 0 where
   pub merged : sight.merges ≤ 1073741824
 
 -- the refusals that no limit and no conflict is asked for
-abbrev pub early : List Table → Bool → Option PendingMerge → Statement → Option Refusal
-early tables is_open pending st =
-    or_else (unless (is_supported st) refusals.Syntax)
-    (or_else (unless (names_known tables st) refusals.Name)
+abbrev pub early : List Table → Bool → Option PendingMerge → Phase → Statement → Option Refusal
+early tables is_open pending phase st =
+    or_else (unless (names_known tables st) refusals.Name)
     (or_else (unless (kinds_fit tables st) refusals.Kind)
-    (or_else (option_map refusals.State (state_why is_open st)) (option_map refusals.State (merge_why pending st)))))
+    (or_else (option_map refusals.State (state_why is_open st))
+    (or_else (option_map refusals.State (merge_why pending st)) (option_map refusals.State (save_why phase st)))))
 
 -- the other refusals
 abbrev pub late : View → Statement → Option Refusal
@@ -90,7 +154,7 @@ pub record Allowed (p : Plain) (sight : Known) (session : ℕ) (st : Statement) 
   pub plain : IsPlain p
   pub seat : session < 17
   pub sees : IsSight sight p session
-  pub clear : early (current p.journal).tables (is_some (open_at p.sessions session)) p.pending st ≡ None
+  pub clear : early (current p.journal).tables (is_some (open_at p.sessions session)) p.pending p.phase st ≡ None
 
 -- a refusal, and the state as it was
 abbrev pub refuses : Plain → Refusal → Stepped

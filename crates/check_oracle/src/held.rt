@@ -1,25 +1,37 @@
-//! What the store holds: the entries of its journal, the open transactions, a pending merge, and where rows stand.
+//! What the store holds: the entries of its journal, the open transactions, a pending merge, a savepoint, and where rows stand.
 ghost use Rattle.std.specs.Prelude.{◌≡◌, ◌<◌, length, slice_set, IfOk};
+ghost use Rattle.ut_plain.specs.Journal.{journal_len};
 ghost use Rattle.ut_plain.specs.Plain.{new_store, no_savepoint, no_sessions, open_at, with_entry, with_session};
+ghost use Rattle.ut_plain.specs.Reached.{IsPlain};
 ghost use Rattle.check_oracle.specs.Store.{plain_of};
 
+use crate::image::Image;
 use check_stages::stages_copied;
 use std::alloc::{AllocError, Global};
-use ut_plain::{OpenTransaction, PendingMerge, TableStages};
+use ut_plain::{OpenTransaction, PendingMerge, Progress, TableStages};
 use ut_value::{Duplicate, Entry};
 
 /// Sixteen sessions, and a first place that is nobody's.
 const PLACES: usize = 17;
 
-/// The entries of the journal, the transaction of each session, the merge that is pending, and the stages of each table.
+/// The entries of the journal, the transaction of each session, the merge that is pending, the savepoint that is under way, and the
+/// stages of each table.
 #[derive(Drop)]
 pub struct Held {
+    /// The entries that the journal's base holds, and those behind them.
+    pub first: Vec<Entry>,
     pub entries: Vec<Entry>,
     pub opening: u32,
     pub sessions: Vec<Option<OpenTransaction>>,
     pub next_id: u32,
     pub rows_limit: u32,
     pub pending: Option<PendingMerge>,
+    pub progress: Progress,
+    /// What the savepoint that is under way has captured.
+    pub captured: Image,
+    pub root_pages: u32,
+    /// So many pages an image is told to take.
+    pub told: u32,
     pub stages: Vec<TableStages>,
 }
 
@@ -30,12 +42,17 @@ impl Held {
     {
         let sessions = nobody(alloc)?;
         Ok(Held {
+            first: Vec::new(alloc),
             entries: Vec::new(alloc),
             opening: 0,
             sessions,
             next_id: 1,
             rows_limit,
             pending: None,
+            progress: Progress::Idle,
+            captured: Image::new(alloc),
+            root_pages: 0,
+            told: 0,
             stages: Vec::new(alloc),
         })
     }
@@ -44,18 +61,33 @@ impl Held {
     pub fn copy(&self, alloc: Global) -> Result<Held, AllocError>
         ensures { IfOk result (λ copy. plain_of copy ≡ plain_of self.now) }
     {
+        let first = entries_copied(alloc, self.first.as_slice())?;
         let entries = entries_copied(alloc, self.entries.as_slice())?;
         let sessions = sessions_copied(alloc, self.sessions.as_slice())?;
+        let captured = self.captured.copy(alloc)?;
         let stages = stages_copied(alloc, self.stages.as_slice())?;
         Ok(Held {
+            first,
             entries,
             opening: self.opening,
             sessions,
             next_id: self.next_id,
             rows_limit: self.rows_limit,
             pending: self.pending,
+            progress: self.progress,
+            captured,
+            root_pages: self.root_pages,
+            told: self.told,
             stages,
         })
+    }
+
+    /// How many entries there are.
+    pub fn journal_len(&self) -> usize
+        requires { IsPlain (plain_of self.now) }
+        ensures { result ≡ journal_len (plain_of self.now).journal }
+    {
+        self.first.len() + self.entries.len()
     }
 
     /// The transaction of a session.

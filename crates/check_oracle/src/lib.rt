@@ -3,12 +3,14 @@
 
 mod change;
 mod held;
+mod image;
 mod merges;
 mod needed;
 mod oracle;
 mod outcome;
 mod reopen;
 mod room;
+mod saves;
 mod session;
 mod shapes;
 mod sight;

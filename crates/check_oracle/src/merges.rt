@@ -1,6 +1,6 @@
 //! Merges into main: one begins, and the pending one ends.
 ghost use Rattle.std.specs.Prelude.{◌≡◌, ◌≤◌, ◌<◌, ◌&&◌, nat_lt, length, slice_set, IfOk, Some};
-ghost use Rattle.ut_plain.specs.Journal.{current};
+ghost use Rattle.ut_plain.specs.Journal.{journal_len, current};
 ghost use Rattle.ut_plain.specs.Merges.{closing, has_places, has_part_room};
 ghost use Rattle.ut_plain.specs.Stages.{stages_at};
 ghost use Rattle.ut_plain.specs.Reached.{IsPlain};
@@ -41,7 +41,8 @@ pub fn merge_begin(
 
 /// Whether a merge of a table may begin.
 fn has_merge_room(held: &Held, stages: &TableStages, kind: MergeKind) -> bool
-    ensures { result ≡ (nat_lt (length held.now.entries.items) 1073741823 && has_places stages.now && has_part_room kind (length stages.now.parts)) }
+    requires { IsPlain (plain_of held.now) }
+    ensures { result ≡ (nat_lt (journal_len (plain_of held.now).journal) 1073741823 && has_places stages.now && has_part_room kind (length stages.now.parts)) }
 {
     has_journal_room(held) && has_places(stages) && has_part_room(kind, stages.parts.len())
 }
@@ -129,11 +130,11 @@ fn ended(alloc: Global, held: &Held, merge: PendingMerge) -> Result<Outcome, All
     requires { merge.table < length held.now.stages.items }
     ensures { IfOk result (λ out. Gives (merge_ended (plain_of held.now) (Some merge)) out.reply (plain_of out.held)) }
 {
-    let place = usize::from(merge.table);
-    let stages = switched(alloc, merge.kind, &held.stages[place])?;
+    let place = merge.table;
+    let stages = switched(alloc, merge.kind, &held.stages[usize::from(place)])?;
     let mut next = held.with_entry(alloc, Entry::Ended { n: merge.number })?;
     next.pending = None;
-    next.stages[place] = stages;
+    set_stages(&mut next.stages, place, stages);
     Ok(Outcome {
         reply: Reply::Merge(merge.number),
         held: next,

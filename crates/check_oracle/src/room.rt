@@ -4,8 +4,10 @@ ghost use Rattle.std.specs.List.{sum_by};
 ghost use Rattle.ut_value.specs.declared.entry.Op.{Op};
 ghost use Rattle.ut_value.specs.declared.entry.Entry.TheVariants.{Txn};
 ghost use Rattle.ut_value.specs.Spelling.{value_len, op_len, ops_len, entry_len};
+ghost use Rattle.ut_plain.specs.Journal.{journal_len};
 ghost use Rattle.ut_plain.specs.View.{view, own_ops};
 ghost use Rattle.ut_plain.specs.Limits.{has_ops_room};
+ghost use Rattle.ut_plain.specs.Reached.{IsPlain};
 ghost use Rattle.check_oracle.specs.Store.{plain_of};
 
 use crate::held::Held;
@@ -16,14 +18,27 @@ use ut_value::{Op, Value};
 /// The most entries, but for the last end of a merge.
 const MAX_ENTRIES: usize = 1073741823;
 
+/// The most pages.
+const MAX_PAGES: u64 = 4294967295;
+
 /// The most bytes of the operations of one entry.
 const MAX_OPS_LEN: u32 = 1073741819;
 
 /// Whether the journal may have one more entry.
 pub fn has_journal_room(held: &Held) -> bool
-    ensures { result ≡ nat_lt (length held.now.entries.items) 1073741823 }
+    requires { IsPlain (plain_of held.now) }
+    ensures { result ≡ nat_lt (journal_len (plain_of held.now).journal) 1073741823 }
 {
-    held.entries.len() < MAX_ENTRIES
+    held.journal_len() < MAX_ENTRIES
+}
+
+/// Whether the pages that are told have numbers, with the first three and those that the selected root reaches.
+pub fn has_page_room(held: &Held) -> bool
+    ensures { result ≡ nat_le (3 + held.now.told + held.now.root_pages) 4294967295 }
+{
+    let told = held.told;
+    let root_pages = held.root_pages;
+    3 + u64::from(told) + u64::from(root_pages) <= MAX_PAGES
 }
 
 /// Whether there are ids for so many rows.
@@ -117,7 +132,8 @@ fn has_entry_room(own: &Option<OpenTransaction>, ops: &[Op]) -> bool
 
 /// Whether operations keep to the limits.
 pub fn has_ops_room(held: &Held, session: u8, ops: &[Op]) -> bool
-    requires { session < length held.now.sessions.items }
+    requires plain { IsPlain (plain_of held.now) }
+    requires seat { session < length held.now.sessions.items }
     ensures { result ≡ has_ops_room (view (plain_of held.now) session) ops.now }
 {
     if ops.is_empty() {

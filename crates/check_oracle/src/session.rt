@@ -62,7 +62,7 @@ pub fn begin(alloc: Global, held: &Held, sight: &Known, session: u8) -> Result<O
 {
     let _sight = sight;
     let transaction = OpenTransaction {
-        snapshot: held.entries.len() as u32,
+        snapshot: held.journal_len() as u32,
         ops: Seq::new(alloc),
     };
     let held = held.with_session(alloc, session, Some(transaction))?;

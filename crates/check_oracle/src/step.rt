@@ -1,5 +1,7 @@
 //! One statement of a session: its refusals in order, and then what it does.
-ghost use Rattle.std.specs.Prelude.{◌≡◌, ◌<◌, IfOk};
+ghost use Rattle.std.specs.Prelude.{◌≡◌, ◌<◌, ℕ, IfOk};
+ghost use Rattle.ut_plain.specs.Capture.{Directory};
+ghost use Rattle.ut_plain.specs.Progress.{phase_of};
 ghost use Rattle.ut_plain.specs.Step.{step};
 ghost use Rattle.ut_plain.specs.Reached.{IsPlain};
 ghost use Rattle.check_oracle.specs.Store.{plain_of, early, Allowed, Gives};
@@ -7,6 +9,7 @@ ghost use Rattle.check_oracle.specs.Store.{plain_of, early, Allowed, Gives};
 use crate::held::Held;
 use crate::merges::{merge_begin, merge_end};
 use crate::outcome::{Outcome, refused, stays};
+use crate::saves::{save_begin, save_drop, save_flip, save_seal, save_step};
 use crate::session::{abort, begin, commit, create};
 use crate::shapes::{merge_l1, shape};
 use crate::sight::sight_of;
@@ -14,8 +17,8 @@ use crate::writes::{bulk, delete, insert, update};
 use check_rows::{Known, told};
 use std::alloc::{AllocError, Global};
 use ut_plain::{
-    PendingMerge, Query, Refusal, Statement, Table, is_supported, kinds_fit, merge_why,
-    names_known, state_why,
+    PendingMerge, Progress, Query, Refusal, Statement, Table, kinds_fit, merge_why, names_known,
+    save_why, state_why,
 };
 
 /// What a statement of a session comes to.
@@ -31,7 +34,13 @@ pub fn stepped(
 {
     let sight = sight_of(alloc, held, session)?;
     let is_open = held.own(session).is_some();
-    match early(sight.tables.as_slice(), is_open, held.pending, st) {
+    match early(
+        sight.tables.as_slice(),
+        is_open,
+        held.pending,
+        held.progress,
+        st,
+    ) {
         Some(why) => {
             let out = refused(alloc, held, why)?;
             Ok(out)
@@ -45,13 +54,11 @@ fn early(
     tables: &[Table],
     is_open: bool,
     pending: Option<PendingMerge>,
+    progress: Progress,
     st: &Statement,
 ) -> Option<Refusal>
-    ensures { result ≡ early tables.now is_open pending st.now }
+    ensures { (captured : ℕ) (image : Directory) → result ≡ early tables.now is_open pending (phase_of progress captured image) st.now }
 {
-    if !is_supported(st) {
-        return Some(Refusal::Syntax);
-    }
     if !names_known(tables, st) {
         return Some(Refusal::Name);
     }
@@ -61,7 +68,10 @@ fn early(
     if let Some(why) = state_why(is_open, st) {
         return Some(Refusal::State(why));
     }
-    match merge_why(pending, st) {
+    if let Some(why) = merge_why(pending, st) {
+        return Some(Refusal::State(why));
+    }
+    match save_why(progress, st) {
         None => None,
         Some(why) => Some(Refusal::State(why)),
     }
@@ -101,11 +111,11 @@ fn allowed(
             merge_begin(alloc, held, sight, session, table, *kind)
         }
         Statement::MergeEnd => merge_end(alloc, held, sight, session),
-        Statement::SaveBegin => refused(alloc, held, Refusal::Syntax),
-        Statement::SaveStep { .. } => refused(alloc, held, Refusal::Syntax),
-        Statement::SaveSeal => refused(alloc, held, Refusal::Syntax),
-        Statement::SaveFlip => refused(alloc, held, Refusal::Syntax),
-        Statement::SaveDrop => refused(alloc, held, Refusal::Syntax),
+        Statement::SaveBegin => save_begin(alloc, held, sight, session),
+        Statement::SaveStep { n } => save_step(alloc, held, sight, session, *n),
+        Statement::SaveSeal => save_seal(alloc, held, sight, session),
+        Statement::SaveFlip => save_flip(alloc, held, sight, session),
+        Statement::SaveDrop => save_drop(alloc, held, sight, session),
     }
 }
 

@@ -1,5 +1,5 @@
 //! Which rows were deleted behind a session's back.
-ghost use Rattle.std.specs.Prelude.{◌≡◌, ◌<◌, drop, length};
+ghost use Rattle.std.specs.Prelude.{◌≡◌, ◌<◌, ◌-◌, drop, length};
 ghost use Rattle.std.specs.List.{list_any};
 ghost use Rattle.ut_plain.specs.Rows.{deletes, op_deletes};
 ghost use Rattle.ut_plain.specs.State.{entry_deletes};
@@ -80,14 +80,14 @@ fn others_delete(sessions: &[Option<OpenTransaction>], session: usize, id: u32) 
     before || behind
 }
 
-/// How many entries there are behind which a session does not look.
+/// How many entries behind the base a session looks at.
 fn looks_at(held: &Held, session: u8) -> usize
     requires { session < length held.now.sessions.items }
-    ensures { result ≡ looks_at (plain_of held.now).journal (open_at held.now.sessions.items session) }
+    ensures { result ≡ looks_at (plain_of held.now).journal (open_at held.now.sessions.items session) - (plain_of held.now).journal.base.length }
 {
     match held.own(session) {
         None => held.entries.len(),
-        Some(own) => own.snapshot as usize,
+        Some(own) => (own.snapshot as usize).saturating_sub(held.first.len()),
     }
 }
 

@@ -11,9 +11,6 @@ use ut_outside::MemDisk;
 /// Ids enough for any script.
 pub const AMPLE: u32 = 1_000_000;
 
-/// Which statements of the store the scripts have: merges into main of all kinds, too.
-const STORE_LINES: StoreLines = StoreLines::OfMain;
-
 /// Asks for all that is there of the tables of the scripts.
 const QUESTIONS: [&str; 6] = [
     "1 select T *",
@@ -29,6 +26,14 @@ fn cut_of(seed: u64) -> u32 {
     match seed % 2 {
         0 => LINES,
         _ => (seed / 2 % u64::from(LINES)) as u32,
+    }
+}
+
+/// Which statements of the store a script has: merges into main of all kinds, and two of four scripts savepoints besides.
+fn store_lines_of(seed: u64) -> StoreLines {
+    match seed % 4 {
+        0 | 3 => StoreLines::OfMain,
+        _ => StoreLines::OfSaves,
     }
 }
 
@@ -79,7 +84,7 @@ fn lines_of(
     let mut script = Script::new(alloc);
     for number in from..to {
         let mut line = Vec::new(alloc);
-        script_line(STORE_LINES, seed, number, &mut line)?;
+        script_line(store_lines_of(seed), seed, number, &mut line)?;
         script.ask(alloc, &line, store)?;
     }
     Ok(script)

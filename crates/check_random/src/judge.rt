@@ -202,9 +202,14 @@ fn behind<'a>(
     Ok(told.strip_prefix(reply.as_bytes()))
 }
 
-/// What ends a transaction takes no memory.
+/// What ends a transaction takes no memory, and no statement of a savepoint but its begin.
 fn may_lack_memory(line: &str) -> bool {
-    !matches!(line.split(' ').nth(1), Some("commit" | "abort"))
+    let mut words = line.split(' ').skip(1);
+    match words.next() {
+        Some("commit" | "abort") => false,
+        Some("save") => words.next() == Some("begin"),
+        _ => true,
+    }
 }
 
 /// The verdict on a run of the worked script of that number over a new store.

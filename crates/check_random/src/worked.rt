@@ -1,6 +1,6 @@
 //! Worked scripts for runs with a refused allocation.
-use check_scripts::merge_rows;
 use check_scripts::rows::{self, Row};
+use check_scripts::{merge_rows, save_rows};
 use std::alloc::{AllocError, Global};
 
 /// A script whose replies aren't worked out: the slow store says them.
@@ -34,10 +34,10 @@ const A_LOAD_IN_A_TRANSACTION: Lines = &[
 ];
 
 /// So many scripts there are.
-pub const COUNT: usize = 11;
+pub const COUNT: usize = 14;
 
 /// The tables of rows that are run, and then the scripts without replies.
-const TABLES: [&[Row]; 9] = [
+const TABLES: [&[Row]; 12] = [
     rows::A_ROW_IS_SELECTED,
     rows::A_SNAPSHOT_SEES_NO_LATER_COMMIT,
     rows::ROWS_STAND_IN_TWO_STAGES,
@@ -47,6 +47,9 @@ const TABLES: [&[Row]; 9] = [
     merge_rows::A_PARTIAL_MERGE_LEAVES_THE_FIRST_PART,
     merge_rows::A_RESORTED_PART_IS_READ_BY_ID,
     merge_rows::ROWS_OF_TWO_VALUES_ARE_MERGED,
+    save_rows::A_SAVEPOINT_OF_TWO_PARTS,
+    save_rows::A_SAVEPOINT_AMID_A_MERGE,
+    save_rows::A_SAVEPOINT_OF_ALL_STAGES,
 ];
 
 /// The lines of the script of a number.

@@ -42,7 +42,13 @@ fn reply_to(
     if session > LAST_SESSION || !is_spelled(st) {
         return Ok(Reply::Refused(Refusal::Syntax));
     }
-    store.statement(alloc, session, st)
+    store.statement(alloc, session, st, pages_of(store))
+}
+
+/// So many pages has what a savepoint captures now, where it is small: a part takes one, and so does the directory.
+fn pages_of(store: &Oracle) -> u32 {
+    let parts = u32::try_from(store.parts()).unwrap_or(u32::MAX);
+    parts.saturating_add(1)
 }
 
 /// The place of the first row of a table whose line is answered otherwise.

@@ -6,6 +6,7 @@ mod answers;
 pub mod merge_rows;
 pub mod refusal_rows;
 pub mod rows;
+pub mod save_rows;
 mod scripts;
 pub mod stage_rows;
 

@@ -168,6 +168,7 @@ pub const ONE_MERGE_IS_PENDING_AT_MOST: &[Row] = &[
     ("0 merge begin T classic", "0 refused busy 1"),
     ("0 merge end", "0 ok 1"),
     ("0 merge end", "0 refused none"),
+    ("0 save flip", "0 refused none"),
 ];
 
 /// Extending merges make three parts. A partial one leaves the first two.

@@ -55,6 +55,18 @@ const WORDS_OF_MAIN: [(&str, usize); 9] = [
     ("0 shape", 20),
 ];
 
+/// What the lines of those with savepoints must have.
+const WORDS_OF_SAVES: [(&str, usize); 8] = [
+    ("0 save begin", 40),
+    ("0 save step 1", 12),
+    ("0 save step 9", 40),
+    ("0 save seal", 40),
+    ("0 save flip", 40),
+    ("0 save drop", 4),
+    ("0 merge begin", 20),
+    ("0 merge end", 20),
+];
+
 /// What they must be answered, and how often at least.
 const ANSWERS: [(&str, usize); 8] = [
     (" refused conflict", 30),
@@ -75,6 +87,21 @@ const ANSWERS_OF_MAIN: [(&str, usize); 6] = [
     (" ok commit", 25),
     (" closed 4", 5),
     (" parts 4 ", 2),
+];
+
+/// What those with savepoints must be answered: roots, pages of parts, and the refusals of savepoints.
+const ANSWERS_OF_SAVES: [(&str, usize); 11] = [
+    (" ok root", 6),
+    (" ok sealed", 10),
+    (" of 1\n", 10),
+    (" of 2\n", 4),
+    (" refused saving", 5),
+    (" refused written", 5),
+    (" refused unwritten", 5),
+    (" refused sealed", 5),
+    (" refused unsealed", 5),
+    (" refused conflict", 15),
+    (" ok commit", 20),
 ];
 
 /// How often questions of a transaction must be answered otherwise than outside one.
@@ -121,7 +148,7 @@ fn check_counts(rt: &impl Abort, texts: &[Vec<u8>], words: &[(&str, usize)]) {
 
 #[test]
 fn scripts_are_lines_of_the_grammar(rt: HostRuntime) -> Result<(), Fail> {
-    for lines in [StoreLines::OfDelta, StoreLines::OfMain] {
+    for lines in [StoreLines::OfDelta, StoreLines::OfMain, StoreLines::OfSaves] {
         check_grammar(&rt, rt.alloc(), lines)?;
     }
     Ok(())
@@ -131,7 +158,7 @@ fn scripts_are_lines_of_the_grammar(rt: HostRuntime) -> Result<(), Fail> {
 fn alike_stores_answer_alike(rt: HostRuntime) -> Result<(), Fail> {
     let mut one = Oracle::new(rt.alloc(), AMPLE)?;
     let mut other = Oracle::new(rt.alloc(), AMPLE)?;
-    let apart = first_apart(rt.alloc(), &mut one, &mut other, StoreLines::OfMain, 7)?;
+    let apart = first_apart(rt.alloc(), &mut one, &mut other, StoreLines::OfSaves, 7)?;
     assert_eq!(rt; apart, None);
     Ok(())
 }
@@ -160,6 +187,13 @@ fn scripts_have_each_statement_and_comparison(rt: HostRuntime) -> Result<(), Fai
 fn scripts_have_each_kind_of_merge(rt: HostRuntime) -> Result<(), Fail> {
     let lines = all_lines(rt.alloc(), StoreLines::OfMain)?;
     check_counts(&rt, lines.as_slice(), &WORDS_OF_MAIN);
+    Ok(())
+}
+
+#[test]
+fn scripts_have_each_statement_of_savepoints(rt: HostRuntime) -> Result<(), Fail> {
+    let lines = all_lines(rt.alloc(), StoreLines::OfSaves)?;
+    check_counts(&rt, lines.as_slice(), &WORDS_OF_SAVES);
     Ok(())
 }
 
@@ -202,6 +236,14 @@ fn scripts_meet_conflicts_and_snapshots(rt: HostRuntime) -> Result<(), Fail> {
 fn scripts_meet_merges_and_their_refusals(rt: HostRuntime) -> Result<(), Fail> {
     let Met { answers, apart } = met_by(rt.alloc(), StoreLines::OfMain)?;
     check_counts(&rt, answers.as_slice(), &ANSWERS_OF_MAIN);
+    assert!(rt; apart >= VIEWS_APART, "{apart} times");
+    Ok(())
+}
+
+#[test]
+fn scripts_meet_savepoints_in_each_phase(rt: HostRuntime) -> Result<(), Fail> {
+    let Met { answers, apart } = met_by(rt.alloc(), StoreLines::OfSaves)?;
+    check_counts(&rt, answers.as_slice(), &ANSWERS_OF_SAVES);
     assert!(rt; apart >= VIEWS_APART, "{apart} times");
     Ok(())
 }

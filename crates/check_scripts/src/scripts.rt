@@ -23,6 +23,8 @@ pub enum StoreLines {
     OfDelta,
     /// Merges into main of all kinds besides.
     OfMain,
+    /// Savepoints besides, so many that some are selected.
+    OfSaves,
 }
 
 /// Numbers that follow from a seed, by xorshift.
@@ -95,6 +97,11 @@ pub fn script_line(
         StoreLines::OfMain => {
             if dice.is_once_in(3) {
                 return put_main(&mut dice, out);
+            }
+        }
+        StoreLines::OfSaves => {
+            if dice.is_once_in(2) {
+                return put_save_or_main(&mut dice, number, out);
             }
         }
     }
@@ -214,6 +221,41 @@ fn put_main(dice: &mut Dice, out: &mut Vec<u8>) -> Result<(), AllocError> {
         3 => put(out, "0 merge end"),
         4 => put(out, "0 merge end"),
         _ => put_merge(dice, out),
+    }
+}
+
+/// A statement of a savepoint, or now and then one of main.
+fn put_save_or_main(dice: &mut Dice, number: u32, out: &mut Vec<u8>) -> Result<(), AllocError> {
+    if dice.is_once_in(4) {
+        return put_main(dice, out);
+    }
+    put(out, "0 save ")?;
+    if dice.is_once_in(4) {
+        return put_any_save(dice, out);
+    }
+    put_next_save(number, out)
+}
+
+/// Four lines of a script begin a savepoint, the next four write its pages, and so on.
+fn put_next_save(number: u32, out: &mut Vec<u8>) -> Result<(), AllocError> {
+    match number / 4 % 4 {
+        0 => put(out, "begin"),
+        1 => put(out, "step 9"),
+        2 => put(out, "seal"),
+        _ => put(out, "flip"),
+    }
+}
+
+/// A statement of a savepoint, whatever its phase.
+fn put_any_save(dice: &mut Dice, out: &mut Vec<u8>) -> Result<(), AllocError> {
+    match dice.digit(8) {
+        0 => put(out, "drop"),
+        1 => put(out, "begin"),
+        2 => put(out, "seal"),
+        3 => put(out, "seal"),
+        4 => put(out, "flip"),
+        5 => put(out, "flip"),
+        _ => put(out, "step 1"),
     }
 }
 

@@ -1,7 +1,9 @@
 //! Each table of rows on the slow store.
+ghost use Rattle.std.specs.Prelude.{◌≤◌};
+
 use crate::answers::first_wrong;
 use crate::rows::{self, Row};
-use crate::{answer_rows, merge_rows, refusal_rows, stage_rows};
+use crate::{answer_rows, merge_rows, refusal_rows, save_rows, stage_rows};
 use check_oracle::Oracle;
 use std::alloc::{AllocError, Global};
 use std::process::Abort;
@@ -218,56 +220,51 @@ fn full_comes_before_conflict(rt: HostRuntime) -> Result<(), Fail> {
     Ok(())
 }
 
+/// The store behind a table that a new store answers.
+fn made(rt: &impl Abort, alloc: Global, table: &[Row]) -> Result<Oracle, AllocError> {
+    let mut store = Oracle::new(alloc, AMPLE)?;
+    assert_eq!(rt; first_wrong(alloc, &mut store, table)?, None);
+    Ok(store)
+}
+
+/// The store that is opened again, with ids up to a limit, behind a table that it answers.
+fn opened(
+    rt: &impl Abort,
+    alloc: Global,
+    store: &Oracle,
+    rows_limit: u32,
+    table: &[Row],
+) -> Result<Oracle, AllocError>
+    requires { rows_limit ≤ 2147483648 }
+{
+    let mut again = store.reopened(alloc, rows_limit)?;
+    assert_eq!(rt; first_wrong(alloc, &mut again, table)?, None);
+    Ok(again)
+}
+
 #[test]
 fn the_row_is_there_again(rt: HostRuntime) -> Result<(), Fail> {
-    let mut store = Oracle::new(rt.alloc(), AMPLE)?;
-    assert_eq!(rt;
-        first_wrong(rt.alloc(), &mut store, rows::A_ROW_IS_SELECTED)?,
-        None
-    );
-    let mut again = store.reopened(rt.alloc(), AMPLE)?;
-    assert_eq!(rt;
-        first_wrong(rt.alloc(), &mut again, rows::THE_ROW_IS_THERE_AGAIN)?,
-        None
-    );
+    let alloc = rt.alloc();
+    let store = made(&rt, alloc, rows::A_ROW_IS_SELECTED)?;
+    let _again = opened(&rt, alloc, &store, AMPLE, rows::THE_ROW_IS_THERE_AGAIN)?;
     Ok(())
 }
 
 #[test]
 fn all_rows_stand_in_the_first_stage(rt: HostRuntime) -> Result<(), Fail> {
-    let mut store = Oracle::new(rt.alloc(), AMPLE)?;
-    assert_eq!(rt;
-        first_wrong(rt.alloc(), &mut store, rows::ROWS_STAND_IN_TWO_STAGES)?,
-        None
-    );
-    let mut again = store.reopened(rt.alloc(), AMPLE)?;
-    assert_eq!(rt;
-        first_wrong(
-            rt.alloc(),
-            &mut again,
-            rows::ALL_ROWS_STAND_IN_THE_FIRST_STAGE
-        )?,
-        None
-    );
+    let alloc = rt.alloc();
+    let store = made(&rt, alloc, rows::ROWS_STAND_IN_TWO_STAGES)?;
+    let table = rows::ALL_ROWS_STAND_IN_THE_FIRST_STAGE;
+    let _again = opened(&rt, alloc, &store, AMPLE, table)?;
     Ok(())
 }
 
 #[test]
 fn an_open_transaction_is_forgotten(rt: HostRuntime) -> Result<(), Fail> {
-    let mut store = Oracle::new(rt.alloc(), AMPLE)?;
-    assert_eq!(rt;
-        first_wrong(rt.alloc(), &mut store, rows::A_TRANSACTION_STAYS_OPEN)?,
-        None
-    );
-    let mut again = store.reopened(rt.alloc(), 2)?;
-    assert_eq!(rt;
-        first_wrong(
-            rt.alloc(),
-            &mut again,
-            rows::AN_OPEN_TRANSACTION_IS_FORGOTTEN
-        )?,
-        None
-    );
+    let alloc = rt.alloc();
+    let store = made(&rt, alloc, rows::A_TRANSACTION_STAYS_OPEN)?;
+    let table = rows::AN_OPEN_TRANSACTION_IS_FORGOTTEN;
+    let _again = opened(&rt, alloc, &store, 2, table)?;
     Ok(())
 }
 
@@ -305,15 +302,32 @@ fn rows_are_merged_into_main(rt: HostRuntime) -> Result<(), Fail> {
 }
 
 #[test]
+fn savepoints_are_answered_phase_by_phase(rt: HostRuntime) -> Result<(), Fail> {
+    check_tables(&rt, rt.alloc(), save_rows::TABLES)?;
+    Ok(())
+}
+
+#[test]
 fn stores_are_opened_again(rt: HostRuntime) -> Result<(), Fail> {
-    for (made, opened) in stage_rows::OPENED_AGAIN
+    let alloc = rt.alloc();
+    for (first, second) in stage_rows::OPENED_AGAIN
         .iter()
         .chain(merge_rows::OPENED_AGAIN)
+        .chain(save_rows::OPENED_AGAIN)
     {
-        let mut store = Oracle::new(rt.alloc(), AMPLE)?;
-        assert_eq!(rt; first_wrong(rt.alloc(), &mut store, made)?, None);
-        let mut again = store.reopened(rt.alloc(), AMPLE)?;
-        assert_eq!(rt; first_wrong(rt.alloc(), &mut again, opened)?, None);
+        let store = made(&rt, alloc, first)?;
+        let _again = opened(&rt, alloc, &store, AMPLE, second)?;
+    }
+    Ok(())
+}
+
+#[test]
+fn stores_are_opened_twice(rt: HostRuntime) -> Result<(), Fail> {
+    let alloc = rt.alloc();
+    for (first, second, third) in save_rows::OPENED_TWICE {
+        let store = made(&rt, alloc, first)?;
+        let again = opened(&rt, alloc, &store, AMPLE, second)?;
+        let _twice = opened(&rt, alloc, &again, AMPLE, third)?;
     }
     Ok(())
 }

@@ -9,11 +9,11 @@ use ut_outside::{Disk, MemDisk, MemSink, MemSource};
 /// The words that make a store and run a script of the least size.
 const BENCH_NEW: &[&str] = &["ut", "bench", "--new", "--size", "1"];
 
-/// Its line. The eight lines of savepoints are refused as long as the store serves none.
-const LINE: &[u8] = b"bench lines 50 commits 27 refused 8 rows 224 total 24310\n";
+/// Its line.
+const LINE: &[u8] = b"bench lines 50 commits 27 refused 0 rows 224 total 24310\n";
 
 /// The line of a second run on the same store, which has the tables: each row is there twice.
-const AGAIN: &[u8] = b"bench lines 50 commits 52 refused 10 rows 448 total 48620\n";
+const AGAIN: &[u8] = b"bench lines 50 commits 52 refused 2 rows 448 total 48620\n";
 
 /// A run with a source that nobody may ask.
 fn bench_on(
@@ -79,7 +79,7 @@ fn rows_past_their_number_are_counted_as_refused(rt: HostRuntime) -> Result<(), 
     let mut disk = MemDisk::of(alloc, &[], &[], &[])?;
     let ran = bench_on(&rt, alloc, words, MemSink::new(alloc, None), &mut disk)?;
     assert_eq!(rt; ran.status, Status::Done);
-    let wanted = b"bench lines 50 commits 3 refused 29 rows 4 total 0\n";
+    let wanted = b"bench lines 50 commits 3 refused 21 rows 4 total 0\n";
     assert_eq!(rt; ran.replies.as_slice(), wanted.as_slice());
     Ok(())
 }

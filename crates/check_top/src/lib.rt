@@ -18,6 +18,14 @@ mod rows;
 #[cfg(test)]
 mod run;
 #[cfg(test)]
+mod save_bytes;
+#[cfg(test)]
+mod save_damage;
+#[cfg(test)]
+mod saved;
+#[cfg(test)]
+mod saves;
+#[cfg(test)]
 mod sizes;
 #[cfg(test)]
 mod streams;

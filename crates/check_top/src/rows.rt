@@ -1,9 +1,11 @@
 //! The worked rows of `check_scripts`, and its scripts, answered by the program.
 use crate::run::{RUN, RUN_NEW, run_on};
+use crate::saved::joined;
 use check_oracle::Oracle;
 use check_scripts::rows::{self, Row};
 use check_scripts::{
-    Answers, LINES, StoreLines, answer_rows, merge_rows, refusal_rows, script_line, stage_rows,
+    Answers, LINES, StoreLines, answer_rows, merge_rows, refusal_rows, save_rows, script_line,
+    stage_rows,
 };
 use std::alloc::{AllocError, Global};
 use std::process::Abort;
@@ -16,20 +18,7 @@ use ut_outside::MemDisk;
 const AMPLE: u32 = 1000;
 
 /// Which statements of the store the random scripts have.
-const STORE_LINES: StoreLines = StoreLines::OfMain;
-
-/// What a table's rows are as a script, and as its replies.
-fn joined(alloc: Global, table: &[Row]) -> Result<(Vec<u8>, Vec<u8>), AllocError> {
-    let mut script = Vec::new(alloc);
-    let mut replies = Vec::new(alloc);
-    for (line, reply) in table {
-        script.extend_from_slice(line.as_bytes())?;
-        script.push(b'\n')?;
-        replies.extend_from_slice(reply.as_bytes())?;
-        replies.push(b'\n')?;
-    }
-    Ok((script, replies))
-}
+const STORE_LINES: StoreLines = StoreLines::OfSaves;
 
 fn check_rows(
     rt: &(impl Abort + Threads + Sync),
@@ -72,6 +61,7 @@ fn each_table_of_rows_is_answered(rt: HostRuntime) -> Result<(), Fail> {
         .chain(answer_rows::TABLES)
         .chain(stage_rows::TABLES)
         .chain(merge_rows::TABLES)
+        .chain(save_rows::TABLES)
     {
         let mut disk = MemDisk::of(alloc, &[], &[], &[])?;
         check_rows(&rt, alloc, RUN_NEW, table, &mut disk)?;
@@ -93,10 +83,23 @@ fn each_store_of_rows_is_opened_again(rt: HostRuntime) -> Result<(), Fail> {
         .iter()
         .chain(stage_rows::OPENED_AGAIN)
         .chain(merge_rows::OPENED_AGAIN)
+        .chain(save_rows::OPENED_AGAIN)
     {
         let mut disk = MemDisk::of(alloc, &[], &[], &[])?;
         check_rows(&rt, alloc, RUN_NEW, made, &mut disk)?;
         check_rows(&rt, alloc, RUN, opened, &mut disk)?;
+    }
+    Ok(())
+}
+
+#[test]
+fn each_store_of_rows_is_opened_twice(rt: HostRuntime) -> Result<(), Fail> {
+    let alloc = rt.alloc();
+    for (made, opened, last) in save_rows::OPENED_TWICE {
+        let mut disk = MemDisk::of(alloc, &[], &[], &[])?;
+        check_rows(&rt, alloc, RUN_NEW, made, &mut disk)?;
+        check_rows(&rt, alloc, RUN, opened, &mut disk)?;
+        check_rows(&rt, alloc, RUN, last, &mut disk)?;
     }
     Ok(())
 }

@@ -1,0 +1,19 @@
+use Rattle.std.proofs.Common.{refl}
+use Rattle.std.proofs.lemmas.Result.{IfOk-weaker}
+use Rattle.ut_plain.specs.declared.reply.Reply.TheVariants as replies
+use Rattle.ut_plain.specs.Step.{save_flipped}
+use Rattle.check_oracle.specs.Store.{plain_of, directory_of, Gives}
+use Rattle.check_oracle.proofs.HeldLemmas.{root_selected, no_flip}
+use Rattle.check_oracle.proofs.saves.flipped.Goals as goal
+
+pub returns-in_default : goal.returns-in_default
+returns-in_default c =
+    let held = c.args.held.now in
+    let p = plain_of held in
+    IfOk-weaker c.stays.result (λ out. Gives (record { reply = replies.Done; plain = p }) out.reply (plain_of out.held)) (λ out. Gives (save_flipped p p.phase) out.reply (plain_of out.held))
+    (λ out g. no_flip p held.progress held.captured.length (directory_of held.captured) out.reply (plain_of out.held) refl c.in_default.not-Sealed g) c.stays.ensures
+
+pub returns : goal.returns
+returns c =
+    let held = c.args.held.now in
+    root_selected (plain_of held) (plain_of c.in_ok-next.next) held.progress held.captured.length c.in-Sealed.pages (directory_of held.captured) c.in_ok-next.ensures refl c.in-Sealed.is

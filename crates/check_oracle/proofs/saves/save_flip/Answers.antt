@@ -1,0 +1,12 @@
+use Rattle.std.proofs.lemmas.Result.{IfOk-weaker}
+use Rattle.ut_plain.specs.declared.statement.Statement.TheVariants.{SaveFlip}
+use Rattle.ut_plain.specs.Step.{step, save_flipped}
+use Rattle.check_oracle.specs.Store.{plain_of, Gives}
+use Rattle.check_oracle.proofs.SaveLemmas.{flip_gives}
+use Rattle.check_oracle.proofs.saves.save_flip.Goals as goal
+
+pub returns : goal.returns
+returns c =
+    let p = plain_of c.args.held.now in
+    IfOk-weaker c.flipped.result (λ out. Gives (save_flipped p p.phase) out.reply (plain_of out.held)) (λ out. Gives (step p c.args.session (SaveFlip)) out.reply (plain_of out.held))
+    (λ out g. flip_gives p c.args.sight.now c.args.session out.reply (plain_of out.held) c.requires g) c.flipped.ensures
