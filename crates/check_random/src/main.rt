@@ -1,12 +1,13 @@
 //! Compares the program with the slow store of `check_oracle`.
 //!
-//! `check_random first count` runs so many random scripts, from that seed on, on both. `check_random refuse number` runs a worked
+//! `check_random first count` runs so many random scripts, from that seed on, on both, each with a crash. `check_random refuse number` runs a worked
 //! script, and judges the run even if an allocation was refused in it. Without words it runs few random scripts and each
 //! worked one.
 #![tactic(auto)]
 
 mod apart;
 mod compare;
+mod crash;
 mod judge;
 mod run;
 mod told;
@@ -75,7 +76,9 @@ fn compare_all(
             return Ok(false);
         }
     }
-    println!(rt; "compared {count} scripts of {LINES} lines from seed {first}: no difference")?;
+    println!(rt;
+        "compared {count} scripts of {LINES} lines from seed {first}, each with a crash: no difference"
+    )?;
     Ok(true)
 }
 

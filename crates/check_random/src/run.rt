@@ -2,7 +2,7 @@
 use std::alloc::{AllocError, Global};
 use std::thread::Threads;
 use ut_app::{Status, top};
-use ut_outside::{MemDisk, MemSink, MemSource, NoHook};
+use ut_outside::{AckList, MemDisk, MemSink, MemSource, NoHook};
 
 /// The words that open a store, and those that make one.
 pub const RUN: &[&str] = &["ut", "run"];
@@ -12,11 +12,12 @@ pub const RUN_NEW: &[&str] = &["ut", "run", "--new"];
 /// The bytes that a source gives in one call.
 const PIECE: usize = 4096;
 
-/// How a run ended, and what it wrote.
+/// How a run ended, what it wrote, and what it acknowledged.
 #[derive(Drop)]
 pub struct Ran {
     pub status: Status,
     pub told: Vec<u8>,
+    pub acks: AckList,
 }
 
 pub fn run_on(
@@ -32,5 +33,6 @@ pub fn run_on(
     Ok(Ran {
         status: report.status,
         told: Vec::from_slice(alloc, sink.bytes())?,
+        acks: report.acks,
     })
 }

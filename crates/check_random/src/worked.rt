@@ -34,10 +34,10 @@ const A_LOAD_IN_A_TRANSACTION: Lines = &[
 ];
 
 /// So many scripts there are.
-pub const COUNT: usize = 14;
+pub const COUNT: usize = 15;
 
 /// The tables of rows that are run, and then the scripts without replies.
-const TABLES: [&[Row]; 12] = [
+const TABLES: [&[Row]; 13] = [
     rows::A_ROW_IS_SELECTED,
     rows::A_SNAPSHOT_SEES_NO_LATER_COMMIT,
     rows::ROWS_STAND_IN_TWO_STAGES,
@@ -50,6 +50,7 @@ const TABLES: [&[Row]; 12] = [
     save_rows::A_SAVEPOINT_OF_TWO_PARTS,
     save_rows::A_SAVEPOINT_AMID_A_MERGE,
     save_rows::A_SAVEPOINT_OF_ALL_STAGES,
+    save_rows::A_SAVEPOINT_AMID_A_TRANSACTION,
 ];
 
 /// The lines of the script of a number.

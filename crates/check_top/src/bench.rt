@@ -54,6 +54,24 @@ fn seeds_and_pieces_make_no_difference(rt: HostRuntime) -> Result<(), Fail> {
     Ok(())
 }
 
+/// The line of the size that is taken where none is given.
+const USUAL_LINE: &[u8] = b"bench lines 2426 commits 2403 refused 0 rows 22004 total 242011000\n";
+
+#[test]
+fn a_run_of_the_usual_size_writes_its_line(rt: HostRuntime) -> Result<(), Fail> {
+    let alloc = rt.alloc();
+    for words in [
+        &["ut", "bench", "--new", "--seed", "7", "--pieces", "1"],
+        &["ut", "bench", "--new", "--seed", "8", "--pieces", "64"],
+    ] {
+        let mut disk = MemDisk::of(alloc, &[], &[], &[])?;
+        let ran = bench_on(&rt, alloc, words, MemSink::new(alloc, None), &mut disk)?;
+        assert_eq!(rt; ran.status, Status::Done, "{words:?}");
+        assert_eq!(rt; ran.replies.as_slice(), USUAL_LINE, "{words:?}");
+    }
+    Ok(())
+}
+
 #[test]
 fn a_store_that_is_there_is_filled_again(rt: HostRuntime) -> Result<(), Fail> {
     let alloc = rt.alloc();

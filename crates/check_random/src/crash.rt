@@ -1,0 +1,93 @@
+//! A crash of a random script, and what is opened then, on the program and on the slow store.
+use crate::apart::Apart;
+use crate::compare::{AMPLE, Halves, apart_in_questions};
+use crate::run::{RUN, run_on};
+use check_oracle::Oracle;
+use check_scripts::{Answers, LINES, script_line};
+use std::alloc::{AllocError, Global};
+use std::thread::Threads;
+use ut_app::Status;
+use ut_outside::{Ack, Disk, MemDisk, Tear};
+
+/// What a crash makes of bytes that aren't synced, for the last digit of a draw.
+fn tear_of(drawn: u64) -> Tear {
+    match drawn % 5 {
+        0 => Tear::Old,
+        1 => Tear::New,
+        2 => Tear::Fill(0x00),
+        3 => Tear::Fill(0xA7),
+        _ => Tear::Fill((drawn / 5 % 256) as u8),
+    }
+}
+
+/// A number that a seed draws: the upper bits of one step of a linear congruence.
+fn drawn(seed: u64) -> u64 {
+    seed.wrapping_mul(6_364_136_223_846_793_005)
+        .wrapping_add(1_442_695_040_888_963_407)
+        >> 20
+}
+
+/// Where the store that a crash leaves of a script answers the questions as it may not. The crash comes at a drawn moment of the
+/// script's runs; what is opened then has the lines that were told, and perhaps the next one.
+pub fn crash_apart(
+    rt: &(impl Threads + Sync),
+    alloc: Global,
+    halves: Halves,
+    disk: &MemDisk,
+    acks: &[Ack],
+) -> Result<Option<Apart>, AllocError> {
+    let draw = drawn(halves.seed);
+    let moment = draw / 1280 % disk.calls().saturating_add(1);
+    if moment > disk.calls() {
+        return Ok(None);
+    }
+    let mut image = disk.image(moment, tear_of(draw))?;
+    let told = acks.iter().filter(|ack| ack.moment <= moment).count() as u32;
+    if told == 0 && run_on(rt, alloc, RUN, b"", &mut image)?.status == Status::NoStore {
+        return Ok(None);
+    }
+    let mut store = store_behind(alloc, halves, told)?;
+    if apart_in_questions(rt, alloc, &mut store, &mut image)?.is_none() {
+        return Ok(None);
+    }
+    let mut store = store_behind(alloc, halves, told.saturating_add(1))?;
+    let apart = apart_in_questions(rt, alloc, &mut store, &mut image)?;
+    told_of(alloc, apart, moment, told)
+}
+
+/// The slow store, opened again behind so many lines of a script.
+fn store_behind(alloc: Global, halves: Halves, count: u32) -> Result<Oracle, AllocError> {
+    let mut store = Oracle::new(alloc, AMPLE)?;
+    let mut replies = Vec::new(alloc);
+    for number in 0..count.min(LINES) {
+        if number == halves.cut {
+            store = store.reopened(alloc, AMPLE)?;
+        }
+        let mut line = Vec::new(alloc);
+        script_line(halves.of_store, halves.seed, number, &mut line)?;
+        store.answer(alloc, &line, &mut replies)?;
+    }
+    store.reopened(alloc, AMPLE)
+}
+
+/// A difference, with the crash that showed it.
+fn told_of(
+    alloc: Global,
+    apart: Option<Apart>,
+    moment: u64,
+    told: u32,
+) -> Result<Option<Apart>, AllocError> {
+    let Some(apart) = apart else {
+        return Ok(None);
+    };
+    let Apart {
+        line,
+        wanted,
+        told: answered,
+    } = apart;
+    Ok(Some(Apart {
+        line: format!(in alloc; "stopped after {moment} calls and {told} replies, {line}")?,
+        wanted,
+        told: answered,
+    }))
+}
