@@ -1,0 +1,68 @@
+//! How keepers hear that something was done.
+use crate::role::Kept;
+use std::sync::Wait;
+use std::sync::atomic::AtomicU64;
+use std::sync::atomic::Ordering::SeqCst;
+
+/// Counts what was done. A keeper that is idle sleeps until the count goes on.
+#[derive(Drop)]
+pub(crate) struct Bell {
+    rings: AtomicU64,
+    // Sessions that have not left.
+    sessions: AtomicU64,
+    // Keepers that sleep, or are about to.
+    asleep: AtomicU64,
+}
+
+impl Bell {
+    pub(crate) fn new(sessions: usize) -> Bell {
+        Bell {
+            rings: AtomicU64::new(0),
+            sessions: AtomicU64::new(sessions as u64),
+            asleep: AtomicU64::new(0),
+        }
+    }
+
+    pub(crate) fn rings(&self) -> u64 {
+        self.rings.load(SeqCst)
+    }
+
+    // It counts before it looks for sleepers, and a sleeper is counted before it looks at the rings,
+    // so one of the two sees the other.
+    pub(crate) fn ring(&self) {
+        self.rings.fetch_add(1, SeqCst);
+        if self.asleep.load(SeqCst) != 0 {
+            self.rings.wake_all();
+        }
+    }
+
+    /// The last ring of a session.
+    pub(crate) fn leave(&self) {
+        self.sessions.fetch_sub(1, SeqCst);
+        self.ring();
+    }
+
+    /// Whether a keeper goes on, once it may have something to do. It had heard so many rings
+    /// before its turn.
+    pub(crate) fn goes_on<R: Wait>(&self, rt: &R, kept: Kept, heard: u64) -> bool {
+        match kept {
+            Kept::Did => {
+                self.ring();
+                true
+            }
+            Kept::Idle => self.sleeps(rt, heard),
+            Kept::Over => false,
+        }
+    }
+
+    // Sleeps until a ring that was not heard. Where all sessions have left and none came, none may.
+    fn sleeps<R: Wait>(&self, rt: &R, heard: u64) -> bool {
+        if self.sessions.load(SeqCst) == 0 && self.rings() == heard {
+            return false;
+        }
+        self.asleep.fetch_add(1, SeqCst);
+        self.rings.park(rt, (heard & 0xffff_ffff) as u32);
+        self.asleep.fetch_sub(1, SeqCst);
+        true
+    }
+}

@@ -1,0 +1,43 @@
+//! What the members of a crew do, in their turns and outside them.
+ghost use Rattle.std.specs.Prelude.{Some, IfSome};
+
+use ut_gate::{Act, Held};
+
+/// What a keeper's turn came to.
+#[derive(Clone, Copy, Debug, PartialEq, Eq)]
+pub enum Kept {
+    /// There may be more to do at once.
+    Did,
+    /// There is nothing to do until others have done something.
+    Idle,
+    /// There will be nothing to do.
+    Over,
+}
+
+/// What a session does outside the turns. It tells nothing.
+pub trait Between {
+    /// Called behind each turn that answered true.
+    fn between(&self);
+}
+
+/// What a merger does outside the turns: it builds what a job asks for.
+pub trait Build<E: Held> {
+    /// Ends a job, in a turn.
+    type End: Act<E, Answer = Kept> + Send + Drop;
+
+    /// What has to be known of a builder before it builds.
+    ghost ready: { Self → Type 0 };
+
+    /// An act that may end the job. Without one the merger is over, and the job stays.
+    fn build(&self, job: &E::Job) -> Option<Self::End>
+        requires ready { ready self.now }
+        ensures ends { IfSome result (λ end. Self.End.asks end (record { job = Some job.now })) };
+}
+
+/// The part that a thread plays.
+#[derive(Drop)]
+pub(crate) enum Role<A: Drop, M: Drop, S: Drop> {
+    Session(A),
+    Merger(M),
+    Saver(S),
+}
