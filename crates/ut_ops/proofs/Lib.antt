@@ -3,4 +3,5 @@ pub mod ColumnLemmas
 pub mod SumLemmas
 pub mod TallyLemmas
 pub mod JoinLemmas
+pub mod GatherLemmas
 pub mod CodeLemmas

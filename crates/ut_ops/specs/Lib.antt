@@ -3,3 +3,4 @@ pub mod Fit
 pub mod Tally
 pub mod Index
 pub mod Noted
+pub mod Gathered
