@@ -5,3 +5,4 @@ pub mod TallyLemmas
 pub mod JoinLemmas
 pub mod GatherLemmas
 pub mod CodeLemmas
+pub mod CopyLemmas
