@@ -1,6 +1,8 @@
--- What the codes of a column tell of rows that fit.
+-- What the codes of a column tell of rows that fit: their numbers, and the places of their sums.
 use Rattle.std.proofs.Common.{ℕ, zero, suc, ◌+◌, ◌<◌, ◌≡◌, List, [], ◌∷◌, ◌++◌, length, map, get_or, set, Option, Some, IfSome, IsTrue, refl, sym, ap, ◌∙◌, subst, arith, ℤ, pos, negsuc, to_z, of_z, ltb-true, ◌^◌, ◌⊎◌, inl, inr}
 use Rattle.std.specs.Prelude.{slice_get}
+use Rattle.std.proofs.lemmas.Bool.{cases_eq}
+use Rattle.std.proofs.lemmas.List.{length-append, length-map, map-append, get_or-set_same, get_or-set_other}
 use Rattle.std.proofs.lemmas.Option.{same_Some}
 use Rattle.ut_value.specs.declared.value.Value.{Value}
 use Rattle.ut_value.specs.declared.value.Value.TheVariants.{Int, Text}
@@ -8,6 +10,7 @@ use Rattle.ut_value.specs.KeyBytes.{is_value}
 use Rattle.std.specs.Int.{w64}
 use Rattle.std.proofs.lemmas.Int.{ints, to_z-of_z}
 use Rattle.ut_plain.specs.Query.{number_of}
+use Rattle.ut_plain.specs.declared.reply.Group as group
 use Rattle.ut_scan.specs.declared.place.Found.{Found}
 use Rattle.ut_exact.specs.Places.{StagedRow}
 use Rattle.ut_staged.specs.Staged.{Staged, row_at}
@@ -15,7 +18,9 @@ use Rattle.ut_table.specs.Coded.{coded_values}
 use Rattle.ut_ops.specs.declared.numbers.Noted.{Noted}
 use Rattle.ut_ops.specs.Fit.{is_row, cell}
 use Rattle.ut_ops.specs.Noted.{IsNoted}
+use Rattle.ut_ops.specs.Gathered.{key_in, more_at, AreMarks, Adds}
 use Rattle.ut_ops.proofs.CellLemmas.{is_cell}
+use Rattle.ut_ops.proofs.GatherLemmas.{length-more, keys-more, IsNumber, sums-push, tallies-more, few-push, few-more}
 
 -- what a code of a row tells
 abbrev pub IsCodeOf : Staged → ℕ → Found → Option ℕ → Type 0
@@ -51,3 +56,75 @@ noted-new s c f note code at mark is = record { number = λ other e. let same : 
 
 pub noted-none : (s : Staged) (c : ℕ) (note : Noted) → note.mark ≡ 0 → IsNoted s c note
 noted-none s c note mark = record { number = λ code e. absurd (omega (arith, mark, e)) }
+
+-- ---- marks
+
+left : {X : Type 0} (xs ys : List X) (n : ℕ) → n < length xs → slice_get (xs ++ ys) n ≡ slice_get xs n
+left [] ys n lt = absurd (omega arith)
+left (x ∷ xs) ys zero lt = refl
+left (x ∷ xs) ys (suc n) lt = left xs ys n (omega (arith, lt))
+
+last : {X : Type 0} (xs : List X) (x : X) → slice_get (xs ++ x ∷ []) (length xs) ≡ Some x
+last [] x = refl
+last (y ∷ xs) x = last xs x
+
+-- no mark, and one more
+pub zeros-push : (xs : List ℕ) → ((code : ℕ) → get_or xs code 0 ≡ 0) → (code : ℕ) → get_or (xs ++ 0 ∷ []) code 0 ≡ 0
+zeros-push [] h zero = refl
+zeros-push [] h (suc code) = refl
+zeros-push (x ∷ xs) h zero = h 0
+zeros-push (x ∷ xs) h (suc code) = zeros-push xs (λ d. h (suc d)) code
+
+pub marks-none : (s : Staged) (c : ℕ) (marks : List ℕ) → ((code : ℕ) → get_or marks code 0 ≡ 0) → AreMarks s c marks []
+marks-none s c marks h = record { each = λ code place e. absurd (omega (arith, h code, e)) }
+
+pub marks-push : (s : Staged) (c : ℕ) (marks : List ℕ) (gs : List group.Group) (g : group.Group) → AreMarks s c marks gs → AreMarks s c marks (gs ++ g ∷ [])
+marks-push s c marks gs g h = record {
+  each = λ code place e.
+      let r = h.each code place e in (
+        omega (arith, r.0, length-append gs (g ∷ [])),
+        ap (λ ks. slice_get ks place) (map-append key_in gs (g ∷ [])) ∙ left (map key_in gs) (g.key ∷ []) place (omega (arith, r.0, length-map gs key_in)) ∙ r.1,
+      );
+}
+
+pub marks-set : (s : Staged) (c : ℕ) (marks : List ℕ) (gs : List group.Group) (g : group.Group) (code m : ℕ) → AreMarks s c marks gs → code < length marks → slice_get (coded_values s c) code ≡ Some g.key → m ≡ length gs + 1
+    → AreMarks s c (set marks code m) (gs ++ g ∷ [])
+marks-set s c marks gs g code m h lt at is = record { each = λ k place e. by k place e (cases_eq k code) }
+  where
+    by : (k place : ℕ) → get_or (set marks code m) k 0 ≡ suc place → (k ≡ code) ⊎ (k ≡ code → ⊥)
+        → (place < length (gs ++ g ∷ [])) × (slice_get (map key_in (gs ++ g ∷ [])) place ≡ slice_get (coded_values s c) k)
+    by k place e (inl same) =
+        let here : place ≡ length (map key_in gs) = omega (arith, is, sym (ap (λ n. get_or (set marks code m) n 0) same ∙ get_or-set_same marks code m 0 lt) ∙ e, length-map gs key_in) in (
+          omega (arith, here, length-append gs (g ∷ []), length-map gs key_in),
+          ap (slice_get (map key_in (gs ++ g ∷ []))) here ∙ ap (λ ks. slice_get ks (length (map key_in gs))) (map-append key_in gs (g ∷ [])) ∙ last (map key_in gs) g.key ∙ sym (ap (slice_get (coded_values s c)) same ∙ at),
+        )
+    by k place e (inr other) = (marks-push s c marks gs g h).each k place (sym (get_or-set_other marks code k m 0 other) ∙ e)
+
+pub marks-more : (s : Staged) (c : ℕ) (marks : List ℕ) (gs : List group.Group) (i : ℕ) (x : ℤ) → AreMarks s c marks gs → AreMarks s c marks (more_at i x gs)
+marks-more s c marks gs i x h = record {
+  each = λ code place e.
+      let r = h.each code place e in
+      (omega (arith, r.0, length-more i x gs), ap (λ ks. slice_get ks place) (keys-more i x gs) ∙ r.1);
+}
+
+-- ---- a number more of a key
+
+pub adds-new : (s : Staged) (c : ℕ) (k : Value) (n : ℤ) (marks : List ℕ) (gs new : List group.Group) (m : ℤ) → IsNumber n → AreMarks s c marks gs → new ≡ gs ++ record { key = k; sum = m } ∷ [] → m ≡ n → Adds s c k n gs marks new
+adds-new s c k n marks gs new m x h is same =
+    subst (Adds s c k n gs marks) (sym (is ∙ ap (λ t. gs ++ record { key = k; sum = t } ∷ []) same))
+    (record { told = sums-push gs k n; marked = marks-push s c marks gs (record { key = k; sum = n }) h; few = λ j. few-push j gs (record { key = k; sum = n }) x })
+
+pub adds-marked : (s : Staged) (c : ℕ) (k : Value) (n : ℤ) (marks : List ℕ) (gs : List group.Group) (code mark : ℕ) (new : List group.Group) (m : ℤ) → IsNumber n → AreMarks s c marks gs → code < length marks → slice_get (coded_values s c) code ≡ Some k → mark ≡ length new
+    → new ≡ gs ++ record { key = k; sum = m } ∷ [] → m ≡ n → Adds s c k n gs (set marks code mark) new
+adds-marked s c k n marks gs code mark new m x h lt at count is same =
+    subst (Adds s c k n gs (set marks code mark)) (sym whole)
+    (record { told = sums-push gs k n; marked = marks-set s c marks gs (record { key = k; sum = n }) code mark h lt at (count ∙ ap length whole ∙ length-append gs (record { key = k; sum = n } ∷ [])); few = λ j. few-push j gs (record { key = k; sum = n }) x })
+  where
+    whole : new ≡ gs ++ record { key = k; sum = n } ∷ []
+    whole = is ∙ ap (λ t. gs ++ record { key = k; sum = t } ∷ []) same
+
+pub adds-more : (s : Staged) (c : ℕ) (k : Value) (n : ℤ) (marks : List ℕ) (gs : List group.Group) (code place : ℕ) (new : List group.Group) (m : ℤ) → IsNumber n → AreMarks s c marks gs → slice_get (coded_values s c) code ≡ Some k → get_or marks code 0 ≡ suc place
+    → new ≡ more_at place m gs → m ≡ n → Adds s c k n gs marks new
+adds-more s c k n marks gs code place new m x h at mark is same =
+    subst (Adds s c k n gs marks) (sym (is ∙ ap (λ t. more_at place t gs) same))
+    (record { told = tallies-more gs place k n ((h.each code place mark).1 ∙ at); marked = marks-more s c marks gs place n h; few = λ j. few-more j place n gs x })

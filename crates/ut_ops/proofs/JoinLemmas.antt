@@ -1,5 +1,6 @@
 -- The pairs of rows with equal values.
 use Rattle.std.proofs.Common.{◌≡◌, ℕ, zero, suc, ◌+◌, ◌<◌, Bool, true, false, cond, List, [], ◌∷◌, ◌++◌, length, map, filter, drop, get_or, Option, None, Some, refl, sym, ap, ◌∙◌, subst, arith, unwrap_or, IsTrue, slice_get}
+use Rattle.std.proofs.lemmas.List.{append_assoc, drop_more}
 use Rattle.std.specs.Option.{option_and_then}
 use Rattle.std.specs.List.{flat_map}
 use Rattle.std.specs.Ordering.{is_eq}
@@ -63,8 +64,27 @@ flat_step f (y ∷ ys) (suc i) d done all h k =
     let next : suc i + 1 ≡ suc (i + 1) = omega arith in
     ap (λ j. (done ++ f (get_or ys i d)) ++ flat_map f (drop j (y ∷ ys))) next ∙ flat_step f ys i d done all (omega arith) k
 
-pub flat_more : {X A : Type 0} (f : X → List A) (xs : List X) (i : ℕ) (d : X) (done more now all : List A) → i < length xs → more ≡ f (get_or xs i d) → now ≡ done ++ more → done ++ flat_map f (drop i xs) ≡ all → now ++ flat_map f (drop (i + 1) xs) ≡ all
+flat_more : {X A : Type 0} (f : X → List A) (xs : List X) (i : ℕ) (d : X) (done more now all : List A) → i < length xs → more ≡ f (get_or xs i d) → now ≡ done ++ more → done ++ flat_map f (drop i xs) ≡ all → now ++ flat_map f (drop (i + 1) xs) ≡ all
 flat_more f xs i d done more now all h m n k = ap (λ ys. ys ++ flat_map f (drop (i + 1) xs)) (n ∙ ap (λ ys. done ++ ys) m) ∙ flat_step f xs i d done all h k
+
+-- the pairs of one left row more
+pub pairs_more : (l r : Staged) (c : ℕ) (index : BTreeMap Value (List Found)) (fs : List Found) (i : ℕ) (d : Found) (done now all : List (List Value)) (others : List Found) → i < length fs → others ≡ listed index (cell l c (get_or fs i d))
+    → now ≡ done ++ beside (values_at l (get_or fs i d)) r others → done ++ flat_map (λ f. beside (values_at l f) r (listed index (cell l c f))) (drop i fs) ≡ all
+    → now ++ flat_map (λ f. beside (values_at l f) r (listed index (cell l c f))) (drop (i + 1) fs) ≡ all
+pairs_more l r c index fs i d done now all others lt is new before =
+    flat_more (λ f. beside (values_at l f) r (listed index (cell l c f))) fs i d done (beside (values_at l (get_or fs i d)) r others) now all lt (ap (beside (values_at l (get_or fs i d)) r) is) new before
+
+-- a row behind another
+pub two_rows : {X : Type 0} (none one two a b : List X) → none ≡ [] → one ≡ none ++ a → two ≡ one ++ b → two ≡ a ++ b
+two_rows none one two a b e f g = g ∙ ap (λ xs. xs ++ b) (f ∙ ap (λ xs. xs ++ a) e)
+
+-- the same beside one row
+pub beside_more : (row : List Value) (s : Staged) (fs : List Found) (i : ℕ) (d : Found) (done now all : List (List Value)) (v : List Value) → i < length fs → v ≡ row ++ values_at s (get_or fs i d) → now ≡ done ++ v ∷ [] → done ++ beside row s (drop i fs) ≡ all
+    → now ++ beside row s (drop (i + 1) fs) ≡ all
+beside_more row s fs i d done now all v lt is new before =
+    ap (λ rs. rs ++ beside row s (drop (i + 1) fs)) (new ∙ ap (λ w. done ++ w ∷ []) is)
+    ∙ append_assoc done ((row ++ values_at s (get_or fs i d)) ∷ []) (beside row s (drop (i + 1) fs))
+    ∙ ap (λ gs. done ++ beside row s gs) (sym (drop_more fs i d lt)) ∙ before
 
 -- ---- all pairs
 

@@ -1,6 +1,5 @@
 -- The sums by key are those of the distinct keys.
-use Rattle.std.proofs.Common.{◌≡◌, ℤ, pos, ◌+ℤ◌, neg_ℤ, ◌≤ℤ◌, ℕ, zero, suc, ◌*◌, ◌<◌, ◌≤◌, Bool, T, true, false, ◌&&◌, cond, List, [], ◌∷◌, length, map, None, Some, refl, sym, ap, ◌∙◌, subst, arith, unwrap_or, IsTrue, true≢false, slice_get, negsuc, ltb-true, ◌^◌, drop, length-drop}
-use Rattle.std.proofs.lemmas.Int.{ints}
+use Rattle.std.proofs.Common.{◌≡◌, ℤ, pos, ◌+ℤ◌, ℕ, Bool, T, true, false, ◌&&◌, cond, List, [], ◌∷◌, map, None, Some, refl, sym, ap, ◌∙◌, unwrap_or, true≢false, slice_get}
 use Rattle.std.specs.Option.{option_and_then}
 use Rattle.std.specs.List.{filter_map, cons_option}
 use Rattle.std.specs.declared.cmp.Ordering.{Ordering}
@@ -12,9 +11,7 @@ use Rattle.std.specs.FinMap.Entries.{by_order, below_all, is_sorted-put, find-pu
 use Rattle.std.specs.BTreeMap.{insert_entry, is_at}
 use Rattle.std.specs.Map.{lookup}
 use Rattle.ut_value.specs.declared.value.Value.{Value}
-use Rattle.ut_value.specs.declared.value.Value.TheVariants.{Int, Text}
 use Rattle.ut_value.specs.declared.value.Column.{Column}
-use Rattle.ut_value.specs.KeyBytes.{is_value}
 use Rattle.ut_value.specs.KeyOrder.{value_cmp}
 use Rattle.ut_plain.specs.declared.table.Stored.{Stored}
 use Rattle.ut_plain.specs.Tables.{column_of}
@@ -27,7 +24,6 @@ use Rattle.ut_table.specs.Finds.{rows_at}
 use Rattle.ut_ops.specs.ValueOrder.{value_cmp_total, equal_values}
 use Rattle.ut_ops.specs.Fit.{Fit, cell}
 use Rattle.ut_ops.specs.Tally.{sum_of, added, tallies, entry_of, as_group}
-use Rattle.ut_ops.proofs.CellLemmas.{is_cell}
 use Rattle.ut_ops.proofs.ColumnLemmas.{fit_first, fit_rest, stored_cell, values_none, values_some, column_below}
 
 -- ---- a map of std, as this one
@@ -67,7 +63,7 @@ turn_level Greater = refl
 pub eq_turned : (v w : Value) → is_eq (value_cmp v w) ≡ is_eq (value_cmp w v)
 eq_turned v w = ap is_eq (value_cmp_total.antisymm v w) ∙ turn_level (value_cmp w v)
 
-sum_of-added : (q k : Value) (n : ℤ) (es : List (Value × ℤ)) → sum_of q (added k n es) ≡ cond (is_eq (value_cmp q k)) (n +ℤ sum_of k es) (sum_of q es)
+pub sum_of-added : (q k : Value) (n : ℤ) (es : List (Value × ℤ)) → sum_of q (added k n es) ≡ cond (is_eq (value_cmp q k)) (n +ℤ sum_of k es) (sum_of q es)
 sum_of-added q k n es = ap (λ o. unwrap_or o (pos 0)) (find-put value_cmp value_cmp_total q k (n +ℤ sum_of k es) es) ∙ by (is_eq (value_cmp q k))
   where
     by : (b : Bool) → unwrap_or (cond b (Some (n +ℤ sum_of k es)) (find value_cmp q es)) (pos 0) ≡ cond b (n +ℤ sum_of k es) (sum_of q es)
@@ -102,7 +98,7 @@ keys_are : (xs : List (Value × ℤ)) → map (λ (e : Value × ℤ). e.0) (tall
 keys_are [] = refl
 keys_are (x ∷ xs) = keys-put x.0 (x.1 +ℤ sum_of x.0 (tallies xs)) (tallies xs) ∙ ap (with_key x.0) (keys_are xs)
 
-sorted_tallies : (xs : List (Value × ℤ)) → T (is_sorted value_cmp (tallies xs))
+pub sorted_tallies : (xs : List (Value × ℤ)) → T (is_sorted value_cmp (tallies xs))
 sorted_tallies [] = tt
 sorted_tallies (x ∷ xs) = is_sorted-put value_cmp value_cmp_total x.0 (x.1 +ℤ sum_of x.0 (tallies xs)) (tallies xs) (sorted_tallies xs)
 
@@ -190,43 +186,3 @@ groups_are n s key sum kc sc fs fit at bt =
 -- no keys, no groups
 pub no_groups : (columns : List Column) (key sum : List ℕ) (rows : List (ℕ × Stored)) → column_of columns key ≡ None → groups columns key sum rows ≡ []
 no_groups columns key sum rows at = ap (λ vs. map (λ k. as_group (k, total (column_values columns sum (with_value columns key k rows)))) (distinct vs)) (values_none columns key rows at)
-
--- ---- how large they are
-
--- at most so many numbers of 64 bits together
-pub record Within (n : ℕ) (x : ℤ) : Type 0 where
-  pub low : neg_ℤ (pos (9223372036854775808 * n)) ≤ℤ x
-  pub high : x ≤ℤ pos (9223372036854775808 * n)
-
-number_within : (v : Value) → IsTrue (is_value v) → Within 1 (number_of v)
-number_within (Int (pos n)) h = record { low = omega (arith, ints); high = omega (arith, ints, ltb-true n (2 ^ 63) h) }
-number_within (Int (negsuc n)) h = record { low = omega (arith, ints, ltb-true n (2 ^ 63) h); high = omega (arith, ints) }
-number_within (Text t) h = record { low = omega (arith, ints); high = omega (arith, ints) }
-
-tot_within : (q : Value) (s : Staged) (kc sc : ℕ) (fs : List Found) → Fit s fs → sc < length s.columns → Within (length fs) (tot q (map (entry_of s kc sc) fs))
-tot_within q s kc sc [] fit small = record { low = omega (arith, ints); high = omega (arith, ints) }
-tot_within q s kc sc (f ∷ fs) fit small =
-    by (is_eq (value_cmp (cell s kc f) q)) (number_of (cell s sc f)) (tot q (map (entry_of s kc sc) fs))
-    (number_within (cell s sc f) (is_cell s sc f (fit_first s f fs fit) small).kept) (tot_within q s kc sc fs (fit_rest s f fs fit) small)
-  where
-    by : (b : Bool) (n t : ℤ) → Within 1 n → Within (length fs) t → Within (suc (length fs)) (cond b (n +ℤ t) t)
-    by true n t one more = let a = one.low in let b = one.high in let c = more.low in let d = more.high in record { low = omega (arith, ints); high = omega (arith, ints) }
-    by false n t one more = let c = more.low in let d = more.high in record { low = omega (arith, ints); high = omega (arith, ints) }
-
-pub fit_drop : (s : Staged) (j : ℕ) (fs : List Found) → Fit s fs → Fit s (drop j fs)
-fit_drop s zero fs fit = fit
-fit_drop s (suc j) [] fit = fit
-fit_drop s (suc j) (f ∷ fs) fit = fit_drop s j fs (fit_rest s f fs fit)
-
--- no sum of 2 ^ 31 numbers is too large
-pub record Small (x : ℤ) : Type 0 where
-  pub low : neg_ℤ (pos 19807040628566084398385987584) ≤ℤ x
-  pub high : x ≤ℤ pos 19807040628566084398385987584
-
-pub sums_small : (q : Value) (s : Staged) (kc sc j : ℕ) (fs : List Found) (sums : List (Value × ℤ)) → Fit s fs → sc < length s.columns → length fs ≤ 2 ^ 31 → sums ≡ tallies (map (entry_of s kc sc) (drop j fs)) → Small (sum_of q sums)
-sums_small q s kc sc j fs sums fit small few is =
-    let within = subst (Within (length (drop j fs))) (sym (ap (sum_of q) is ∙ sum_is q (map (entry_of s kc sc) (drop j fs)))) (tot_within q s kc sc (drop j fs) (fit_drop s j fs fit) small) in
-    by (sum_of q sums) (length (drop j fs)) (omega (arith, length-drop j fs)) within
-  where
-    by : (x : ℤ) (n : ℕ) → n ≤ 2147483648 → Within n x → Small x
-    by x n h w = let a = w.low in let b = w.high in record { low = omega (arith, ints); high = omega (arith, ints) }

@@ -3,3 +3,5 @@ pub mod Fit
 pub mod Tally
 pub mod Index
 pub mod Noted
+pub mod Gathered
+pub mod Copied

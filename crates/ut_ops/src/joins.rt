@@ -8,16 +8,17 @@ ghost use Rattle.ut_plain.specs.Query.{joined};
 ghost use Rattle.ut_staged.specs.Staged.{row_at};
 ghost use Rattle.ut_table.specs.Finds.{rows_at};
 ghost use Rattle.ut_ops.specs.Fit.{is_row, Fit, cell, values_at};
+ghost use Rattle.ut_ops.specs.Copied.{AreCopied};
 ghost use Rattle.ut_ops.specs.Index.{listed, IsIndex, AreFit, beside};
 
-use crate::cell::{value_at, values_at};
+use crate::copies::{Copies, add_row, copied_value, room_for};
 use crate::ranked::Ranked;
 use std::alloc::{AllocError, Global};
 use std::collections::BTreeMap;
 use ut_plain::column_of;
 use ut_scan::Found;
 use ut_table::Table;
-use ut_value::{Duplicate, Seq, Value};
+use ut_value::{Seq, Value};
 
 /// The pairs of a left and a right row with equal values: by the left ones, and then by the right ones.
 pub fn join(
@@ -40,7 +41,21 @@ pub fn join(
         return Ok(Seq::new(alloc));
     };
     let index = index_of(alloc, right, right_place, right_hits)?;
-    let rows = pairs(alloc, left, left_place, left_hits, right, &index)?;
+    let mut left_copies = room_for(alloc, left, left_hits.len())?;
+    let n = pairs_count(alloc, left, left_place, left_hits, &index, &mut left_copies)?;
+    let mut right_copies = room_for(alloc, right, n)?;
+    let mut rows = Seq::from_vec(Vec::with_capacity(alloc, n)?);
+    add_pairs(
+        alloc,
+        left,
+        left_place,
+        left_hits,
+        &mut left_copies,
+        right,
+        &index,
+        &mut right_copies,
+        &mut rows,
+    )?;
     Ok(rows)
 }
 
@@ -55,9 +70,10 @@ fn index_of(
     requires fit { Fit table.now.stages hits.now }
     ensures { IfOk result (λ index. IsIndex table.now.stages column hits.now index) }
 {
+    let mut copies = room_for(alloc, table, hits.len())?;
     let mut index = BTreeMap::new(alloc);
     for hit in hits {
-        let value = value_at(alloc, table, *hit, column)?;
+        let value = copied_value(alloc, table, *hit, column, &mut copies)?;
         list(alloc, &mut index, Ranked::new(value), *hit)?;
     }
     Ok(index)
@@ -78,67 +94,99 @@ fn list(
     Ok(())
 }
 
-fn pairs(
+/// The rows with a value.
+fn partners<'a>(index: &'a BTreeMap<Ranked, Seq<Found>>, value: &Ranked) -> &'a [Found]
+    ensures { result.now ≡ listed index.now value.now }
+{
+    match index.get(value) {
+        None => &[],
+        Some(others) => others.as_slice(),
+    }
+}
+
+/// How many pairs there are.
+fn pairs_count(
     alloc: Global,
     left: &Table,
     column: usize,
     hits: &[Found],
+    index: &BTreeMap<Ranked, Seq<Found>>,
+    copies: &mut Copies,
+) -> Result<usize, AllocError>
+    requires column { column < length left.now.stages.columns }
+    requires fit { Fit left.now.stages hits.now }
+    requires copied { AreCopied left.now.stages copies.old.notes.items }
+    ensures copied { OnOk result (AreCopied left.now.stages copies.new.notes.items) }
+{
+    let mut n: usize = 0;
+    for hit in hits {
+        let value = Ranked::new(copied_value(alloc, left, *hit, column, copies)?);
+        n = n.saturating_add(partners(index, &value).len());
+    }
+    Ok(n)
+}
+
+/// The pairs of each left row, one left row after the other.
+fn add_pairs(
+    alloc: Global,
+    left: &Table,
+    column: usize,
+    hits: &[Found],
+    left_copies: &mut Copies,
     right: &Table,
     index: &BTreeMap<Ranked, Seq<Found>>,
-) -> Result<Seq<Seq<Value>>, AllocError>
+    right_copies: &mut Copies,
+    rows: &mut Seq<Seq<Value>>,
+) -> Result<(), AllocError>
     requires column { column < length left.now.stages.columns }
     requires left_fit { Fit left.now.stages hits.now }
     requires right_fit { AreFit right.now.stages index.now }
-    ensures { IfOk result (λ rows. rows ≡ flat_map (λ f. beside (values_at left.now.stages f) right.now.stages (listed index.now (cell left.now.stages column f))) hits.now) }
+    requires left_copied { AreCopied left.now.stages left_copies.old.notes.items }
+    requires right_copied { AreCopied right.now.stages right_copies.old.notes.items }
+    ensures { OnOk result (rows.new ≡ rows.old ++ flat_map (λ f. beside (values_at left.now.stages f) right.now.stages (listed index.now (cell left.now.stages column f))) hits.now) }
 {
-    let mut rows = Seq::new(alloc);
     for hit in hits {
-        let more = pairs_of(alloc, left, column, *hit, right, index)?;
-        rows.append(more)?;
+        let value = Ranked::new(copied_value(alloc, left, *hit, column, left_copies)?);
+        let others = partners(index, &value);
+        add_beside(
+            alloc,
+            left,
+            *hit,
+            left_copies,
+            right,
+            others,
+            right_copies,
+            rows,
+        )?;
     }
-    Ok(rows)
+    Ok(())
 }
 
-fn pairs_of(
+/// A left row beside each of its partners.
+fn add_beside(
     alloc: Global,
     left: &Table,
-    column: usize,
     hit: Found,
+    left_copies: &mut Copies,
     right: &Table,
-    index: &BTreeMap<Ranked, Seq<Found>>,
-) -> Result<Seq<Seq<Value>>, AllocError>
-    requires column { column < length left.now.stages.columns }
-    requires left_fit { IsTrue (is_row left.now.stages.columns (row_at left.now.stages hit.place)) }
-    requires right_fit { AreFit right.now.stages index.now }
-    ensures { IfOk result (λ rows. rows ≡ beside (values_at left.now.stages hit) right.now.stages (listed index.now (cell left.now.stages column hit))) }
-{
-    let value = Ranked::new(value_at(alloc, left, hit, column)?);
-    match index.get(&value) {
-        None => Ok(Seq::new(alloc)),
-        Some(others) => {
-            let row = values_at(alloc, left, hit)?;
-            let rows = beside(alloc, &row, right, others.as_slice())?;
-            Ok(rows)
-        }
-    }
-}
-
-fn beside(
-    alloc: Global,
-    row: &Seq<Value>,
-    table: &Table,
     hits: &[Found],
-) -> Result<Seq<Seq<Value>>, AllocError>
-    requires { Fit table.now.stages hits.now }
-    ensures { IfOk result (λ rows. rows ≡ beside row.now table.now.stages hits.now) }
+    right_copies: &mut Copies,
+    rows: &mut Seq<Seq<Value>>,
+) -> Result<(), AllocError>
+    requires left_fit { IsTrue (is_row left.now.stages.columns (row_at left.now.stages hit.place)) }
+    requires right_fit { Fit right.now.stages hits.now }
+    requires left_copied { AreCopied left.now.stages left_copies.old.notes.items }
+    requires right_copied { AreCopied right.now.stages right_copies.old.notes.items }
+    ensures rows { OnOk result (rows.new ≡ rows.old ++ beside (values_at left.now.stages hit) right.now.stages hits.now) }
+    ensures left_copied { OnOk result (AreCopied left.now.stages left_copies.new.notes.items) }
+    ensures right_copied { OnOk result (AreCopied right.now.stages right_copies.new.notes.items) }
 {
-    let mut rows = Seq::new(alloc);
-    for hit in hits {
-        let mut values = row.duplicate(alloc)?.into_vec();
-        let mut more = values_at(alloc, table, *hit)?.into_vec();
-        values.reserve_exact(more.len())?;
-        values.append(&mut more)?;
-        rows.push(Seq::from_vec(values))?;
+    let width = left.columns().len().saturating_add(right.columns().len());
+    for other in hits {
+        let mut row = Seq::from_vec(Vec::with_capacity(alloc, width)?);
+        add_row(alloc, left, hit, left_copies, &mut row)?;
+        add_row(alloc, right, *other, right_copies, &mut row)?;
+        rows.push(row)?;
     }
-    Ok(rows)
+    Ok(())
 }

@@ -4,6 +4,7 @@
 mod best;
 mod cell;
 mod columns;
+mod copies;
 mod groups;
 mod joins;
 mod numbers;

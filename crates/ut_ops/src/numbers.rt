@@ -1,5 +1,5 @@
 //! The numbers of a column, read by their codes.
-ghost use Rattle.std.specs.Prelude.{◌≡◌, slice_get, option_map, Some, IsTrue};
+ghost use Rattle.std.specs.Prelude.{◌≡◌, ◌<◌, length, slice_get, option_map, Some, IsTrue, IfOk};
 ghost use Rattle.ut_value.specs.declared.value.Column.{Column};
 ghost use Rattle.ut_value.specs.declared.value.Value.TheVariants as values;
 ghost use Rattle.ut_staged.specs.Staged.{row_at};
@@ -7,6 +7,7 @@ ghost use Rattle.ut_ops.specs.Fit.{is_row, cell};
 ghost use Rattle.ut_ops.specs.Noted.{AreNoted};
 
 use crate::cell::number_at;
+use std::alloc::{AllocError, Global};
 use ut_scan::Found;
 use ut_table::Table;
 use ut_value::Kind;
@@ -20,6 +21,24 @@ pub(crate) struct Noted {
 
 /// No code was read.
 pub(crate) const NONE: Noted = Noted { mark: 0, number: 0 };
+
+/// Room for the numbers of the codes of a column, where these are not more than the rows.
+pub(crate) fn notes(
+    alloc: Global,
+    table: &Table,
+    column: usize,
+    rows: usize,
+) -> Result<Vec<Noted>, AllocError>
+    requires column { column < length table.now.stages.columns }
+    ensures { IfOk result (λ notes. AreNoted table.now.stages column notes.items) }
+{
+    let n = table.codes(column).min(rows);
+    let mut notes = Vec::with_capacity(alloc, n)?;
+    for _ in 0..n {
+        notes.push(NONE)?;
+    }
+    Ok(notes)
+}
 
 /// A row's number in a column of numbers: a code that was noted is not read again.
 pub(crate) fn noted_number(table: &Table, hit: Found, column: usize, notes: &mut [Noted]) -> i64

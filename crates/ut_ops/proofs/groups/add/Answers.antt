@@ -12,6 +12,6 @@ returns c =
     let entries = c.args.sums.now.entries in
     let before : c.unwrap_or-before.result ≡ sum_of c.args.key c.args.sums.now.entries
     = c.unwrap_or-before.ensures ∙ ap (λ o. unwrap_or o (pos 0)) (c.copied.ensures ∙ c.get.ensures.value ∙ lookup-find c.args.sums.now.entries c.args.key) in
-    let same : to_z w128 (of_z w128 (to_z w128 (of_z w128 c.from.result) +ℤ to_z w128 (of_z w128 c.unwrap_or-before.result))) ≡ c.args.number +ℤ sum_of c.args.key c.args.sums.now.entries
+    let same : to_z w128 (of_z w128 (to_z w128 (of_z w128 c.args.number) +ℤ to_z w128 (of_z w128 c.unwrap_or-before.result))) ≡ c.args.number +ℤ sum_of c.args.key c.args.sums.now.entries
     = grind (arith, ints, to_z-of_z) in
     c.in_ok-insert.ensures.entries ∙ insert-put c.args.sums.now.entries c.args.key _ ∙ ap (λ v. put value_cmp c.args.key v c.args.sums.now.entries) same

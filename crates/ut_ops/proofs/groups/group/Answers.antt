@@ -13,11 +13,11 @@ returns-in_default c n =
 pub returns-in_default-column_of : goal.returns-in_default-column_of
 returns-in_default-column_of c n = column_there c.args.table.now.stages.columns c.args.sum.now c.requires.numbers (ap (λ cs. column_of cs c.args.sum.now) (sym c.columns-2.ensures) ∙ sym c.in_default-column_of.ensures)
 
-pub sums_by_key-requires-clause-numbers : goal.sums_by_key-requires-clause-numbers
-sums_by_key-requires-clause-numbers c = numbers_at c.args.table.now.stages.columns c.args.sum.now c.in-Some-column_of.sum_place c.requires.numbers (ap (λ cs. column_of cs c.args.sum.now) (sym c.columns-2.ensures) ∙ sym c.in-Some-column_of.ensures)
+pub gather-requires-clause-numbers : goal.gather-requires-clause-numbers
+gather-requires-clause-numbers c = numbers_at c.args.table.now.stages.columns c.args.sum.now c.in-Some-column_of.sum_place c.requires.numbers (ap (λ cs. column_of cs c.args.sum.now) (sym c.columns-2.ensures) ∙ sym c.in-Some-column_of.ensures)
 
 pub returns : goal.returns
 returns c n =
-    c.in_ok-said.ensures ∙ ap (map as_group) c.in_ok-sums.ensures
+    c.in_ok-said.ensures ∙ ap (map as_group) (c.in_ok-sums.ensures ∙ c.in_ok-gathered.ensures.sums)
     ∙ groups_are n c.args.table.now.stages c.args.key.now c.args.sum.now c.in-Some.key_place c.in-Some-column_of.sum_place c.args.hits.now c.requires.fit
     (ap (λ cs. column_of cs c.args.key.now) (sym c.columns.ensures) ∙ sym c.in-Some.ensures) (ap (λ cs. column_of cs c.args.sum.now) (sym c.columns-2.ensures) ∙ sym c.in-Some-column_of.ensures)

@@ -1,4 +1,4 @@
-use Rattle.std.proofs.Common.{◌<◌, ◌≡◌, ◌+◌, length, refl, sym, ap, ◌∙◌, rules}
+use Rattle.std.proofs.Common.{◌<◌, length, refl, sym, ap, ◌∙◌, rules}
 use Rattle.std.proofs.lemmas.List.Elements.{All-set}
 use Rattle.ut_value.specs.declared.value.Kind.TheVariants as kinds
 use Rattle.ut_value.specs.declared.value.Value.TheVariants.{Int}
