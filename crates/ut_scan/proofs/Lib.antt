@@ -1,5 +1,6 @@
 pub mod CodeLemmas
 pub mod FindLemmas
 pub mod MainLemmas
+pub mod PartLemmas
 pub mod PickLemmas
 pub mod RangeLemmas

@@ -1,5 +1,5 @@
 -- The test of a candidate by its place, and what it finds.
-use Rattle.std.specs.Prelude.{◌≡◌, ℕ, Bool, ◌&&◌, List, map, filter, get_or}
+use Rattle.std.specs.Prelude.{◌≡◌, ℕ, ◌<◌, Bool, ◌&&◌, List, length, map, filter, get_or, Option, Some}
 use Rattle.ut_stamps.specs.declared.visibility.Stamp.{Stamp}
 use Rattle.ut_stamps.specs.Stamps.{sees}
 use Rattle.ut_l2.specs.KeyRows.{KeyRow, no_row}
@@ -23,6 +23,14 @@ place_in in_closed = Closed
 -- whether the viewer sees the row at place i
 abbrev pub is_seen : Viewer → List Stamp → ℕ → Bool
 is_seen v stamps i = sees v.fates.now v.snapshot v.own (get_or stamps i no_stamp)
+
+-- the viewer sees all rows with these stamps, or none
+abbrev pub AreSeenAs : Viewer → List Stamp → Bool → Type 0
+AreSeenAs v stamps seen = (i : ℕ) → i < length stamps → is_seen v stamps i ≡ seen
+
+-- what is told of all rows holds
+abbrev pub Tells : Viewer → List Stamp → Option Bool → Type 0
+Tells v stamps told = (seen : Bool) → told ≡ Some seen → AreSeenAs v stamps seen
 
 -- the viewer sees the row at place i, and it meets each comparison
 abbrev pub hits : Viewer → List ColumnPred → List KeyRow → List Stamp → ℕ → Bool

@@ -3,6 +3,7 @@
 
 mod coded;
 mod delta;
+mod part_stamps;
 mod parts;
 mod place;
 mod probe;

@@ -3,10 +3,11 @@ ghost use Rattle.std.specs.Prelude.{◌≡◌, ℕ, ◌+◌, ◌<◌, ◌≤◌,
 ghost use Rattle.ut_bits.specs.Places.{is_in as is_in_ranges};
 ghost use Rattle.ut_scan.specs.Coded.{code_at, codes_in, held_mask, held_places, is_held, seen_at, standing};
 ghost use Rattle.ut_scan.specs.Finds.{all_places, found_at};
-ghost use Rattle.ut_scan.specs.Probes.{found_in_main, is_seen};
+ghost use Rattle.ut_scan.specs.Probes.{found_in_main, is_seen, Tells};
 ghost use Rattle.ut_scan.specs.StageRows.{scan_steps, AreStampedParts};
 
 use crate::coded::{CodedPred, below, coded_preds};
+use crate::part_stamps::PartStamps;
 use crate::place::{ColumnPred, Found, Place};
 use crate::probe::Viewer;
 use crate::stamp_table::StampTable;
@@ -16,7 +17,6 @@ use ut_codes::CodeVec;
 use ut_key::{CodeRange, Steps};
 use ut_main::{Main, Part};
 use ut_mask::Mask;
-use ut_stamps::Stamp;
 
 /// A part of main with its number and its stamps, and what its rows must meet.
 #[derive(Drop)]
@@ -25,8 +25,11 @@ pub struct PartProbe<'a> {
     pub coded: &'a [CodedPred],
     pub number: u8,
     pub part: &'a Part,
-    pub stamps: &'a [Stamp],
+    pub stamps: &'a PartStamps,
+    /// Whether all rows are seen or none, where one stamp tells.
+    pub seen: Option<bool>,
     ghost stamped: { length stamps.now ≡ length part.now.rows },
+    ghost sight: { Tells viewer.now stamps.now seen },
     ghost columns: { All (λ c. c.column < length part.now.before) coded.now },
 }
 
@@ -52,10 +55,20 @@ pub fn scan_parts<L: Ledger>(
     let coded = coded_preds(alloc, main, preds, steps)?;
     for number in 0..main.parts() {
         let part = main.part(number);
-        let stamps = stamps.part(number);
+        let stamps = stamps.part_stamps(number);
         scan_part(alloc, viewer, coded.as_slice(), number, part, stamps, out)?;
     }
     Ok(())
+}
+
+/// Whether all rows of a part are seen or none, where one stamp tells.
+fn joint_sight(viewer: &Viewer<'_>, stamps: &PartStamps) -> Option<bool>
+    ensures { Tells viewer.now stamps.now result }
+{
+    match stamps.joint() {
+        Some(stamp) => Some(viewer.sees(&stamp)),
+        None => None,
+    }
 }
 
 /// Appends the part's seen rows that meet each comparison.
@@ -65,7 +78,7 @@ fn scan_part(
     coded: &[CodedPred],
     number: u8,
     part: &Part,
-    stamps: &[Stamp],
+    stamps: &PartStamps,
     out: &mut Vec<Found>,
 ) -> Result<(), AllocError>
     requires stamped { length stamps.now ≡ length part.now.rows }
@@ -74,12 +87,17 @@ fn scan_part(
         OnOk result (out.new.items ≡ out.old.items
         ++ seen_at viewer.now number part.now.rows stamps.now held) }
 {
+    let seen = joint_sight(viewer, stamps);
+    if let Some(false) = seen {
+        return Ok(());
+    }
     let probe = PartProbe {
         viewer,
         coded,
         number,
         part,
         stamps,
+        seen,
     };
     if coded.is_empty() {
         return probe.append_all(out);
@@ -170,11 +188,15 @@ impl PartProbe<'_> {
         Ok(())
     }
 
+    /// Whether the row at a place is seen. No stamp is looked at where one has told for all.
     fn sees(&self, i: u32) -> bool
         requires { i < length self.now.part.now.rows }
         ensures { result ≡ is_seen self.now.viewer.now self.now.stamps.now i }
     {
-        self.viewer.sees(&self.stamps[i as usize])
+        match self.seen {
+            Some(seen) => seen,
+            None => self.viewer.sees(&self.stamps.as_slice()[i as usize]),
+        }
     }
 
     /// The row at a place.

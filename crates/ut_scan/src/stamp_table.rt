@@ -2,6 +2,7 @@
 ghost use Rattle.std.specs.Prelude.{◌≡◌, ◌+◌, ◌<◌, ◌≤◌, ◌++◌, [], ◌∷◌, Some, None, length, take, get_or, slice_set, option_map, MatchOption, IfOk, OnOk};
 ghost use Rattle.ut_scan.specs.StampLists.{if_closed, items_of, stamp_at, with_stamp, IsPlace, KeepsStamps, Pushes, Moves};
 
+use crate::part_stamps::PartStamps;
 use crate::place::Place;
 use std::alloc::{AllocError, Global};
 use std::marker::Model;
@@ -18,11 +19,11 @@ pub struct StampTable {
     l1: Queue<Stamp>,
     l2: Queue<Stamp>,
     closed: Option<Queue<Stamp>>,
-    parts: Vec<Vec<Stamp>>,
+    parts: Vec<PartStamps>,
 }
 
 impl Model for StampTable {
-    ghost use Rattle.std.specs.Prelude.{◌≤◌, map, vec_len, vec_capacity};
+    ghost use Rattle.std.specs.Prelude.{◌≤◌, vec_len, vec_capacity};
     ghost use Rattle.ut_scan.specs.StampLists.{items_of, StampLists};
 
     ghost Value = { StampLists };
@@ -32,7 +33,7 @@ impl Model for StampTable {
           l1 = t.l1;
           l2 = t.l2;
           closed = items_of t.closed;
-          parts = map (λ stamps. stamps.items) t.parts.items;
+          parts = t.parts.items;
         } };
 
     ghost invariant = { λ t. (vec_len t.parts ≤ 8) × (8 ≤ vec_capacity t.parts) };
@@ -109,7 +110,7 @@ impl StampTable {
         requires { length self.old.parts < 8 }
         ensures { self.new ≡ record self.old { parts = self.old.parts ++ stamps.items ∷ [] } }
     {
-        self.parts.push_reserved(stamps);
+        self.parts.push_reserved(PartStamps::of(stamps));
     }
 
     /// Ends a merge: the first parts stay, and the stamps of a part stand in place of the others
@@ -121,7 +122,7 @@ impl StampTable {
             self.new ≡ record self.old { closed = None; parts = parts } }
     {
         self.parts.truncate(usize::from(stay));
-        self.parts.push_reserved(stamps);
+        self.parts.push_reserved(PartStamps::of(stamps));
         self.closed = None;
     }
 
@@ -146,7 +147,7 @@ impl StampTable {
             Place::L1(i) => self.l1.set(i as usize, stamp),
             Place::L2(i) => self.l2.set(i as usize, stamp),
             Place::Closed(i) => set_closed(&mut self.closed, i as usize, stamp),
-            Place::Main(p, i) => set_in(&mut self.parts[usize::from(p)], i as usize, stamp),
+            Place::Main(p, i) => self.parts[usize::from(p)].set(i as usize, stamp),
         }
     }
 
@@ -201,7 +202,15 @@ impl StampTable {
         requires { p < length self.now.parts }
         ensures { result.now ≡ get_or self.now.parts p [] }
     {
-        self.parts[usize::from(p)].as_slice()
+        self.part_stamps(p).as_slice()
+    }
+
+    /// The same, with the stamp that all of them are, where they agree.
+    pub(crate) fn part_stamps(&self, p: u8) -> &PartStamps
+        requires { p < length self.now.parts }
+        ensures { result.now ≡ get_or self.now.parts p [] }
+    {
+        &self.parts[usize::from(p)]
     }
 }
 
@@ -224,12 +233,4 @@ fn set_closed(closed: &mut Option<Queue<Stamp>>, i: usize, stamp: Stamp)
     if let Some(stamps) = closed {
         stamps.set(i, stamp);
     }
-}
-
-/// Puts a stamp in the place of another of a part.
-fn set_in(stamps: &mut Vec<Stamp>, i: usize, stamp: Stamp)
-    requires { i < length stamps.old.items }
-    ensures { stamps.new.items ≡ slice_set stamps.old.items i stamp }
-{
-    stamps[i] = stamp;
 }

@@ -1,9 +1,16 @@
-use Rattle.std.proofs.Common.{◌≡◌, ◌∙◌, ◌++◌, List, ℕ, Bool, OnOk, length, sym, ap, refl, subst, append-nil}
+use Rattle.std.proofs.Common.{◌≡◌, ◌∙◌, ◌++◌, List, ℕ, Bool, OnOk, Some, false, length, sym, ap, refl, subst, append-nil}
 use Rattle.std.proofs.lemmas.Bool.{eqb-true}
 use Rattle.std.proofs.lemmas.List.{nil_from_length}
 use Rattle.ut_scan.specs.Coded.{seen_at}
 use Rattle.ut_scan.proofs.MainLemmas.{held-none, held-out, length-held, standing-held}
+use Rattle.ut_scan.proofs.PartLemmas.{none-seen}
 use Rattle.ut_scan.proofs.parts.scan_part.Goals as goal
+
+pub returns-in-Some-false : goal.returns-in-Some-false
+returns-in-Some-false c =
+    sym (append-nil c.args.out.now.items)
+    ∙ ap (λ l. c.args.out.now.items ++ l) (sym (none-seen c.args.viewer.now c.args.number c.args.part.now c.args.coded.now c.args.stamps.now c.requires.stamped
+    (c.joint_sight-seen.ensures false (c.in-Some-false.is ∙ ap Some c.in-Some-false.field-0-test))))
 
 pub returns-then-is_empty : goal.returns-then-is_empty
 returns-then-is_empty c =

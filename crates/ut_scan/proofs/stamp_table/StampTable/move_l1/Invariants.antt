@@ -1,4 +1,4 @@
-use Rattle.std.proofs.Common.{◌≡◌, ◌+◌, ◌≤◌, ◌++◌, map, take, vec_len, vec_capacity}
+use Rattle.std.proofs.Common.{◌≡◌, ◌+◌, ◌≤◌, ◌++◌, take, vec_len, vec_capacity}
 use Rattle.ut_scan.specs.StampLists.{items_of}
 use Rattle.ut_scan.proofs.stamp_table.StampTable.move_l1.Given as goal
 
@@ -8,7 +8,7 @@ invariant-loop-i l = record {
   l2 : l.self-inside.l2.items ≡ l.fn.self.l2.items ++ take l.i l.fn.self.l1.items;
   room : l.self-inside.l2.room + l.i ≡ l.fn.self.l2.room;
   closed : items_of l.self-inside.closed ≡ l.fn.self.closed;
-  parts : map (λ stamps. stamps.items) l.self-inside.parts.items ≡ l.fn.self.parts;
+  parts : l.self-inside.parts.items ≡ l.fn.self.parts;
   few : vec_len l.self-inside.parts ≤ 8;
   capacity : 8 ≤ vec_capacity l.self-inside.parts;
 }

@@ -1,0 +1,32 @@
+-- Parts whose stamps agree.
+use Rattle.std.proofs.Common.{◌≡◌, ℕ, Bool, true, false, ◌&&◌, List, [], length, map, get_or, refl, sym, ◌∙◌, ap, arith}
+use Rattle.std.specs.Prelude.{replicate}
+use Rattle.std.proofs.lemmas.List.{get_or-replicate}
+use Rattle.ut_stamps.specs.declared.place.Place.TheVariants.{Main}
+use Rattle.ut_stamps.specs.declared.visibility.Stamp.{Stamp}
+use Rattle.ut_stamps.specs.Stamps.{sees}
+use Rattle.ut_main.specs.Parts.{PartValue}
+use Rattle.ut_scan.specs.declared.coded.CodedPred.{CodedPred}
+use Rattle.ut_scan.specs.declared.probe.Viewer.{Viewer}
+use Rattle.ut_scan.specs.Coded.{held_places, is_held, seen_at}
+use Rattle.ut_scan.specs.Finds.{found_at}
+use Rattle.ut_scan.specs.Probes.{is_seen, AreSeenAs}
+use Rattle.ut_scan.specs.StampLists.{no_stamp}
+use Rattle.ut_scan.proofs.RangeLemmas.{filter-both, filter-none}
+
+-- where all stamps agree a row is seen as one of them is
+pub seen-as : (v : Viewer) (stamps : List Stamp) (stamp : Stamp) (seen : Bool) → stamps ≡ replicate (length stamps) stamp → seen ≡ sees v.fates.now v.snapshot v.own stamp → AreSeenAs v stamps seen
+seen-as v stamps stamp seen agree is = λ i lt.
+    ap (λ (s : Stamp). sees v.fates.now v.snapshot v.own s) (ap (λ (l : List Stamp). get_or l i no_stamp) agree ∙ get_or-replicate (length stamps) i stamp no_stamp lt) ∙ sym is
+
+both-false : (b c : Bool) → c ≡ false → (b && c) ≡ false
+both-false true c e = e
+both-false false c e = refl
+
+-- nobody is found where no row is seen
+pub none-seen : (v : Viewer) (number : ℕ) (part : PartValue) (coded : List CodedPred) (stamps : List Stamp) → length stamps ≡ length part.rows → AreSeenAs v stamps false
+    → seen_at v number part.rows stamps (held_places coded part) ≡ []
+none-seen v number part coded stamps count none =
+    ap (map (found_at (Main number) part.rows)) (
+    filter-both (is_held coded part) (is_seen v stamps) (λ i. is_held coded part i && is_seen v stamps i) 0 (length part.rows) (λ i low high. refl)
+    ∙ filter-none (λ i. is_held coded part i && is_seen v stamps i) 0 (length part.rows) (λ i low high. both-false (is_held coded part i) (is_seen v stamps i) (none i (omega (arith, high, count)))))
