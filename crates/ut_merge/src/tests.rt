@@ -5,6 +5,7 @@ ghost use Rattle.ut_l2.specs.KeyRows.{KeyRow};
 
 use crate::{Build, Builder, Job, Keep, Old, Parts, build};
 use std::alloc::{AllocError, Global};
+use std::process::Abort;
 use std::sync::Arc;
 use std::test::Fail;
 use ut_l2::L2;
@@ -129,63 +130,162 @@ fn ids(alloc: Global, main: &Main, p: u8) -> Result<Vec<u32>, AllocError> {
     Ok(ids)
 }
 
+/// A merge of a stage, whose rows have these numbers and ids from `first` on. Rows of some places are dropped.
+struct Step {
+    kind: MergeKind,
+    first: u32,
+    numbers: &'static [i64],
+    dropped: &'static [(u8, u32)],
+}
+
+fn taken<B: Build>(builder: &B, alloc: Global, main: Main, step: &Step) -> Result<Parts, AllocError>
+    requires { B.ready builder.now }
+{
+    if main.width() != 1 || step.first > 50 || step.numbers.len() > 40 {
+        return Err(AllocError);
+    }
+    if let MergeKind::Resort = step.kind {
+        return Err(AllocError);
+    }
+    let closed = stage(alloc, step.first, step.numbers)?;
+    merge(builder, alloc, step.kind, main, closed, step.dropped)
+}
+
+/// Main behind such merges, one behind the other.
+fn all_taken<B: Build>(builder: &B, alloc: Global, steps: &[Step]) -> Result<Main, AllocError>
+    requires { B.ready builder.now }
+{
+    let mut main = Main::new(alloc, 1);
+    for step in steps {
+        main = taken(builder, alloc, main, step)?.main;
+    }
+    Ok(main)
+}
+
+fn shows(
+    rt: &impl Abort,
+    alloc: Global,
+    main: &Main,
+    p: u8,
+    keys: &[u8],
+    codes: &[u32],
+) -> Result<(), AllocError> {
+    let part = show(alloc, main, p)?;
+    assert!(rt; part.keys.as_slice() == keys);
+    assert!(rt; part.codes.as_slice() == codes);
+    Ok(())
+}
+
+fn has_ids(
+    rt: &impl Abort,
+    alloc: Global,
+    main: &Main,
+    p: u8,
+    wanted: &[u32],
+) -> Result<(), AllocError> {
+    let ids = ids(alloc, main, p)?;
+    assert!(rt; ids.as_slice() == wanted);
+    Ok(())
+}
+
+/// The rows of 4 and of 4 and 10, behind parts that stay, and their codes' bytes.
+fn has_third_part(rt: &impl Abort, alloc: Global, parts: &Parts) -> Result<(), AllocError> {
+    shows(rt, alloc, &parts.main, 2, &[9, 10], &[3, 1, 4])?;
+    let part = show(alloc, &parts.main, 2)?;
+    assert!(rt; part.bytes.as_slice() == [0, 0x0b, 1].as_slice());
+    let olds = [Old::Part(2, 0), Old::Closed(0), Old::Closed(1)];
+    assert!(rt; parts.olds.as_slice() == olds.as_slice());
+    has_ids(rt, alloc, &parts.main, 2, &[4, 5, 6])
+}
+
+const THREE_PARTS: &[Step] = &[
+    Step {
+        kind: MergeKind::Extend,
+        first: 1,
+        numbers: &[2, 4],
+        dropped: &[],
+    },
+    Step {
+        kind: MergeKind::Extend,
+        first: 3,
+        numbers: &[1],
+        dropped: &[],
+    },
+    Step {
+        kind: MergeKind::Extend,
+        first: 4,
+        numbers: &[9],
+        dropped: &[],
+    },
+];
+
+const INTO_THE_LAST: Step = Step {
+    kind: MergeKind::Partial,
+    first: 5,
+    numbers: &[4, 10],
+    dropped: &[],
+};
+
+const INTO_ONE: Step = Step {
+    kind: MergeKind::Classic,
+    first: 7,
+    numbers: &[4, 3],
+    dropped: &[(1, 0), (3, 0)],
+};
+
+/// The last of three parts is rebuilt, and then all of them are.
+fn rebuilds<B: Build>(rt: &impl Abort, builder: &B, alloc: Global) -> Result<(), AllocError>
+    requires { B.ready builder.now }
+{
+    let main = all_taken(builder, alloc, THREE_PARTS)?;
+    let parts = taken(builder, alloc, main, &INTO_THE_LAST)?;
+    has_third_part(rt, alloc, &parts)?;
+    let main = taken(builder, alloc, parts.main, &INTO_ONE)?.main;
+    shows(rt, alloc, &main, 0, &[2, 3, 4, 9, 10], &[0, 2, 3, 2, 4, 1])
+}
+
 #[test]
 fn the_last_part_is_rebuilt_behind_the_others(rt: HostRuntime) -> Result<(), Fail> {
-    let alloc = rt.alloc();
     let builder = Builder::alone(&rt, &NoHook);
-    let main = Main::new(alloc, 1);
-    let closed = stage(alloc, 1, &[2, 4])?;
-    let main = merge(&builder, alloc, MergeKind::Extend, main, closed, &[])?.main;
-    let closed = stage(alloc, 3, &[1])?;
-    let main = merge(&builder, alloc, MergeKind::Extend, main, closed, &[])?.main;
-    let closed = stage(alloc, 4, &[9])?;
-    let main = merge(&builder, alloc, MergeKind::Extend, main, closed, &[])?.main;
-    let closed = stage(alloc, 5, &[4, 10])?;
-    let parts = merge(&builder, alloc, MergeKind::Partial, main, closed, &[])?;
-    let part = show(alloc, &parts.main, 2)?;
-    assert_eq!(rt; part.keys.as_slice(), [9, 10].as_slice());
-    assert_eq!(rt; part.codes.as_slice(), [3, 1, 4].as_slice());
-    assert_eq!(rt; part.bytes.as_slice(), [0, 0x0b, 1].as_slice());
-    assert_eq!(rt;
-        parts.olds.as_slice(),
-        [Old::Part(2, 0), Old::Closed(0), Old::Closed(1)].as_slice()
-    );
-    assert_eq!(rt;
-        ids(alloc, &parts.main, 2)?.as_slice(),
-        [4, 5, 6].as_slice()
-    );
-    let closed = stage(alloc, 7, &[4, 3])?;
-    let parts = merge(
-        &builder,
-        alloc,
-        MergeKind::Classic,
-        parts.main,
-        closed,
-        &[(1, 0), (3, 0)],
-    )?;
-    let part = show(alloc, &parts.main, 0)?;
-    assert_eq!(rt; part.keys.as_slice(), [2, 3, 4, 9, 10].as_slice());
-    assert_eq!(rt; part.codes.as_slice(), [0, 2, 3, 2, 4, 1].as_slice());
+    rebuilds(&rt, &builder, rt.alloc())?;
     Ok(())
+}
+
+const TWO_PARTS: &[Step] = &[
+    Step {
+        kind: MergeKind::Classic,
+        first: 1,
+        numbers: &[2, 4, 6],
+        dropped: &[],
+    },
+    Step {
+        kind: MergeKind::Extend,
+        first: 4,
+        numbers: &[1, 4, 9],
+        dropped: &[],
+    },
+];
+
+const INTO_THE_ACTIVE: Step = Step {
+    kind: MergeKind::Partial,
+    first: 7,
+    numbers: &[6, 11],
+    dropped: &[],
+};
+
+fn codes_on<B: Build>(rt: &impl Abort, builder: &B, alloc: Global) -> Result<(), AllocError>
+    requires { B.ready builder.now }
+{
+    let main = all_taken(builder, alloc, TWO_PARTS)?;
+    shows(rt, alloc, &main, 1, &[1, 9], &[3, 1, 4])?;
+    let main = taken(builder, alloc, main, &INTO_THE_ACTIVE)?.main;
+    shows(rt, alloc, &main, 1, &[1, 9, 11], &[3, 1, 4, 2, 5])
 }
 
 #[test]
 fn an_active_dictionary_holds_no_key_twice(rt: HostRuntime) -> Result<(), Fail> {
-    let alloc = rt.alloc();
     let builder = Builder::new(&rt, 64, &NoHook);
-    let closed = stage(alloc, 1, &[2, 4, 6])?;
-    let main = Main::new(alloc, 1);
-    let main = merge(&builder, alloc, MergeKind::Classic, main, closed, &[])?.main;
-    let closed = stage(alloc, 4, &[1, 4, 9])?;
-    let main = merge(&builder, alloc, MergeKind::Extend, main, closed, &[])?.main;
-    let part = show(alloc, &main, 1)?;
-    assert_eq!(rt; part.keys.as_slice(), [1, 9].as_slice());
-    assert_eq!(rt; part.codes.as_slice(), [3, 1, 4].as_slice());
-    let closed = stage(alloc, 7, &[6, 11])?;
-    let main = merge(&builder, alloc, MergeKind::Partial, main, closed, &[])?.main;
-    let part = show(alloc, &main, 1)?;
-    assert_eq!(rt; part.keys.as_slice(), [1, 9, 11].as_slice());
-    assert_eq!(rt; part.codes.as_slice(), [3, 1, 4, 2, 5].as_slice());
+    codes_on(&rt, &builder, rt.alloc())?;
     Ok(())
 }
 
@@ -206,15 +306,9 @@ fn rows_are_resorted_by_keys_and_then_by_id(rt: HostRuntime) -> Result<(), Fail>
     let alloc = rt.alloc();
     let job = resorting(alloc)?;
     let built = build(&rt, alloc, &job, 1, &NoHook)?;
-    assert_eq!(rt; built.number(), 1);
+    assert!(rt; built.number() == 1);
     let parts = built.take();
-    assert_eq!(rt;
-        ids(alloc, &parts.main, 0)?.as_slice(),
-        [2, 1, 3].as_slice()
-    );
-    assert_eq!(rt;
-        show(alloc, &parts.main, 0)?.codes.as_slice(),
-        [0, 1, 1].as_slice()
-    );
+    has_ids(&rt, alloc, &parts.main, 0, &[2, 1, 3])?;
+    shows(&rt, alloc, &parts.main, 0, &[1, 2], &[0, 1, 1])?;
     Ok(())
 }
