@@ -6,8 +6,6 @@ mod parts;
 mod place;
 mod store;
 mod table;
-#[cfg(test)]
-mod tests;
 
 pub use store::captured;
 pub use table::captured_table;

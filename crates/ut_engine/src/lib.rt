@@ -9,8 +9,6 @@ mod readers;
 mod savepoints;
 mod saving;
 mod stages;
-#[cfg(test)]
-mod tests;
 mod unopened;
 
 pub use engine::{Engine, engine_is_sent};

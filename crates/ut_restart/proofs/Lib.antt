@@ -12,5 +12,4 @@ pub mod FillLemmas
 pub mod LoopLemmas
 pub mod TurnLemmas
 pub mod ImageLemmas
-pub mod EmptyLemmas
 pub mod RestoredLemmas

@@ -8,8 +8,6 @@ mod noting;
 mod replay;
 mod restart;
 mod rows;
-#[cfg(test)]
-mod tests;
 
 pub use error::RestartError;
 pub use restart::reopen;

@@ -1,5 +1,5 @@
 use Rattle.ut_plain.specs.Plain.{new_store, no_image}
-use Rattle.ut_capture.proofs.tests.a_store_without_tables_has_none_captured.Goals as goal
+use Rattle.check_store.proofs.capture.a_store_without_tables_has_none_captured.Goals as goal
 
 -- it agrees with a new one, however many pages images take
 pub captured-requires : goal.captured-requires

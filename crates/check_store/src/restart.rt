@@ -3,10 +3,10 @@ ghost use Rattle.std.specs.Prelude.{IfOk};
 ghost use Rattle.std.specs.List.{AllByRecursion};
 ghost use Rattle.ut_redo.specs.Frames.{IsEntry};
 
-use crate::{RestartError, reopen};
 use std::alloc::{AllocError, Global};
 use ut_entry::entry_from;
 use ut_pages::Root;
+use ut_restart::{RestartError, reopen};
 use ut_store::Store;
 use ut_value::{Entry, Seq};
 

@@ -4,10 +4,10 @@ ghost use Rattle.ut_outside.specs.Faults.{Rose};
 ghost use Rattle.ut_value.specs.Text.{is_name};
 ghost use Rattle.ut_plain.specs.Spelled.{is_spelled};
 
-use crate::{BeginError, Engine, L1Error, OpenError, PhaseError, SaveError};
 use std::alloc::{AllocError, Global};
 use std::process::Abort;
 use std::test::Fail;
+use ut_engine::{BeginError, Engine, L1Error, OpenError, PhaseError, SaveError};
 use ut_outside::{Disk, MemDisk, Which};
 use ut_plain::{Progress, Reply, Shape, Statement, Why};
 use ut_value::{Column, Kind, MergeKind, Name, Seq, Value, is_name};

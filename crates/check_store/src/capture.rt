@@ -1,0 +1,159 @@
+//! A table whose rows are live, of an open transaction, given up and deleted.
+ghost use Rattle.std.specs.Prelude.{◌≡◌, ◌+◌, ◌<◌, length, OnOk, IfOk};
+ghost use Rattle.ut_staged.specs.Staged.{count_of};
+
+use std::alloc::{AllocError, Global};
+use std::process::Abort;
+use std::test::Fail;
+use ut_capture::{captured, captured_table};
+use ut_plain::{Table, fits_columns};
+use ut_stamps::{Fate, Fates, Stamp};
+use ut_store::Store;
+use ut_table::Table as Stages;
+use ut_value::{Column, Duplicate, Kind, Name, Row, Seq, Value, is_name, same_bytes};
+
+/// Row 1 of the second stage, and rows 3 and 6 of the first, each with its id as its number.
+const DELTAS: &[u8] = b"\x01\0\0\0\x01\0\0\0\x80\0\0\0\0\0\0\x01\
+\x02\0\0\0\x03\0\0\0\x80\0\0\0\0\0\0\x03\x06\0\0\0\x80\0\0\0\0\0\0\x06";
+
+fn name(rt: &impl Abort, alloc: Global, bytes: &[u8]) -> Result<Name, AllocError> {
+    let bytes = Vec::from_slice(alloc, bytes)?;
+    assert!(rt; is_name(&bytes));
+    Ok(Name::of(bytes))
+}
+
+/// A column of numbers.
+fn columns(rt: &impl Abort, alloc: Global) -> Result<Seq<Column>, AllocError>
+    ensures { IfOk result (λ columns. length columns ≡ 1) }
+{
+    let name = name(rt, alloc, b"k")?;
+    let mut columns = Seq::new(alloc);
+    columns.push(Column {
+        name,
+        kind: Kind::Int,
+    })?;
+    Ok(columns)
+}
+
+fn table(rt: &impl Abort, alloc: Global, columns: &Seq<Column>) -> Result<Table, AllocError>
+    ensures { IfOk result (λ table. table.columns ≡ columns.now) }
+{
+    let name = name(rt, alloc, b"T")?;
+    let columns = columns.duplicate(alloc)?;
+    Ok(Table { name, columns })
+}
+
+/// A transaction that is committed by an entry, or given up.
+fn ended(rt: &impl Abort, fates: &mut Fates, at: Option<u32>) -> Result<u64, AllocError> {
+    let t = fates.start()?;
+    match fates.fate(t) {
+        Fate::Running => match at {
+            Some(at) => fates.commit(t, at),
+            None => fates.abort(t),
+        },
+        _ => panic!(rt; "a transaction that starts doesn't run"),
+    }
+    Ok(t)
+}
+
+/// A row of the first stage, whose number is its id.
+fn insert(
+    rt: &impl Abort,
+    alloc: Global,
+    stages: &mut Stages,
+    id: u32,
+    begin: u64,
+    end: Option<u64>,
+) -> Result<(), AllocError>
+    requires { count_of stages.old.stages < 100 }
+    ensures count { OnOk result (count_of stages.new.stages ≡ count_of stages.old.stages + 1) }
+    ensures columns { OnOk result (stages.new.stages.columns ≡ stages.old.stages.columns) }
+{
+    let mut values = Seq::new(alloc);
+    values.push(Value::Int(i64::from(id)))?;
+    stages.room(1)?;
+    assert!(rt; fits_columns(stages.columns(), values.as_slice()));
+    stages.push(Row { id, values }, Stamp { begin, end });
+    Ok(())
+}
+
+/// Rows that are live, deleted, being deleted and being inserted, given up and committed.
+fn fill(
+    rt: &impl Abort,
+    alloc: Global,
+    stages: &mut Stages,
+    nobody: u64,
+    open: u64,
+    done: u64,
+) -> Result<(), AllocError>
+    requires { count_of stages.old.stages ≡ 0 }
+    ensures { OnOk result (stages.new.stages.columns ≡ stages.old.stages.columns) }
+{
+    insert(rt, alloc, stages, 1, 0, None)?;
+    insert(rt, alloc, stages, 2, 0, Some(done))?;
+    insert(rt, alloc, stages, 3, 0, Some(open))?;
+    insert(rt, alloc, stages, 4, open, None)?;
+    insert(rt, alloc, stages, 5, nobody, None)?;
+    insert(rt, alloc, stages, 6, done, None)
+}
+
+fn move_two(rt: &impl Abort, stages: &mut Stages) -> Result<(), AllocError>
+    ensures { OnOk result (stages.new.stages.columns ≡ stages.old.stages.columns) }
+{
+    let moved = stages.merge_l1(2)?;
+    assert!(rt; moved == 2);
+    Ok(())
+}
+
+fn stages(
+    rt: &impl Abort,
+    alloc: Global,
+    columns: Seq<Column>,
+    fates: &mut Fates,
+) -> Result<Stages, AllocError>
+    requires { length columns ≡ 1 }
+    ensures { IfOk result (λ stages. stages.stages.columns ≡ columns) }
+{
+    let nobody = ended(rt, fates, None)?;
+    let open = fates.start()?;
+    let done = ended(rt, fates, Some(1))?;
+    let mut stages = Stages::new(alloc, columns)?;
+    fill(rt, alloc, &mut stages, nobody, open, done)?;
+    move_two(rt, &mut stages)?;
+    Ok(stages)
+}
+
+fn has_deltas(
+    rt: &impl Abort,
+    alloc: Global,
+    table: &Table,
+    stages: &Stages,
+    fates: &Fates,
+) -> Result<(), AllocError>
+    requires { table.now.columns ≡ stages.now.stages.columns }
+{
+    let captured = captured_table(alloc, table, stages, fates, 1)?;
+    assert!(rt; captured.parts.is_empty());
+    assert!(rt; same_bytes(&captured.deltas, DELTAS));
+    Ok(())
+}
+
+#[test]
+fn rows_of_open_transactions_are_not_captured(rt: HostRuntime) -> Result<(), Fail> {
+    let alloc = rt.alloc();
+    let columns = columns(&rt, alloc)?;
+    let table = table(&rt, alloc, &columns)?;
+    let mut fates = Fates::new(alloc)?;
+    let stages = stages(&rt, alloc, columns, &mut fates)?;
+    has_deltas(&rt, alloc, &table, &stages, &fates)?;
+    Ok(())
+}
+
+#[test]
+fn a_store_without_tables_has_none_captured(rt: HostRuntime) -> Result<(), Fail> {
+    let alloc = rt.alloc();
+    let store = Store::new(alloc, 100)?;
+    let captured = captured(alloc, &store)?;
+    assert!(rt; captured.is_empty());
+    Ok(())
+}
