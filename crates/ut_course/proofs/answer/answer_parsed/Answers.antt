@@ -1,0 +1,22 @@
+use Rattle.std.proofs.Common.{ap}
+use Rattle.ut_course.specs.Coming.{is_good}
+use Rattle.ut_course.proofs.ComeLemmas.{suits, spelled, comes_good, comes_bad}
+use Rattle.ut_course.proofs.answer.answer_parsed.Goals as goal
+
+pub statement-requires-clause-suits : goal.statement-requires-clause-suits
+statement-requires-clause-suits g c = suits c.args.session c.in-Good.st c.requires.seat.0
+
+pub statement-requires-clause-spelled : goal.statement-requires-clause-spelled
+statement-requires-clause-spelled g c = spelled c.args.line.now _ c.in-Good.st c.in-Good.is c.requires.spelled
+
+pub returns-in-Good-clause-comes : goal.returns-in-Good-clause-comes
+returns-in-Good-clause-comes g c = comes_good _ _ _ c.args.session _ c.in-Good.st _ _ _ c.in-Good.is c.requires.own c.statement.ensures.serves
+
+pub returns-in-Comment-clause-comes : goal.returns-in-Comment-clause-comes
+returns-in-Comment-clause-comes g c = comes_bad _ _ _ c.args.session (g.met.D.Disk.only_now c.args.engine.now.disk) c.requires.own (ap is_good c.in-Comment.is)
+
+pub returns-in-Stranger-clause-comes : goal.returns-in-Stranger-clause-comes
+returns-in-Stranger-clause-comes g c = comes_bad _ _ _ c.args.session (g.met.D.Disk.only_now c.args.engine.now.disk) c.requires.own (ap is_good c.in-Stranger.is)
+
+pub returns-in-Bad-clause-comes : goal.returns-in-Bad-clause-comes
+returns-in-Bad-clause-comes g c = comes_bad _ _ _ c.args.session (g.met.D.Disk.only_now c.args.engine.now.disk) c.requires.own (ap is_good c.in-Bad.is)
