@@ -27,6 +27,17 @@ fn drawn(seed: u64) -> u64 {
         >> 20
 }
 
+/// How many replies were acknowledged by that moment.
+fn told_by(acks: &[Ack], moment: u64) -> u32 {
+    let mut told: u32 = 0;
+    for ack in acks {
+        if ack.moment <= moment {
+            told = told.saturating_add(1);
+        }
+    }
+    told
+}
+
 /// Where the store that a crash leaves of a script answers the questions as it may not. The crash comes at a drawn moment of the
 /// script's runs; what is opened then has the lines that were told, and perhaps the next one.
 pub fn crash_apart(
@@ -42,7 +53,7 @@ pub fn crash_apart(
         return Ok(None);
     }
     let mut image = disk.image(moment, tear_of(draw))?;
-    let told = acks.iter().filter(|ack| ack.moment <= moment).count() as u32;
+    let told = told_by(acks, moment);
     if told == 0 && run_on(rt, alloc, RUN, b"", &mut image)?.status == Status::NoStore {
         return Ok(None);
     }
