@@ -42,7 +42,7 @@ goes_nowhere j = record { more = []; is = ap (λ es. record j { entries = es }) 
 grown : (i j k : Journal) → GoesOn i j → GoesOn j k → GoesOn i k
 grown i j k a b = record { more = a.more ++ b.more; is = b.is ∙ ap (λ (l : Journal). behind l b.more) a.is ∙ ap (λ es. record i { entries = es }) (append_assoc i.entries a.more b.more) }
 
-holds_longer : (j k : Journal) (least : ℕ) (c : Image) → GoesOn j k → HoldsPrefix j least c → HoldsPrefix k least c
+pub holds_longer : (j k : Journal) (least : ℕ) (c : Image) → GoesOn j k → HoldsPrefix j least c → HoldsPrefix k least c
 holds_longer j k least c g h = subst (λ (i : Journal). HoldsPrefix i least c) (sym g.is) (with_more j g.more h)
   where
     with_more : (j : Journal) (more : List Entry) → HoldsPrefix j least c → HoldsPrefix (behind j more) least c
@@ -63,7 +63,7 @@ ack_kept old new j k ack g l kept = record {
     by c (inl h) = holds_longer j k ack.journal c g (kept.holds c h)
     by c (inr h) = prefix_of_fewer k (journal_len j) ack.journal c kept.no_more h
 
-acks_kept : (old new : View) (j k : Journal) (acks : List Ack) → GoesOn j k → LeavesOnly old new (HoldsPrefix k (journal_len j)) → AreKept old j acks → AreKept new k acks
+pub acks_kept : (old new : View) (j k : Journal) (acks : List Ack) → GoesOn j k → LeavesOnly old new (HoldsPrefix k (journal_len j)) → AreKept old j acks → AreKept new k acks
 acks_kept old new j k [] g l kept = tt
 acks_kept old new j k (ack ∷ acks) g l kept = (ack_kept old new j k ack g l kept.0, acks_kept old new j k acks g l kept.1)
 
