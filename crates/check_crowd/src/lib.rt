@@ -1,0 +1,7 @@
+//! Checks of a crowd over a store in memory: sessions on threads, with merges and savepoints beside them.
+#![tactic(auto)]
+
+#[cfg(test)]
+mod crowds;
+#[cfg(test)]
+mod watch;

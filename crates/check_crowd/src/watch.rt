@@ -1,0 +1,59 @@
+//! A hook that holds threads at points of a run, to see that others go on meanwhile.
+use std::sync::atomic::AtomicU64;
+use std::sync::atomic::Ordering::SeqCst;
+use std::thread::yield_now;
+use ut_outside::{Hook, Point};
+
+/// So many times a thread that is held looks.
+const PATIENCE: u32 = 10_000_000;
+
+/// Which session's line is held: the twentieth that was answered.
+const HELD: u64 = 19;
+
+/// How often each point was reached, and how often a wait was given up.
+#[derive(Drop)]
+pub(crate) struct Watch {
+    pub lines: AtomicU64,
+    pub builds: AtomicU64,
+    pub missed: AtomicU64,
+}
+
+impl Watch {
+    pub fn new() -> Watch {
+        Watch {
+            lines: AtomicU64::new(0),
+            builds: AtomicU64::new(0),
+            missed: AtomicU64::new(0),
+        }
+    }
+
+    fn until(&self, word: &AtomicU64, least: u64) {
+        for _ in 0..PATIENCE {
+            if word.load(SeqCst) >= least {
+                return;
+            }
+            yield_now();
+        }
+        self.missed.fetch_add(1, SeqCst);
+    }
+}
+
+impl Hook for Watch {
+    /// Who answered the twentieth line waits for the first build, and the first build for three more lines.
+    fn reach(&self, point: Point) {
+        match point {
+            Point::LineDone => {
+                if self.lines.fetch_add(1, SeqCst) == HELD {
+                    self.until(&self.builds, 1);
+                }
+            }
+            Point::BuildDone => {
+                let lines = self.lines.load(SeqCst);
+                if self.builds.fetch_add(1, SeqCst) == 0 {
+                    self.until(&self.lines, lines.saturating_add(3));
+                }
+            }
+            Point::JobTaken => {}
+        }
+    }
+}

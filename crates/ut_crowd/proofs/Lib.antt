@@ -1,0 +1,5 @@
+pub mod SortLemmas
+pub mod TextLaws
+pub mod WeaveLemmas
+pub mod StandLemmas
+pub mod EndLemmas

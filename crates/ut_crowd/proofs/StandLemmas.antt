@@ -1,0 +1,237 @@
+-- What a turn more keeps of a hall.
+use base.Fml.{GName}
+use Rattle.std.proofs.Common.{inl, ℕ, ◌≡◌, ◌≤◌, Bool, true, false, List, [], ◌∷◌, ◌++◌, Option, None, Some, refl, ap, ◌∙◌, sym, subst, arith, append-nil}
+use Rattle.std.specs.Prelude.{map, IsTrue}
+use Rattle.ut_outside.specs.Disk.{View, Image, IsTold}
+use Rattle.ut_outside.specs.declared.ack.Ack.{Ack}
+use Rattle.ut_plain.specs.declared.statement.Parsed.{Parsed}
+use Rattle.ut_plain.specs.declared.statement.Parsed.TheVariants.{Good}
+use Rattle.ut_plain.specs.declared.statement.Statement.{Statement}
+use Rattle.ut_plain.specs.declared.reply.Reply.{Reply}
+use Rattle.ut_plain.specs.Journal.{journal_len}
+use Rattle.ut_plain.specs.Spelled.{is_spelled}
+use Rattle.ut_plain.specs.Plain.{Plain}
+use Rattle.ut_plain.specs.Transcript.{Answer}
+use Rattle.ut_merge.specs.Jobs.{JobValue}
+use Rattle.ut_store.specs.Jobs.{pending_job}
+use Rattle.ut_store.specs.Standing.{is_of_store}
+use Rattle.ut_script.specs.Grammar.{parsed}
+use Rattle.ut_engine.specs.Logged.{Logged}
+use Rattle.ut_engine.specs.Runs.{Runs}
+use Rattle.ut_durable.specs.Journals.{HoldsPrefix}
+use Rattle.ut_course.specs.Coming.{Comes, asks_merge, is_of_merge, length_after}
+use Rattle.ut_course.specs.Course.{Course, Goes, Failed}
+use Rattle.ut_course.proofs.KeepLemmas.{OnlyNow, CountsNow, runs_whole, goes_nowhere}
+use Rattle.ut_course.proofs.CourseLemmas.{course_more}
+use Rattle.ut_course.proofs.SessionLemmas.{line_asks}
+use Rattle.ut_crowd.specs.declared.book.Asked.{Asked}
+use Rattle.ut_crowd.specs.declared.book.Asked.TheVariants.{Line, Store}
+use Rattle.ut_crowd.specs.declared.book.Turn.{Turn}
+use Rattle.ut_crowd.specs.Ground.{Ground}
+use Rattle.ut_crowd.specs.Book.{said, lines_in, answer_of, answers_in, ack_of, acks_in, strangers, lines_of_session}
+use Rattle.ut_crowd.specs.Queues.{Takes, TakesNone, left_of}
+use Rattle.ut_crowd.specs.Sorting.{Sorted}
+use Rattle.ut_crowd.specs.Standing.{IsHeld, StandsOn, Starts}
+use Rattle.ut_crowd.proofs.SortLemmas.{by_nobodys, refused_tell, refused_kept}
+use Rattle.ut_crowd.proofs.TextLaws.{store_line_read}
+use Rattle.ut_crowd.proofs.WeaveLemmas.{weaves_more, weaves_same, weaves_stored}
+
+map_more : {A B : Type 0} (f : A → B) (xs : List A) (x : A) → map f (xs ++ x ∷ []) ≡ map f xs ++ f x ∷ []
+map_more f [] x = refl
+map_more f (y ∷ ys) x = ap (λ l. f y ∷ l) (map_more f ys x)
+
+-- the turn of a reply that was told just now
+abbrev pub turn_now : ℕ → Asked → Turn → Logged → Logged → View → Type 0
+turn_now session asked t old new now =
+    (t.session ≡ Some session) × (t.asked ≡ asked) × (t.journal ≡ length_after t.reply old.store.entries new.store.entries) × (t.moment ≡ now.moment)
+
+-- ---- the course of a book with one turn more
+
+module _ (p : Plain) (disk : View) (book : List Turn) (was : View) (old : Logged) (t : Turn) (session : ℕ) (asked : Asked) (now : View) (new : Logged) where
+  course_by : (lines : List Parsed) (answers : List Answer) (acks : List Ack) → lines_in (book ++ t ∷ []) ≡ lines → answers_in (book ++ t ∷ []) ≡ answers → acks_in (book ++ t ∷ []) ≡ acks
+      → Course p disk lines answers acks now new → Course p disk (lines_in (book ++ t ∷ [])) (answers_in (book ++ t ∷ [])) (acks_in (book ++ t ∷ [])) now new
+  course_by lines answers acks e f g course =
+      subst (λ (ls : List Parsed). Course p disk ls (answers_in (book ++ t ∷ [])) (acks_in (book ++ t ∷ [])) now new) (sym e)
+      (subst (λ (xs : List Answer). Course p disk lines xs (acks_in (book ++ t ∷ [])) now new) (sym f)
+      (subst (λ (ks : List Ack). Course p disk lines answers ks now new) (sym g) course))
+
+  course_turn : OnlyNow now → CountsNow now → now.told ≡ was.told → disk.faults ≤ was.faults → turn_now session asked t old new now → old.down ≡ false → Comes old was (said asked) (Some session) t.reply new now
+      → Course p disk (lines_in book) (answers_in book) (acks_in book) was old → Course p disk (lines_in (book ++ t ∷ [])) (answers_in (book ++ t ∷ [])) (acks_in (book ++ t ∷ [])) now new
+  course_turn only counts same le turn up comes course =
+      let n = length_after t.reply old.store.entries new.store.entries in
+      course_by
+      (lines_in book ++ said asked ∷ [])
+      (answers_in book ++ record { session = Some session; reply = t.reply } ∷ [])
+      (acks_in book ++ record { journal = n; moment = now.moment } ∷ [])
+      (map_more (λ (u : Turn). said u.asked) book t ∙ ap (λ (a : Asked). lines_in book ++ said a ∷ []) turn.1)
+      (map_more answer_of book t ∙ ap (λ (o : Option ℕ). answers_in book ++ record { session = o; reply = t.reply } ∷ []) turn.0)
+      (map_more ack_of book t ∙ ap (λ (k : ℕ). acks_in book ++ record { journal = k; moment = t.moment } ∷ []) turn.2 ∙ ap (λ (m : ℕ). acks_in book ++ record { journal = n; moment = m } ∷ []) turn.3)
+      (course_more p disk (lines_in book) (answers_in book) (acks_in book) was old (said asked) (Some session) t.reply now new only counts same le up comes course)
+
+-- ---- the job
+
+no_both : {A : Type 0} (b : Bool) → b ≡ true → b ≡ false → A
+no_both true h k = cc
+no_both false h k = cc
+
+running : (p : Plain) (disk : View) (lines : List Parsed) (answers : List Answer) (acks : List Ack) (was : View) (old : Logged) → old.down ≡ false → Course p disk lines answers acks was old → (q : Plain) × Runs old was q
+running p disk lines answers acks was old up (Goes q runs tells holding) = (q, runs)
+running p disk lines answers acks was old up (Failed journal q down told rose holding) = no_both old.down down up
+
+held_more : (g : Ground) (queues : List (List (List ℕ))) (book : List Turn) (name : GName) (was now : View) (old new : Logged) (job : Option JobValue) (line : Parsed) (who : Option ℕ) (t : Turn) → asks_merge line ≡ false → old.down ≡ false
+    → Comes old was line who t.reply new now → StandsOn g queues book name was old job → IsHeld job new
+held_more g queues book name was now old new None line who t none up comes s = tt
+held_more g queues book name was now old new (Some job) line who t none up comes s = λ still.
+    let p = s.some in
+    let q = running p.0 g.disk (lines_in book) (answers_in book) (acks_in book) was old up (s.course p.0 p.1) in
+    comes.job q.0 q.1 none still ∙ s.held up
+
+-- ---- one turn more
+
+-- a turn that was answered just now, by a journal of so many entries before
+abbrev pub turn_with : (session : ℕ) → Asked → (before : ℕ) → Reply → Logged → View → Turn
+turn_with session asked before reply new now = record { session = Some session; asked = asked; reply = reply; journal = length_after reply before new.store.entries; moment = now.moment }
+
+reply_is : (session : ℕ) (asked : Asked) (before : ℕ) (reply : Reply) (t : Turn) (new : Logged) (now : View) → t ≡ turn_with session asked before reply new now → t.reply ≡ reply
+reply_is session asked before reply t new now e = ap (λ (u : Turn). u.reply) e
+
+turn_is : (session : ℕ) (asked : Asked) (before : ℕ) (reply : Reply) (t : Turn) (old new : Logged) (now : View) → t ≡ turn_with session asked before reply new now → before ≡ old.store.entries → turn_now session asked t old new now
+turn_is session asked before reply t old new now e f = (
+  ap (λ (u : Turn). u.session) e,
+  ap (λ (u : Turn). u.asked) e,
+  ap (λ (u : Turn). u.journal) e ∙ ap (λ (n : ℕ). length_after reply n new.store.entries) f ∙ ap (λ (r : Reply). length_after r old.store.entries new.store.entries) (sym (reply_is session asked before reply t new now e)),
+  ap (λ (u : Turn). u.moment) e,
+)
+
+-- a line more was answered
+stands_more : (g : Ground) (queues left : List (List (List ℕ))) (book : List Turn) (name name' : GName) (was now : View) (old new : Logged) (job : Option JobValue) (session : ℕ) (line : List ℕ) (t : Turn) → turn_now session (Line line) t old new now
+    → Takes queues session line left → Comes old was (parsed true line) (Some session) t.reply new now → name' ≡ name → old.down ≡ false → OnlyNow now → CountsNow now
+    → StandsOn g queues book name was old job → StandsOn g left (book ++ t ∷ []) name' now new job
+stands_more g queues left book name name' was now old new job session line t turn takes comes same up only counts s = record {
+  weaves = weaves_more g.lines queues left book session line t turn.0 turn.1 takes s.weaves;
+  some = s.some;
+  course = λ p from. course_turn p g.disk book was old t session (Line line) now new only counts comes.told s.faults turn up comes (s.course p from);
+  told = comes.told ∙ s.told;
+  faults = omega (arith, s.faults, comes.later);
+  loan = s.loan ∙ ap Some (sym same);
+  held = held_more g queues book name was now old new job (parsed true line) (Some session) t (line_asks line) up comes s;
+}
+
+-- what the book has of a statement of the store is read as that statement
+read_as : (old : Logged) (was : View) (st : Statement) (t : Turn) (new : Logged) (now : View) → IsTrue (is_of_store st) → IsTrue (is_spelled st) → Comes old was (Good 0 st) (Some 0) t.reply new now → Comes old was (said (Store st)) (Some 0) t.reply new now
+read_as old was st t new now of spelled comes = subst (λ (line : Parsed). Comes old was line (Some 0) t.reply new now) (sym (store_line_read st of spelled)) comes
+
+-- a statement of the store was answered; which job the hall has then
+stands_asked : (g : Ground) (queues : List (List (List ℕ))) (book : List Turn) (name name' : GName) (was now : View) (old new : Logged) (job job' : Option JobValue) (st : Statement) (t : Turn) → IsTrue (is_of_store st) → IsTrue (is_spelled st) → IsHeld job' new
+    → turn_now 0 (Store st) t old new now → Comes old was (Good 0 st) (Some 0) t.reply new now → name' ≡ name → old.down ≡ false → OnlyNow now → CountsNow now
+    → StandsOn g queues book name was old job → StandsOn g queues (book ++ t ∷ []) name' now new job'
+stands_asked g queues book name name' was now old new job job' st t of spelled held turn comes same up only counts s = record {
+  weaves = weaves_stored g.lines queues book st t of turn.0 turn.1 s.weaves;
+  some = s.some;
+  course = λ p from. course_turn p g.disk book was old t 0 (Store st) now new only counts comes.told s.faults turn up (read_as old was st t new now of spelled comes) (s.course p from);
+  told = comes.told ∙ s.told;
+  faults = omega (arith, s.faults, comes.later);
+  loan = s.loan ∙ ap Some (sym same);
+  held = held;
+}
+
+-- one that neither begins a merge nor ends it
+stands_stored : (g : Ground) (queues : List (List (List ℕ))) (book : List Turn) (name name' : GName) (was now : View) (old new : Logged) (job : Option JobValue) (st : Statement) (t : Turn) → IsTrue (is_of_store st) → IsTrue (is_spelled st) → is_of_merge st ≡ false
+    → turn_now 0 (Store st) t old new now → Comes old was (Good 0 st) (Some 0) t.reply new now → name' ≡ name → old.down ≡ false → OnlyNow now → CountsNow now
+    → StandsOn g queues book name was old job → StandsOn g queues (book ++ t ∷ []) name' now new job
+stands_stored g queues book name name' was now old new job st t of spelled none turn comes same up only counts s =
+    stands_asked g queues book name name' was now old new job job st t of spelled (held_more g queues book name was now old new job (Good 0 st) (Some 0) t none up comes s) turn comes same up only counts s
+
+-- one behind which the hall has no job
+stands_merged : (g : Ground) (queues : List (List (List ℕ))) (book : List Turn) (name name' : GName) (was now : View) (old new : Logged) (job : Option JobValue) (st : Statement) (t : Turn) → IsTrue (is_of_store st) → IsTrue (is_spelled st)
+    → turn_now 0 (Store st) t old new now → Comes old was (Good 0 st) (Some 0) t.reply new now → name' ≡ name → old.down ≡ false → OnlyNow now → CountsNow now
+    → StandsOn g queues book name was old job → StandsOn g queues (book ++ t ∷ []) name' now new None
+stands_merged g queues book name name' was now old new job st t of spelled turn comes same up only counts s =
+    stands_asked g queues book name name' was now old new job None st t of spelled tt turn comes same up only counts s
+
+-- ---- the same, by the turn that the code makes
+
+pub stands_line : (g : Ground) (queues left : List (List (List ℕ))) (book : List Turn) (name name' : GName) (was now : View) (old new : Logged) (job : Option JobValue) (session before : ℕ) (line : List ℕ) (reply : Reply) (t : Turn) → t ≡ turn_with session (Line line) before reply new now → before ≡ old.store.entries
+    → Takes queues session line left → Comes old was (parsed true line) (Some session) reply new now → name' ≡ name → old.down ≡ false → OnlyNow now → CountsNow now
+    → StandsOn g queues book name was old job → StandsOn g left (book ++ t ∷ []) name' now new job
+stands_line g queues left book name name' was now old new job session before line reply t e f takes comes same up only counts s =
+    stands_more g queues left book name name' was now old new job session line t (turn_is session (Line line) before reply t old new now e f) takes
+    (subst (λ (r : Reply). Comes old was (parsed true line) (Some session) r new now) (sym (reply_is session (Line line) before reply t new now e)) comes) same up only counts s
+
+pub stands_said : (g : Ground) (queues : List (List (List ℕ))) (book : List Turn) (name name' : GName) (was now : View) (old new : Logged) (job : Option JobValue) (before : ℕ) (st : Statement) (reply : Reply) (t : Turn) → t ≡ turn_with 0 (Store st) before reply new now → before ≡ old.store.entries
+    → IsTrue (is_of_store st) → IsTrue (is_spelled st) → is_of_merge st ≡ false → Comes old was (Good 0 st) (Some 0) reply new now → name' ≡ name → old.down ≡ false → OnlyNow now → CountsNow now
+    → StandsOn g queues book name was old job → StandsOn g queues (book ++ t ∷ []) name' now new job
+stands_said g queues book name name' was now old new job before st reply t e f of spelled none comes same up only counts s =
+    stands_stored g queues book name name' was now old new job st t of spelled none (turn_is 0 (Store st) before reply t old new now e f)
+    (subst (λ (r : Reply). Comes old was (Good 0 st) (Some 0) r new now) (sym (reply_is 0 (Store st) before reply t new now e)) comes) same up only counts s
+
+pub stands_jobless : (g : Ground) (queues : List (List (List ℕ))) (book : List Turn) (name name' : GName) (was now : View) (old new : Logged) (job : Option JobValue) (before : ℕ) (st : Statement) (reply : Reply) (t : Turn) → t ≡ turn_with 0 (Store st) before reply new now → before ≡ old.store.entries
+    → IsTrue (is_of_store st) → IsTrue (is_spelled st) → Comes old was (Good 0 st) (Some 0) reply new now → name' ≡ name → old.down ≡ false → OnlyNow now → CountsNow now
+    → StandsOn g queues book name was old job → StandsOn g queues (book ++ t ∷ []) name' now new None
+stands_jobless g queues book name name' was now old new job before st reply t e f of spelled comes same up only counts s =
+    stands_merged g queues book name name' was now old new job st t of spelled (turn_is 0 (Store st) before reply t old new now e f)
+    (subst (λ (r : Reply). Comes old was (Good 0 st) (Some 0) r new now) (sym (reply_is 0 (Store st) before reply t new now e)) comes) same up only counts s
+
+-- a job that is that of the pending merge
+pub stands_with : (g : Ground) (queues : List (List (List ℕ))) (book : List Turn) (name : GName) (now : View) (store : Logged) (job : JobValue) → pending_job store.store ≡ Some job → StandsOn g queues book name now store None → StandsOn g queues book name now store (Some job)
+stands_with g queues book name now store job is s = record {
+  weaves = s.weaves;
+  some = s.some;
+  course = s.course;
+  told = s.told;
+  faults = s.faults;
+  loan = s.loan;
+  held = λ up. is;
+}
+
+-- there was no line to take
+pub stands_same : (g : Ground) (queues left : List (List (List ℕ))) (book : List Turn) (name : GName) (now : View) (store : Logged) (job : Option JobValue) (session : ℕ) → TakesNone queues session left → StandsOn g queues book name now store job → StandsOn g left book name now store job
+stands_same g queues left book name now store job session none s = record {
+  weaves = weaves_same g.lines queues left book session none s.weaves;
+  some = s.some;
+  course = s.course;
+  told = s.told;
+  faults = s.faults;
+  loan = s.loan;
+  held = s.held;
+}
+
+-- ---- the beginning
+
+pub starts_stand : (g : Ground) (lines : List (List ℕ)) (queues : List (List (List ℕ))) (book : List Turn) (n m : ℕ) (name : GName) (now : View) (store : Logged) → n ≡ store.store.entries → m ≡ now.moment → OnlyNow now → Sorted lines queues book n m
+    → Starts g lines name now store → StandsOn g queues book name now store None
+starts_stand g lines queues book n m name now store e f only sorted s = record {
+  weaves = record {
+    each = λ k. ap (λ l. l ++ left_of queues k) (by_nobodys k book n m sorted.turns) ∙ sorted.each k ∙ ap (lines_of_session k) (sym s.lines_are);
+    first = book;
+    rest = [];
+    parts = sym (append-nil book);
+    nobodys = λ k d lt. (sorted.turns k d lt).nobody;
+    all = sorted.all ∙ ap strangers (sym s.lines_are);
+    somebodys = λ k d lt. absurd (omega (arith, lt));
+    stores = λ k d lt. (sorted.turns k d lt).stores;
+  };
+  some = s.some;
+  course = λ p from. begun p (s.runs p from);
+  told = s.told;
+  faults = let k = s.faults in omega (arith, k);
+  loan = s.loan;
+  held = tt;
+}
+  where
+    begun : (p : Plain) → Runs store now p → Course p g.disk (lines_in book) (answers_in book) (acks_in book) now store
+    begun p runs =
+        let entries : n ≡ journal_len p.journal = e ∙ runs.stands.counts.entries in
+        Goes p runs (refused_tell p book n m entries sorted.turns) (λ told.
+        let here : IsTold now = s.told ∙ told in
+        let whole : (c : Image) → now.crash_states_since now.moment c → HoldsPrefix p.journal (journal_len p.journal) c = λ c left. runs_whole store now p runs here c (only c left) in
+        record {
+          told = here;
+          grows = goes_nowhere p.journal;
+          acknowledged = refused_kept now p.journal book n m entries f whole sorted.turns;
+          since = record {
+            later = let k = s.moment in omega (arith, k);
+            each = λ c left. whole c (subst (λ (t : ℕ). now.crash_states_since t c) (sym s.moment) left);
+            before = λ t c le left. inl (s.since t c left);
+          };
+        })

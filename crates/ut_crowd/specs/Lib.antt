@@ -1,0 +1,9 @@
+pub mod Book
+pub mod Queues
+pub mod Ground
+pub mod Standing
+pub mod Sorting
+pub mod Saving
+pub mod Crowding
+pub mod Ripe
+pub mod Texts

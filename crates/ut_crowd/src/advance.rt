@@ -1,0 +1,73 @@
+//! A session's turn: the answer to its next line.
+ghost use Rattle.std.specs.Prelude.{◌≡◌, false, IsTrue};
+ghost use Rattle.ut_gate.specs.Turns.{AddsOne};
+ghost use Rattle.ut_crowd.specs.Book.{HasTurn};
+ghost use Rattle.ut_crowd.specs.Standing.{StandsOn};
+ghost use Rattle.ut_crowd.specs.Queues.{IsDone};
+
+use crate::book::Asked;
+use crate::hall::{Hall, Opening, turn_of};
+use crate::queues::{has_line, take_line};
+use ut_course::answer_line;
+use ut_crew::Between;
+use ut_gate::{Act, Slip};
+use ut_merge::Job;
+use ut_outside::{Disk, Hook, Point};
+
+/// Answers the next line of a session. It answers false once the hall is over, or the session has no line left.
+#[derive(Drop)]
+pub(crate) struct Advance<'a, H> {
+    pub session: u8,
+    pub hook: &'a H,
+}
+
+impl<'a, 'd, D: Disk + Send, O: Opening + Send, H: Hook> Act<Hall<'d, D, O>> for Advance<'a, H> {
+    ghost use Rattle.ut_crowd.specs.Book.{HasTurn};
+    ghost use Rattle.ut_crowd.specs.Queues.{IsDone};
+    ghost use Rattle.std.specs.Prelude.{◌≡◌, false, IsTrue};
+
+    type Answer = bool;
+
+    ghost relates = { λ a _ x y _ _ answer. (answer ≡ false → IsDone a.session y.stopped y.engine.store y.queues.items) × (IsTrue answer → HasTurn a.session (λ _. Unit {0}) x.book.items y.book.items) };
+
+    ghost asks = { λ _ _. Unit {0} };
+
+    #[tactic(auto, using(ut_gate::proofs::Jobs::job_stays))]
+    fn run(&mut self, value: &mut Hall<'d, D, O>, _slip: &mut Slip<Job>) -> bool {
+        value.advance(self.session)
+    }
+}
+
+impl<'a, H: Hook> Between for Advance<'a, H> {
+    fn between(&self) {
+        self.hook.reach(Point::LineDone);
+    }
+}
+
+impl<'d, D: Disk, O: Opening> Hall<'d, D, O> {
+    /// Answers the next line of a session.
+    pub fn advance(&mut self, session: u8) -> bool
+        requires stands { StandsOn O.ground self.old.queues.items self.old.book.items self.old.engine.loan (D.view self.old.engine.disk) self.old.engine.store self.old.job }
+        ensures stands { StandsOn O.ground self.new.queues.items self.new.book.items self.new.engine.loan (D.view self.new.engine.disk) self.new.engine.store self.new.job }
+        ensures book { AddsOne self.old.book.items self.new.book.items }
+        ensures job { self.new.job ≡ self.old.job }
+        ensures done { result ≡ false → IsDone session self.new.stopped self.new.engine.store self.new.queues.items }
+        ensures turn { IsTrue result → HasTurn session (λ _. Unit {0}) self.old.book.items self.new.book.items }
+    {
+        if self.stopped || self.engine.down() || !has_line(&self.queues, session) {
+            return false;
+        }
+        if self.book.reserve(1).is_err() {
+            self.stopped = true;
+            return false;
+        }
+        let Some(line) = take_line(&mut self.queues, session) else {
+            return false;
+        };
+        let before = self.engine.journal_len();
+        let reply = answer_line(self.alloc, &mut self.engine, session, line.as_slice());
+        let turn = turn_of(&self.engine, session, Asked::Line(line), before, reply);
+        self.book.push_reserved(turn);
+        true
+    }
+}

@@ -1,0 +1,165 @@
+//! What a crowd shares: the store, the lines that are left, and the book.
+ghost use Rattle.std.specs.Prelude.{◌≡◌, ◌∷◌, ◌++◌, [], false, None, Some, IsTrue, IfOk, IfErr};
+ghost use Rattle.ut_plain.specs.declared.statement.Parsed.TheVariants.{Good};
+ghost use Rattle.ut_plain.specs.Spelled.{is_spelled};
+ghost use Rattle.ut_store.specs.Standing.{is_of_store};
+ghost use Rattle.ut_gate.specs.Turns.{AddsOne};
+ghost use Rattle.ut_course.specs.Coming.{is_of_merge, length_after};
+ghost use Rattle.ut_crowd.specs.declared.book.Asked.TheVariants as asks;
+ghost use Rattle.ut_crowd.specs.Book.{HasTurn};
+ghost use Rattle.ut_crowd.specs.Standing.{StandsOn, Starts};
+ghost use Rattle.ut_crowd.specs.Queues.{IsOver};
+
+use crate::book::{Asked, Turn};
+use crate::queues::{Queue, waiting};
+use crate::sort::sort;
+use std::alloc::Global;
+use std::collections::VecDeque;
+use std::marker::{Brand, PhantomData};
+use ut_course::{answer_statement, length_after};
+use ut_crew::Kept;
+use ut_engine::Engine;
+use ut_gate::{Back, Held};
+use ut_merge::Job;
+use ut_outside::Disk;
+use ut_plain::{Reply, Statement};
+use ut_value::Seq;
+
+/// Names the ground of one run. It has no calls, and its types have no bytes.
+pub(crate) trait Opening {
+    ghost use Rattle.ut_crowd.specs.Ground.{Ground};
+
+    ghost ground: { Ground };
+}
+
+impl Opening for Brand {
+    ghost use Rattle.ut_crowd.specs.Ground.{no_ground};
+
+    ghost ground = { no_ground };
+}
+
+/// A store that sessions share: their lines that are left, by session, and the book of those that were answered.
+#[derive(Drop)]
+pub(crate) struct Hall<'d, D: Disk, O: Opening> {
+    pub alloc: Global,
+    pub engine: Engine<'d, D>,
+    pub queues: Vec<Queue>,
+    pub book: Vec<Turn>,
+    /// A share of the job that a merger builds.
+    pub job: Option<Job>,
+    /// How many entries the journal had at the last begin of a savepoint, or at the opening.
+    pub saved: u32,
+    /// There was no memory for a turn.
+    pub stopped: bool,
+    pub of: PhantomData<O>,
+}
+
+impl<'d, D: Disk + Send, O: Opening + Send> Held for Hall<'d, D, O> {
+    ghost use Rattle.ut_crowd.specs.Standing.{StandsOn};
+
+    type Job = Job;
+
+    type Entry = Turn;
+
+    ghost Ground = { Unit {0} };
+
+    ghost ground = { tt };
+
+    ghost stands_on = { λ _ h. StandsOn O.ground h.queues.items h.book.items h.engine.loan (D.view h.engine.disk) h.engine.store h.job };
+
+    ghost book = { λ h. h.book.items };
+
+    ghost job = { λ h. h.job };
+}
+
+/// A hall in which nothing was answered yet but the lines of strangers. Where there is no memory the store is handed back.
+pub(crate) fn hall_of<'d, D: Disk, O: Opening>(
+    alloc: Global,
+    engine: Engine<'d, D>,
+    lines: VecDeque<Seq<u8>>,
+) -> Result<Hall<'d, D, O>, Back<Engine<'d, D>>>
+    requires starts { Starts O.ground lines.items engine.loan (D.view engine.disk) engine.store }
+    ensures stands { IfOk result (λ h. StandsOn O.ground h.queues.items h.book.items h.engine.loan (D.view h.engine.disk) h.engine.store h.job) }
+    ensures job { IfOk result (λ h. h.job ≡ None) }
+    ensures engine { IfOk result (λ h. h.engine ≡ engine.entry) }
+    ensures err { IfErr result (λ b. b.value ≡ engine.entry) }
+{
+    let journal = engine.journal_len();
+    let Ok((queues, book)) = sort(alloc, lines, journal, engine.moment()) else {
+        return Err(Back { value: engine });
+    };
+    Ok(Hall {
+        alloc,
+        engine,
+        queues,
+        book,
+        job: None,
+        saved: journal,
+        stopped: false,
+        of: PhantomData,
+    })
+}
+
+impl<'d, D: Disk, O: Opening> Hall<'d, D, O> {
+    /// Whether it was stopped, the disk failed, or all lines were answered.
+    pub fn is_over(&self) -> bool
+        ensures over { IsTrue result → IsOver self.now.stopped self.now.engine.store self.now.queues.items }
+        ensures up { result ≡ false → self.now.engine.store.down ≡ false }
+    {
+        self.stopped || self.engine.down() || waiting(&self.queues).is_none()
+    }
+
+    /// The store itself asks, in a turn of its own, and not for a merge into main. The answer is over where it was refused or the
+    /// disk failed.
+    pub fn ask(&mut self, st: Statement) -> Kept
+        requires up { self.old.engine.store.down ≡ false }
+        requires stores { IsTrue (is_of_store st) }
+        requires spelled { IsTrue (is_spelled st) }
+        requires no_merge { is_of_merge st ≡ false }
+        requires stands { StandsOn O.ground self.old.queues.items self.old.book.items self.old.engine.loan (D.view self.old.engine.disk) self.old.engine.store self.old.job }
+        ensures stands { StandsOn O.ground self.new.queues.items self.new.book.items self.new.engine.loan (D.view self.new.engine.disk) self.new.engine.store self.new.job }
+        ensures book { AddsOne self.old.book.items self.new.book.items }
+        ensures job { self.new.job ≡ self.old.job }
+        ensures turn { result ≡ Kept.Did → HasTurn 0 (λ asked. asked ≡ asks.Store st) self.old.book.items self.new.book.items }
+    {
+        if self.book.reserve(1).is_err() {
+            self.stopped = true;
+            return Kept::Over;
+        }
+        let before = self.engine.journal_len();
+        let reply = answer_statement(self.alloc, &mut self.engine, &st);
+        let kept = kept_of(&reply);
+        let turn = turn_of(&self.engine, 0, Asked::Store(st), before, reply);
+        self.book.push_reserved(turn);
+        kept
+    }
+}
+
+/// A turn that was answered just now, by a journal of so many entries before.
+pub(crate) fn turn_of<D: Disk>(
+    engine: &Engine<'_, D>,
+    session: u8,
+    asked: Asked,
+    before: u32,
+    reply: Reply,
+) -> Turn
+    ensures { result ≡ record { session = Some session; asked = asked; reply = reply; journal = length_after reply before engine.now.store.store.entries; moment = (D.view engine.now.disk).moment } }
+{
+    let journal = length_after(&reply, before, engine.journal_len());
+    Turn {
+        session: Some(session),
+        asked,
+        reply,
+        journal,
+        moment: engine.moment(),
+    }
+}
+
+/// What a keeper's turn came to: there is no more to do where it was refused, or the disk failed.
+pub(crate) fn kept_of(reply: &Reply) -> Kept {
+    match reply {
+        Reply::Refused(_) => Kept::Over,
+        Reply::DiskFault => Kept::Over,
+        _ => Kept::Did,
+    }
+}

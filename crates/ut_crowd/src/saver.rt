@@ -1,0 +1,89 @@
+//! A saver's turns: the pieces of a savepoint, one after the other.
+ghost use Rattle.std.specs.Prelude.{◌≡◌, false, IsTrue, IfSome};
+ghost use Rattle.ut_plain.specs.Spelled.{is_spelled};
+ghost use Rattle.ut_store.specs.Standing.{is_of_store};
+ghost use Rattle.ut_engine.specs.Savepoints.{progress_of};
+ghost use Rattle.ut_gate.specs.Turns.{AddsOne};
+ghost use Rattle.ut_course.specs.Coming.{is_of_merge};
+ghost use Rattle.ut_crowd.specs.Saving.{due_piece};
+ghost use Rattle.ut_crowd.specs.Standing.{StandsOn};
+
+use crate::hall::{Hall, Opening};
+use ut_crew::Kept;
+use ut_gate::{Act, Slip};
+use ut_merge::Job;
+use ut_outside::Disk;
+use ut_plain::{Progress, Statement};
+
+/// So many entries after the last savepoint another begins.
+const ENTRIES: u32 = 32;
+
+/// So many pages are written in a turn.
+const PAGES: u32 = 8;
+
+/// Has the store begin a savepoint once there is enough to save, write its pages, and select it.
+#[derive(Drop)]
+pub(crate) struct Saver;
+
+impl<'d, D: Disk + Send, O: Opening + Send> Act<Hall<'d, D, O>> for Saver {
+    type Answer = Kept;
+
+    ghost relates = { λ _ _ _ _ _ _ _. Unit {0} };
+
+    ghost asks = { λ _ _. Unit {0} };
+
+    #[tactic(auto, using(ut_gate::proofs::Jobs::job_stays))]
+    fn run(&mut self, value: &mut Hall<'d, D, O>, _slip: &mut Slip<Job>) -> Kept {
+        value.save_piece()
+    }
+}
+
+impl<'d, D: Disk, O: Opening> Hall<'d, D, O> {
+    /// Asks for the piece that is due.
+    pub fn save_piece(&mut self) -> Kept
+        requires stands { StandsOn O.ground self.old.queues.items self.old.book.items self.old.engine.loan (D.view self.old.engine.disk) self.old.engine.store self.old.job }
+        ensures stands { StandsOn O.ground self.new.queues.items self.new.book.items self.new.engine.loan (D.view self.new.engine.disk) self.new.engine.store self.new.job }
+        ensures book { AddsOne self.old.book.items self.new.book.items }
+        ensures job { self.new.job ≡ self.old.job }
+    {
+        if self.is_over() {
+            return Kept::Over;
+        }
+        let entries = self.engine.journal_len();
+        let progress = self.engine.phase();
+        let Some(piece) = due_piece(progress, entries, self.saved) else {
+            return Kept::Idle;
+        };
+        let kept = self.ask(piece);
+        if progress == Progress::Idle {
+            self.saved = entries;
+        }
+        kept
+    }
+}
+
+// The piece of a savepoint that is due, where it is so far.
+fn due_piece(progress: Progress, entries: u32, saved: u32) -> Option<Statement>
+    ensures due { result ≡ due_piece progress entries saved }
+    ensures stores { IfSome result (λ st. IsTrue (is_of_store st)) }
+    ensures spelled { IfSome result (λ st. IsTrue (is_spelled st)) }
+    ensures no_merge { IfSome result (λ st. is_of_merge st ≡ false) }
+{
+    match progress {
+        Progress::Idle => {
+            if entries.saturating_sub(saved) >= ENTRIES {
+                Some(Statement::SaveBegin)
+            } else {
+                None
+            }
+        }
+        Progress::Writing { done, pages } => {
+            if done < pages {
+                Some(Statement::SaveStep { n: PAGES })
+            } else {
+                Some(Statement::SaveSeal)
+            }
+        }
+        Progress::Sealed { .. } => Some(Statement::SaveFlip),
+    }
+}
