@@ -11,7 +11,7 @@ use Rattle.ut_plain.specs.Transcript.{Answer, AnswersLine}
 use Rattle.ut_script.specs.Lines.{Reading, ended_lines, IsNeeded, AsksMore, AsksFew}
 use Rattle.ut_script.proofs.AskLemmas.{none_ends, ended-append}
 use Rattle.ut_app.specs.Script.{IsReading}
-use Rattle.ut_app.specs.Telling.{Tells}
+use Rattle.ut_course.specs.Telling.{Tells}
 use Rattle.ut_app.specs.Writing.{answer_text, texts_of, HasWritten}
 use Rattle.ut_app.specs.Asking.{replies_of, joined, IsInTime, AsksInTime}
 

@@ -31,9 +31,10 @@ use Rattle.ut_app.specs.Ends.{FitsStore, HasRisen, IsEarly, IsLate}
 use Rattle.ut_app.specs.Hearing.{tally_of, is_fault, heard_of, counted, Quiet, Answered, Failed, Hearing, Hears, Noting, noted_by}
 use Rattle.ut_app.specs.Figures.{figures_by, figures_text}
 use Rattle.ut_app.specs.Benching.{script_of, IsBenching, IsUnasked, Sinking, sink_of, TellsLine, KeepsNotes, TellsEnd, IsTelling, IsThrough, Benched, IsReached, Early, Late, IsWholeBench, BenchRun}
-use Rattle.ut_app.proofs.SayLemmas.{OnlyNow}
+use Rattle.ut_course.proofs.KeepLemmas.{OnlyNow}
 use Rattle.ut_app.proofs.BeginLemmas.{loses_untouched}
-use Rattle.ut_app.proofs.CourseLemmas.{CountsNow, course-start, course-end, course-quiet, course-told, course-lost}
+use Rattle.ut_course.proofs.KeepLemmas.{CountsNow}
+use Rattle.ut_app.proofs.CourseLemmas.{course-start, course-end, course-quiet, course-told, course-lost}
 use Rattle.ut_app.proofs.HearLemmas.{tally_more, refused_one, noted_answer}
 use Rattle.ut_app.proofs.RunLemmas.{late_fits, early_cause, streams_stay, opened_made, unmade_twice}
 

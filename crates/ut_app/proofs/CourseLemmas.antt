@@ -12,19 +12,16 @@ use Rattle.ut_engine.specs.Logged.{Logged}
 use Rattle.ut_engine.specs.Runs.{Runs}
 use Rattle.ut_app.specs.declared.begin.Start.{Start}
 use Rattle.ut_app.specs.declared.report.Status.{Status}
-use Rattle.ut_app.specs.Telling.{Tells, AnswersAll, AnswersToFault}
-use Rattle.ut_app.specs.Saying.{Keeps}
+use Rattle.ut_course.specs.Telling.{Tells, AnswersAll, AnswersToFault}
 use Rattle.ut_app.specs.Origin.{opened}
 use Rattle.ut_app.specs.Keeping.{Kept}
 use Rattle.ut_app.specs.Beginning.{Begun}
-use Rattle.ut_app.specs.Serving.{parsed_lines, lengths_of, Course, IsFault, Served}
-use Rattle.ut_app.proofs.SayLemmas.{OnlyNow, runs_whole}
-use Rattle.ut_app.proofs.KeepLemmas.{GoesOn, no_shorter, kept_on, kept_ack}
-use Rattle.ut_app.proofs.TellLemmas.{tells_more, whole_transcript, cut_transcript, line_on, fault_on}
-
--- each crash now is one since any moment before
-abbrev pub CountsNow : View → Type 0
-CountsNow v = (t : ℕ) (c : Image) → t ≤ v.moment → v.crash_states c → v.crash_states_since t c
+use Rattle.ut_app.specs.Serving.{parsed_lines, Course, IsFault, Served}
+use Rattle.ut_course.specs.Keeping.{GoesOn, Keeps, lengths_of}
+use Rattle.ut_course.proofs.KeepLemmas.{OnlyNow, CountsNow, runs_whole, no_shorter}
+use Rattle.ut_course.proofs.TellLemmas.{tells_more, line_on, fault_on}
+use Rattle.ut_app.proofs.KeepLemmas.{kept_on, kept_ack}
+use Rattle.ut_app.proofs.TellLemmas.{whole_transcript, cut_transcript}
 
 lengths-one : (acks : List Ack) (k : Ack) → lengths_of (acks ++ k ∷ []) ≡ lengths_of acks ++ k.journal ∷ []
 lengths-one [] k = refl

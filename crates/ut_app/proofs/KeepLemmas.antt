@@ -10,48 +10,16 @@ use Rattle.ut_durable.specs.Journals.{HoldsPrefix}
 use Rattle.ut_durable.proofs.MomentLemmas.{prefix_of_more, prefix_of_fewer}
 use Rattle.ut_app.specs.declared.begin.Start.{Start}
 use Rattle.ut_app.specs.declared.begin.Start.TheVariants.{New, Open}
-use Rattle.ut_app.specs.Keeping.{IsKept, AreKept, SinceEntry, Kept, HoldsRun, behind}
+use Rattle.ut_course.specs.Keeping.{GoesOn}
+use Rattle.ut_course.proofs.KeepLemmas.{no_shorter, holds_longer, acks_kept, acks_more}
+use Rattle.ut_app.specs.Keeping.{SinceEntry, Kept, HoldsRun}
 
--- a journal that goes on from another
-pub record GoesOn (j k : Journal) : Type 0 where
-  pub more : List Entry
-  pub is : k ≡ behind j more
-
-pub no_shorter : (j k : Journal) → GoesOn j k → journal_len j ≤ journal_len k
-no_shorter j k g = let e : journal_len k ≡ journal_len (behind j g.more) = ap journal_len g.is in omega (arith, e, length-append j.entries g.more)
-
-pub holds_longer : (j k : Journal) (least : ℕ) (c : Image) → GoesOn j k → HoldsPrefix j least c → HoldsPrefix k least c
-holds_longer j k least c g h = subst (λ (i : Journal). HoldsPrefix i least c) (sym g.is) (with_more j g.more h)
-  where
-    with_more : (j : Journal) (more : List Entry) → HoldsPrefix j least c → HoldsPrefix (behind j more) least c
-    with_more j [] h = subst (λ (es : List Entry). HoldsPrefix (record j { entries = es }) least c) (sym (append-nil j.entries)) h
-    with_more j (e ∷ es) h =
-        subst (λ (xs : List Entry). HoldsPrefix (record j { entries = xs }) least c) (append_assoc j.entries (e ∷ []) es) (with_more (appended j e) es (prefix_of_more j e least c h))
-
-holds_less : (j : Journal) (n m : ℕ) (c : Image) → m ≤ n → HoldsPrefix j n c → HoldsPrefix j m c
-holds_less = prefix_of_fewer
-
-ack_kept : (old new : View) (j k : Journal) (ack : Ack) → GoesOn j k → LeavesOnly old new (HoldsPrefix k (journal_len j)) → IsKept old j ack → IsKept new k ack
-ack_kept old new j k ack g l kept = record {
-  past = let e = l.later in omega (arith, e, kept.past);
-  no_more = let e = no_shorter j k g in omega (arith, e, kept.no_more);
-  holds = λ c h. by c (l.before ack.moment c kept.past h);
-}
-  where
-    by : (c : Image) → old.crash_states_since ack.moment c ⊎ HoldsPrefix k (journal_len j) c → HoldsPrefix k ack.journal c
-    by c (inl h) = holds_longer j k ack.journal c g (kept.holds c h)
-    by c (inr h) = holds_less k (journal_len j) ack.journal c kept.no_more h
-
-acks_kept : (old new : View) (j k : Journal) (acks : List Ack) → GoesOn j k → LeavesOnly old new (HoldsPrefix k (journal_len j)) → AreKept old j acks → AreKept new k acks
-acks_kept old new j k [] g l kept = tt
-acks_kept old new j k (ack ∷ acks) g l kept = (ack_kept old new j k ack g l kept.0, acks_kept old new j k acks g l kept.1)
-
-run_longer : (start : Start) (j k : Journal) (least : ℕ) (c : Image) → GoesOn j k → HoldsRun start j least c → HoldsRun start k least c
+pub run_longer : (start : Start) (j k : Journal) (least : ℕ) (c : Image) → GoesOn j k → HoldsRun start j least c → HoldsRun start k least c
 run_longer New j k least c g (inl h) = inl (holds_longer j k least c g h)
 run_longer New j k least c g (inr h) = inr h
 run_longer Open j k least c g h = holds_longer j k least c g h
 
-run_holds : (start : Start) (k : Journal) (least : ℕ) (c : Image) → HoldsPrefix k least c → HoldsRun start k least c
+pub run_holds : (start : Start) (k : Journal) (least : ℕ) (c : Image) → HoldsPrefix k least c → HoldsRun start k least c
 run_holds New k least c h = inl h
 run_holds Open k least c h = h
 
@@ -63,7 +31,7 @@ since_more start entry old new first j k g le l s = record {
   where
     by : (c : Image) → old.crash_states_since entry.moment c ⊎ HoldsPrefix k (journal_len j) c → HoldsRun start k (journal_len first) c
     by c (inl h) = run_longer start j k (journal_len first) c g (s.holds c h)
-    by c (inr h) = run_holds start k (journal_len first) c (holds_less k (journal_len j) (journal_len first) c le h)
+    by c (inr h) = run_holds start k (journal_len first) c (prefix_of_fewer k (journal_len j) (journal_len first) c le h)
 
 -- a line more
 pub kept_on : (start : Start) (entry old new : View) (first j k : Journal) (acks : List Ack) → GoesOn j k → IsTold new → LeavesOnly old new (HoldsPrefix k (journal_len j)) → Kept start entry old first j acks → Kept start entry new first k acks
@@ -73,10 +41,6 @@ kept_on start entry old new first j k acks g told l kept = record {
   acknowledged = acks_kept old new j k acks g l kept.acknowledged;
   since_entry = λ nothing. since_more start entry old new first j k g kept.no_more l (kept.since_entry nothing);
 }
-
-acks_more : (v : View) (j : Journal) (acks : List Ack) (ack : Ack) → AreKept v j acks → IsKept v j ack → AreKept v j (acks ++ ack ∷ [])
-acks_more v j [] ack kept k = (k, tt)
-acks_more v j (a ∷ acks) ack kept k = (kept.0, acks_more v j acks ack kept.1 k)
 
 -- and its acknowledgement, which says how long the journal is
 pub kept_ack : (start : Start) (entry now : View) (first j : Journal) (acks : List Ack) (n : ℕ) → n ≤ journal_len j → ((c : Image) → now.crash_states_since now.moment c → HoldsPrefix j n c) → Kept start entry now first j acks

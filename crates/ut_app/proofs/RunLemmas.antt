@@ -27,13 +27,14 @@ use Rattle.ut_app.specs.Turning.{Turns, TurnCauses, EndStatus}
 use Rattle.ut_app.specs.Origin.{Origin, opened, Begins}
 use Rattle.ut_app.specs.Beginning.{Begun, NotBegun}
 use Rattle.ut_app.specs.Asking.{replies_of, AsksInTime}
-use Rattle.ut_app.specs.Serving.{parsed_lines, lengths_of, Answered, IsWritten, DidNothing}
+use Rattle.ut_course.specs.Keeping.{lengths_of}
+use Rattle.ut_app.specs.Serving.{parsed_lines, Answered, IsWritten, DidNothing}
 use Rattle.ut_app.specs.Input.{NoLine}
 use Rattle.ut_app.specs.Ends.{FitsStore, HasRisen, IsEarly, IsLate, Early, Late, IsComplete, Run}
 use Rattle.ut_app.specs.Going.{Going}
-use Rattle.ut_app.proofs.SayLemmas.{OnlyNow}
+use Rattle.ut_course.proofs.KeepLemmas.{OnlyNow}
 use Rattle.ut_app.proofs.BeginLemmas.{said_journal, loses_untouched}
-use Rattle.ut_app.proofs.CourseLemmas.{CountsNow}
+use Rattle.ut_course.proofs.KeepLemmas.{CountsNow}
 use Rattle.ut_app.proofs.ServeLemmas.{progress-start, progress-more, progress-end, write_end, disk_end}
 use Rattle.ut_app.proofs.AskLemmas.{in_time_read}
 use Rattle.ut_app.proofs.EndsLemmas.{fit_more, reading-start, reading-more, EndsReading, reading-done, reading-long, IsCut, fits_cut, reading-cut}
@@ -104,7 +105,7 @@ late plan before after status script lines acks journal l count few fit input an
 
 -- ---- early ends
 
-early_cut : (status : Status) → IsEarly status → IsCut status
+pub early_cut : (status : Status) → IsEarly status → IsCut status
 early_cut Done e = absurd e
 early_cut Usage e = absurd e
 early_cut NoStore e = tt

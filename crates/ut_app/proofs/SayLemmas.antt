@@ -1,7 +1,6 @@
 -- What a line comes to.
 use Rattle.std.proofs.Common.{inl, inr, ℕ, zero, suc, ◌≡◌, ◌⊎◌, Bool, true, false, List, [], ◌∷◌, Option, None, Some, refl, ap, ◌∙◌, sym, subst}
 use Rattle.ut_outside.specs.Disk.{View, Image, IsTold}
-use Rattle.ut_outside.proofs.RunLemmas.{started}
 use Rattle.ut_value.specs.declared.entry.Op.{Op}
 use Rattle.ut_plain.specs.declared.statement.Statement.{Statement}
 use Rattle.ut_plain.specs.declared.statement.Statement.TheVariants as statements
@@ -22,27 +21,14 @@ use Rattle.ut_plain.specs.Transcript.{Answer, AnswersLine}
 use Rattle.ut_reply.specs.Texts.{reply_text, is_small}
 use Rattle.ut_script.specs.Statements.{needs_memory}
 use Rattle.ut_script.specs.Grammar.{MayLackMemory}
-use Rattle.ut_durable.specs.Journals.{HoldsPrefix}
-use Rattle.ut_durable.proofs.SavingLemmas.{stored_holds_all}
 use Rattle.ut_engine.specs.Logged.{Logged}
 use Rattle.ut_engine.specs.Runs.{Runs}
 use Rattle.ut_engine.specs.Serves.{Serves, IsAnswered, IsLost}
 use Rattle.ut_app.specs.declared.say.Said.{Said}
 use Rattle.ut_app.specs.declared.say.Said.TheVariants as saids
-use Rattle.ut_app.specs.Keeping.{HoldsWhole}
-use Rattle.ut_app.specs.Saying.{IsText, Whole, Lacking, Keeps, Outcome, Quiet, Replied, Failed, Says, said_of}
-
--- a disk's own moment leaves what a crash leaves now
-abbrev pub OnlyNow : View → Type 0
-OnlyNow v = (c : Image) → v.crash_states_since v.moment c → v.crash_states c
-
--- what a running store holds of its files
-pub runs_whole : (e : Logged) (v : View) (p : Plain) → Runs e v p → IsTold v → HoldsWhole v p.journal
-runs_whole e v p runs told = (stored_holds_all {D = Unit {0}} (λ (u : Unit {0}). v) p.journal e.files runs.root runs.directory e.saving p.phase tt runs.stored).1 told
-
--- a store that does nothing keeps all
-pub still : (e : Logged) (v : View) (p : Plain) → OnlyNow v → Runs e v p → Keeps v v p.journal (journal_len p.journal)
-still e v p only runs told = started v (HoldsPrefix p.journal (journal_len p.journal)) (λ c h. runs_whole e v p runs told c (only c h))
+use Rattle.ut_course.specs.Keeping.{Keeps}
+use Rattle.ut_course.proofs.KeepLemmas.{OnlyNow, still}
+use Rattle.ut_app.specs.Saying.{IsText, Whole, Lacking, Outcome, Quiet, Replied, Failed, Says, said_of}
 
 -- ---- long replies
 

@@ -20,14 +20,16 @@ use Rattle.ut_app.specs.declared.turn.TurnEnd.TheVariants as ends
 use Rattle.ut_app.specs.World.{World}
 use Rattle.ut_app.specs.Writing.{answer_text, Writes, HasWritten}
 use Rattle.ut_app.specs.Asking.{replies_of, AsksInTime}
-use Rattle.ut_app.specs.Saying.{Keeps}
+use Rattle.ut_course.specs.Keeping.{Keeps}
 use Rattle.ut_app.specs.Turning.{Sunk, Noted, Turn, Quiet, Told, Unwritten, Lost, LostUnwritten}
 use Rattle.ut_app.specs.Plans.{start_of}
 use Rattle.ut_app.specs.Origin.{opened}
 use Rattle.ut_app.specs.Beginning.{Begun}
-use Rattle.ut_app.specs.Serving.{parsed_lines, lengths_of, Course, Progress, IsFault, IsWritten, Answered}
-use Rattle.ut_app.proofs.SayLemmas.{OnlyNow}
-use Rattle.ut_app.proofs.CourseLemmas.{CountsNow, lines-one, course-start, course-end, course-quiet, course-told, course-lost}
+use Rattle.ut_course.specs.Keeping.{lengths_of}
+use Rattle.ut_app.specs.Serving.{parsed_lines, Course, Progress, IsFault, IsWritten, Answered}
+use Rattle.ut_course.proofs.KeepLemmas.{OnlyNow}
+use Rattle.ut_course.proofs.KeepLemmas.{CountsNow}
+use Rattle.ut_app.proofs.CourseLemmas.{lines-one, course-start, course-end, course-quiet, course-told, course-lost}
 use Rattle.ut_app.proofs.AskLemmas.{in_time_start, in_time_more, replies_more}
 use Rattle.ut_app.proofs.MarkLemmas.{written-more, written-some, nothing_written}
 

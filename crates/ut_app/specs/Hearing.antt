@@ -15,7 +15,7 @@ use Rattle.ut_engine.specs.Runs.{Runs}
 use Rattle.ut_app.specs.declared.tally.Heard.{Heard}
 use Rattle.ut_app.specs.declared.tally.Heard.TheVariants.{Nothing, Refusal, Sum, Else, Fault}
 use Rattle.ut_app.specs.declared.tally.Tally.{Tally}
-use Rattle.ut_app.specs.Saying.{Keeps}
+use Rattle.ut_course.specs.Keeping.{Keeps}
 
 -- ---- what is counted
 

@@ -7,6 +7,7 @@ use Rattle.ut_pages.specs.Layout.{IsMade}
 use Rattle.ut_value.specs.declared.entry.Entry.{Entry}
 use Rattle.ut_plain.specs.Journal.{Journal, journal_len}
 use Rattle.ut_durable.specs.Journals.{HoldsPrefix}
+use Rattle.ut_course.specs.Keeping.{AreKept}
 use Rattle.ut_app.specs.declared.begin.Start.{Start}
 use Rattle.ut_app.specs.declared.begin.Start.TheVariants.{New, Open}
 
@@ -22,21 +23,6 @@ HoldsRun Open j least c = HoldsPrefix j least c
 -- a crash now leaves the whole journal
 abbrev pub HoldsWhole : View → Journal → Type 0
 HoldsWhole now j = Always now (HoldsPrefix j (journal_len j))
-
--- a journal with these entries behind it
-abbrev pub behind : Journal → List Entry → Journal
-behind j es = record j { entries = j.entries ++ es }
-
--- what was acknowledged is there after each crash since
-pub record IsKept (now : View) (j : Journal) (ack : Ack) : Type 0 where
-  pub past : ack.moment ≤ now.moment
-  pub no_more : ack.journal ≤ journal_len j
-  pub holds : (c : Image) → now.crash_states_since ack.moment c → HoldsPrefix j ack.journal c
-
--- each of these is kept
-abbrev pub AreKept : View → Journal → List Ack → Type 0
-AreKept now j [] = Unit {0}
-AreKept now j (ack ∷ acks) = IsKept now j ack × AreKept now j acks
 
 -- what was there at the entry is there after each crash since
 pub record SinceEntry (start : Start) (entry now : View) (first j : Journal) : Type 0 where

@@ -2,7 +2,6 @@ pub mod Plans
 pub mod World
 pub mod Script
 pub mod Writing
-pub mod Telling
 pub mod Asking
 pub mod Saying
 pub mod Origin
@@ -17,3 +16,4 @@ pub mod Hearing
 pub mod Figures
 pub mod Benching
 pub mod Top
+pub mod Crowds

@@ -1,19 +1,18 @@
 -- What a line is answered by a running store.
 use Rattle.std.specs.Prelude.{ℕ, ◌≡◌, ◌≤◌, ◌<◌, false, List, [], ◌∷◌, Some, IsTrue}
-use Rattle.ut_outside.specs.Disk.{View, IsTold}
+use Rattle.ut_outside.specs.Disk.{View}
 use Rattle.ut_outside.specs.Faults.{Rose}
-use Rattle.ut_outside.specs.Run.{LeavesOnly}
 use Rattle.ut_plain.specs.declared.statement.Parsed.{Parsed}
 use Rattle.ut_plain.specs.declared.statement.Parsed.TheVariants.{Good}
 use Rattle.ut_plain.specs.declared.reply.Reply.{Reply}
 use Rattle.ut_plain.specs.declared.reply.Reply.TheVariants as replies
 use Rattle.ut_plain.specs.declared.reply.Refusal.TheVariants as refusals
-use Rattle.ut_plain.specs.Journal.{Journal, journal_len}
+use Rattle.ut_plain.specs.Journal.{journal_len}
 use Rattle.ut_plain.specs.Plain.{Plain}
 use Rattle.ut_plain.specs.Spelled.{is_spelled}
 use Rattle.ut_plain.specs.Transcript.{Answer, AnswersLine, Faults}
 use Rattle.ut_store.specs.Standing.{suits_session}
-use Rattle.ut_durable.specs.Journals.{HoldsPrefix}
+use Rattle.ut_course.specs.Keeping.{Keeps}
 use Rattle.ut_reply.specs.Texts.{reply_text, reply_room, is_small}
 use Rattle.ut_engine.specs.Logged.{Logged}
 use Rattle.ut_engine.specs.Runs.{Runs}
@@ -41,10 +40,6 @@ said_of _ = saids.Reply
 pub data IsText (room session : ℕ) (reply : Reply) (text : List ℕ) : Type 0 where
   Whole : text ≡ reply_text (Some session) reply → IsText room session reply text
   Lacking : is_small reply ≡ false → room < reply_room reply → text ≡ reply_text (Some session) (replies.Refused refusals.Memory) → IsText room session reply text
-
--- From now until then, a crash at any moment leaves all that was there, and no more than there is then.
-abbrev pub Keeps : View → View → Journal → ℕ → Type 0
-Keeps before after j least = IsTold before → LeavesOnly before after (HoldsPrefix j least)
 
 -- what a line comes to from a plain state, and the text of its answer
 pub data Outcome (p : Plain) (line : Parsed) (before : View) (said : Said) (new : Logged) (after : View) (text : List ℕ) : Type 0 where

@@ -20,19 +20,16 @@ use Rattle.ut_app.specs.World.{World, StreamsStay, DiskStays}
 use Rattle.ut_words.specs.declared.plan.Plan.{Plan}
 use Rattle.ut_app.specs.Plans.{start_of}
 use Rattle.ut_app.specs.Script.{all_fit, ReadsInput}
-use Rattle.ut_app.specs.Telling.{Tells, AnswersAll, AnswersToFault}
+use Rattle.ut_course.specs.Telling.{Tells, AnswersAll, AnswersToFault}
 use Rattle.ut_app.specs.Writing.{HasWritten, HasFront}
 use Rattle.ut_app.specs.Asking.{replies_of, AsksInTime}
 use Rattle.ut_app.specs.Origin.{Origin, opened, Begins}
+use Rattle.ut_course.specs.Keeping.{lengths_of}
 use Rattle.ut_app.specs.Keeping.{Kept, HoldsRun, HoldsWhole, NothingPending}
 
 -- lines as the grammar reads them
 abbrev pub parsed_lines : List (List ℕ) → List Parsed
 parsed_lines script = map (parsed false) script
-
--- the lengths that acknowledgements carry
-abbrev pub lengths_of : List Ack → List ℕ
-lengths_of acks = map (λ (a : Ack). a.journal) acks
 
 -- These lines were answered so one after the other, with so many rows at most; what was acknowledged and kept meanwhile.
 pub record Course (start : Start) (rows : ℕ) (entry now : View) (script : List (List ℕ)) (answers : List Answer) (store : Logged) (acks : List Ack) (journal : ℕ) : Type 0 where

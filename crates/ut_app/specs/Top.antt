@@ -1,5 +1,5 @@
 -- What the program comes to with some words.
-use Rattle.std.specs.Prelude.{ℕ, ◌≡◌, ◌⊎◌, List}
+use Rattle.std.specs.Prelude.{ℕ, ◌≡◌, List}
 use Rattle.ut_outside.specs.declared.ack.Ack.{Ack}
 use Rattle.ut_words.specs.declared.plan.Mode.{Mode}
 use Rattle.ut_words.specs.declared.plan.Mode.TheVariants as modes
@@ -13,16 +13,26 @@ use Rattle.ut_app.specs.World.{World}
 use Rattle.ut_app.specs.Serving.{DidNothing}
 use Rattle.ut_app.specs.Ends.{Run}
 use Rattle.ut_app.specs.Benching.{BenchRun}
+use Rattle.ut_app.specs.Crowds.{CrowdRun}
 
 -- The status is Usage, and nothing was done.
 pub record IsTurnedDown (before after : World) (status : Status) (lines : ℕ) (acks : List Ack) (journal : ℕ) : Type 0 where
   pub says : status ≡ Usage
   pub nothing : DidNothing before after lines acks journal
 
--- the run that a plan asks for, by its mode; `crowd` isn't served yet
+-- what `serve` does with a plan, by its mode; it has no threads for the mode `crowd`, which it turns down
+abbrev pub ServesMode : Mode → Plan → World → World → Status → ℕ → List Ack → ℕ → Type 0
+ServesMode modes.Run plan before after status lines acks journal = Run plan before after status lines acks journal
+ServesMode modes.Crowd plan before after status lines acks journal = IsTurnedDown before after status lines acks journal
+ServesMode modes.Bench plan before after status lines acks journal = BenchRun plan before after status lines acks journal
+
+abbrev pub ServesPlan : Plan → World → World → Status → ℕ → List Ack → ℕ → Type 0
+ServesPlan plan before after status lines acks journal = ServesMode plan.mode plan before after status lines acks journal
+
+-- the run that a plan asks for, by its mode
 abbrev pub RunsMode : Mode → Plan → World → World → Status → ℕ → List Ack → ℕ → Type 0
 RunsMode modes.Run plan before after status lines acks journal = Run plan before after status lines acks journal
-RunsMode modes.Crowd plan before after status lines acks journal = IsTurnedDown before after status lines acks journal
+RunsMode modes.Crowd plan before after status lines acks journal = CrowdRun plan before after status lines acks journal
 RunsMode modes.Bench plan before after status lines acks journal = BenchRun plan before after status lines acks journal
 
 abbrev pub RunsPlan : Plan → World → World → Status → ℕ → List Ack → ℕ → Type 0
@@ -33,22 +43,6 @@ pub data RunsWords (words : List (List ℕ)) (before after : World) (status : St
   Refused : Refuses words → IsTurnedDown before after status lines acks journal → RunsWords words before after status lines acks journal
   Lacking : status ≡ Memory → DidNothing before after lines acks journal → RunsWords words before after status lines acks journal
   Served : (plan : Plan) → Takes words plan → RunsPlan plan before after status lines acks journal → RunsWords words before after status lines acks journal
-
--- the mode is one that is served
-abbrev pub IsServed : Mode → Type 0
-IsServed modes.Run = Unit {0}
-IsServed modes.Crowd = ⊥
-IsServed modes.Bench = Unit {0}
-
--- The words ask for a mode that isn't served yet.
-pub record AsksInVain (words : List (List ℕ)) : Type 0 where
-  pub plan : Plan
-  pub takes : Takes words plan
-  pub unserved : IsServed plan.mode → ⊥
-
--- `clap`'s definition of the words refuses them, or they ask for a mode that isn't served yet
-abbrev pub AreTurnedDown : List (List ℕ) → Type 0
-AreTurnedDown words = Refuses words ⊎ AsksInVain words
 
 -- the status of words that have no plan
 abbrev pub WordsStatus : WordsError → Status → Type 0

@@ -15,7 +15,7 @@ use Rattle.ut_app.specs.declared.report.Status.TheVariants.{WriteFault, DiskFaul
 use Rattle.ut_app.specs.declared.turn.TurnEnd.{TurnEnd}
 use Rattle.ut_app.specs.declared.turn.TurnEnd.TheVariants as ends
 use Rattle.ut_app.specs.Writing.{answer_text, Writes}
-use Rattle.ut_app.specs.Saying.{Keeps}
+use Rattle.ut_course.specs.Keeping.{Keeps}
 
 -- what a sink holds, and the moments of its bytes
 pub record Sunk : Type 0 where

@@ -4,6 +4,7 @@
 mod answer;
 mod begin;
 mod bench;
+mod crowd;
 mod figures;
 mod hear;
 mod input;

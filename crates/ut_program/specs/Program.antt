@@ -6,7 +6,8 @@ use Rattle.ut_app.specs.declared.report.Status.{Status}
 use Rattle.ut_app.specs.declared.report.Status.TheVariants.{Done, Usage, NoStore, Exists, ReadFault, WriteFault, DiskFault, Damaged, Memory, TooLong}
 use Rattle.ut_app.specs.World.{World}
 use Rattle.ut_app.specs.Serving.{DidNothing}
-use Rattle.ut_app.specs.Top.{AreTurnedDown, RunsWords}
+use Rattle.ut_words.specs.Plans.{Refuses}
+use Rattle.ut_app.specs.Top.{RunsWords}
 
 -- the number that a status is told by
 abbrev pub exit_number : Status → ℕ
@@ -26,7 +27,7 @@ pub record Tops (words : List (List ℕ)) (before after : World) (status : Statu
   pub lines : ℕ
   pub acks : List Ack
   pub journal : ℕ
-  pub usage : status ≡ Usage → AreTurnedDown words
+  pub usage : status ≡ Usage → Refuses words
   pub ran : RunsWords words before after status lines acks journal
   pub read : status ≡ ReadFault → Rose before.reads after.reads
   pub write : status ≡ WriteFault → Rose before.writes after.writes

@@ -8,13 +8,14 @@ use crate::status::{exit_of, text_of};
 use crate::words::Words;
 use std::alloc::Global;
 use std::process::ExitCode;
+use std::sync::Wait;
 use std::thread::Threads;
 use ut_app::{Status, top};
 use ut_outside::{Disk, NoHook, Sink, Source};
 
 /// Answers the script of the source over the store of the disk, as the words say, and gives what the process exits with.
 pub fn program<W: Words, S: Source<K>, K: Sink<D>, D: Disk + Send>(
-    rt: &(impl AllocGlobal + Eprint + Threads + Sync),
+    rt: &(impl AllocGlobal + Eprint + Threads + Wait + Sync),
     words: &W,
     source: &mut S,
     sink: &mut K,
@@ -34,7 +35,7 @@ pub fn program<W: Words, S: Source<K>, K: Sink<D>, D: Disk + Send>(
 
 /// A run with the words.
 fn run<W: Words, S: Source<K>, K: Sink<D>, D: Disk + Send>(
-    rt: &(impl AllocGlobal + Threads + Sync),
+    rt: &(impl AllocGlobal + Threads + Wait + Sync),
     words: &W,
     source: &mut S,
     sink: &mut K,
@@ -54,7 +55,7 @@ fn run<W: Words, S: Source<K>, K: Sink<D>, D: Disk + Send>(
 
 /// A run with these words, if there is memory to hand them on.
 fn run_words<S: Source<K>, K: Sink<D>, D: Disk + Send>(
-    rt: &(impl Threads + Sync),
+    rt: &(impl Threads + Wait + Sync),
     alloc: Global,
     words: &[String],
     source: &mut S,
@@ -90,7 +91,7 @@ fn unasked<S: Source<K>, K: Sink<D>, D: Disk>(
 
 /// A run with these words.
 fn answer<S: Source<K>, K: Sink<D>, D: Disk + Send>(
-    rt: &(impl Threads + Sync),
+    rt: &(impl Threads + Wait + Sync),
     alloc: Global,
     words: &[&str],
     source: &mut S,

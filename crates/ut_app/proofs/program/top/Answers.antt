@@ -1,10 +1,16 @@
-use Rattle.std.proofs.Common.{map}
+use Rattle.std.proofs.Common.{inl, inr, map}
 use Rattle.ut_app.specs.Top.{Served}
-use Rattle.ut_app.proofs.TopLemmas.{words_usage}
+use Rattle.ut_app.proofs.TopLemmas.{words_usage, served_runs, crowd_runs}
 use Rattle.ut_app.proofs.program.top.Goals as goal
-
-pub returns-in-Ok-clause-ran : goal.returns-in-Ok-clause-ran
-returns-in-Ok-clause-ran g c = Served c.in-Ok.plan c.in-Ok.ensures.taken c.serve.ensures.ran
 
 pub returns-in-Err-clause-usage : goal.returns-in-Err-clause-usage
 returns-in-Err-clause-usage g c = words_usage (map (λ w. w.now) c.args.words.now) c.in-Err.error c.status_of.result c.ended.result.status c.status_of.ensures c.ended.ensures.status c.in-Err.ensures.refused
+
+pub returns-in-Crowd-clause-ran : goal.returns-in-Crowd-clause-ran
+returns-in-Crowd-clause-ran g c = Served c.in-Ok.plan c.in-Ok.ensures.taken (crowd_runs c.in-Ok.plan _ _ _ _ _ _ c.in-Crowd.is c.crowd.ensures)
+
+pub returns-in-Run-clause-ran : goal.returns-in-Run-clause-ran
+returns-in-Run-clause-ran g c = Served c.in-Ok.plan c.in-Ok.ensures.taken (served_runs c.in-Ok.plan.mode c.in-Ok.plan _ _ _ _ _ _ (inl c.in-Run.is) c.serve.ensures.ran)
+
+pub returns-in-Bench-clause-ran : goal.returns-in-Bench-clause-ran
+returns-in-Bench-clause-ran g c = Served c.in-Ok.plan c.in-Ok.ensures.taken (served_runs c.in-Ok.plan.mode c.in-Ok.plan _ _ _ _ _ _ (inr c.in-Bench.is) c.serve-in-Bench.ensures.ran)
