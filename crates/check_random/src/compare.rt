@@ -6,6 +6,7 @@ use crate::told::Script;
 use check_oracle::Oracle;
 use check_scripts::{LINES, StoreLines, script_line};
 use std::alloc::{AllocError, Global};
+use std::sync::Wait;
 use std::thread::Threads;
 use ut_outside::{Ack, MemDisk};
 
@@ -49,7 +50,7 @@ pub fn halves_of(seed: u64) -> Halves {
 /// The first line of the script of a seed, or of the questions behind it, that the two answer otherwise. The store is opened
 /// again before the questions, in the middle of some scripts, and behind a crash.
 pub fn first_apart(
-    rt: &(impl Threads + Sync),
+    rt: &(impl Threads + Wait + Sync),
     alloc: Global,
     seed: u64,
 ) -> Result<Option<Apart>, AllocError> {
@@ -75,7 +76,7 @@ pub fn first_apart(
 
 /// Where a store that is opened now answers the questions otherwise.
 pub fn apart_in_questions(
-    rt: &(impl Threads + Sync),
+    rt: &(impl Threads + Wait + Sync),
     alloc: Global,
     store: &mut Oracle,
     disk: &mut MemDisk,
@@ -106,7 +107,7 @@ fn lines_of(
 
 /// Where the program answers a script otherwise. What it acknowledges joins `acks`.
 fn apart_on(
-    rt: &(impl Threads + Sync),
+    rt: &(impl Threads + Wait + Sync),
     alloc: Global,
     words: &[&str],
     script: &Script,

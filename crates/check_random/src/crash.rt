@@ -5,6 +5,7 @@ use crate::run::{RUN, run_on};
 use check_oracle::Oracle;
 use check_scripts::{Answers, LINES, script_line};
 use std::alloc::{AllocError, Global};
+use std::sync::Wait;
 use std::thread::Threads;
 use ut_app::Status;
 use ut_outside::{Ack, Disk, MemDisk, Tear};
@@ -41,7 +42,7 @@ fn told_by(acks: &[Ack], moment: u64) -> u32 {
 /// Where the store that a crash leaves of a script answers the questions as it may not. The crash comes at a drawn moment of the
 /// script's runs; what is opened then has the lines that were told, and perhaps the next one.
 pub fn crash_apart(
-    rt: &(impl Threads + Sync),
+    rt: &(impl Threads + Wait + Sync),
     alloc: Global,
     halves: Halves,
     disk: &MemDisk,

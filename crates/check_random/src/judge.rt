@@ -8,6 +8,7 @@ use check_oracle::Oracle;
 use check_scripts::Answers;
 use std::alloc::{AllocError, Global};
 use std::fmt;
+use std::sync::Wait;
 use std::thread::Threads;
 use ut_app::Status;
 use ut_outside::MemDisk;
@@ -118,7 +119,7 @@ impl<'a> Follower<'a> {
     /// What is wrong with a run of these lines that ended so, if anything is.
     fn wrong_in(
         &mut self,
-        rt: &(impl Threads + Sync),
+        rt: &(impl Threads + Wait + Sync),
         alloc: Global,
         lines: &[&str],
         status: Status,
@@ -157,7 +158,7 @@ impl<'a> Follower<'a> {
     /// Whether the disk has what was told, and no more than that and an open commit.
     fn is_left(
         &self,
-        rt: &(impl Threads + Sync),
+        rt: &(impl Threads + Wait + Sync),
         alloc: Global,
         disk: &mut MemDisk,
     ) -> Result<bool, AllocError> {
@@ -176,7 +177,7 @@ impl<'a> Follower<'a> {
 
 /// Whether a disk has the rows of a slow store. It is asked twice, since what lacked memory once has it then.
 fn has_rows_of(
-    rt: &(impl Threads + Sync),
+    rt: &(impl Threads + Wait + Sync),
     alloc: Global,
     store: &Oracle,
     disk: &mut MemDisk,
@@ -214,7 +215,7 @@ fn may_lack_memory(line: &str) -> bool {
 
 /// The verdict on a run of the worked script of that number over a new store.
 pub fn verdict_on(
-    rt: &(impl Threads + Sync),
+    rt: &(impl Threads + Wait + Sync),
     alloc: Global,
     number: usize,
 ) -> Result<Verdict, AllocError> {

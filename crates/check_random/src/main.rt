@@ -19,6 +19,7 @@ use check_scripts::LINES;
 use std::alloc::Global;
 use std::env;
 use std::process::ExitCode;
+use std::sync::Wait;
 use std::thread::Threads;
 
 /// What is asked for.
@@ -64,7 +65,7 @@ fn task_of(rt: &HostRuntime) -> Result<Task> {
 
 /// Compares so many scripts, or those up to the first that is answered otherwise, and says which.
 fn compare_all(
-    rt: &(impl Print + Threads + Sync),
+    rt: &(impl Print + Threads + Wait + Sync),
     alloc: Global,
     first: u64,
     count: u64,
@@ -83,7 +84,7 @@ fn compare_all(
 }
 
 /// Judges each worked script.
-fn judge_all(rt: &(impl Print + Threads + Sync), alloc: Global) -> Result<bool> {
+fn judge_all(rt: &(impl Print + Threads + Wait + Sync), alloc: Global) -> Result<bool> {
     for number in 0..worked::COUNT {
         if !judge_one(rt, alloc, number)? {
             return Ok(false);
@@ -93,7 +94,11 @@ fn judge_all(rt: &(impl Print + Threads + Sync), alloc: Global) -> Result<bool> 
 }
 
 /// Judges a run of a worked script, and says what it came to.
-fn judge_one(rt: &(impl Print + Threads + Sync), alloc: Global, number: usize) -> Result<bool> {
+fn judge_one(
+    rt: &(impl Print + Threads + Wait + Sync),
+    alloc: Global,
+    number: usize,
+) -> Result<bool> {
     ensure!(number < worked::COUNT, "there is no such script");
     let verdict = judge::verdict_on(rt, alloc, number)?;
     println!(rt; "script {number}: {verdict}")?;

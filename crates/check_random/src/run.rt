@@ -1,5 +1,6 @@
 //! Runs of the program over a disk and streams in memory.
 use std::alloc::{AllocError, Global};
+use std::sync::Wait;
 use std::thread::Threads;
 use ut_app::{Status, top};
 use ut_outside::{AckList, MemDisk, MemSink, MemSource, NoHook};
@@ -21,7 +22,7 @@ pub struct Ran {
 }
 
 pub fn run_on(
-    rt: &(impl Threads + Sync),
+    rt: &(impl Threads + Wait + Sync),
     alloc: Global,
     words: &[&str],
     script: &[u8],

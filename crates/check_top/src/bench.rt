@@ -1,6 +1,7 @@
 //! Runs of the benchmark's script: its one line, whatever the seed and the pieces, and what ends it.
-use crate::run::{Ran, run_between, run_on};
+use check_run::run::{Ran, run_between, run_on};
 use std::alloc::{AllocError, Global};
+use std::sync::Wait;
 use std::test::Fail;
 use std::thread::Threads;
 use ut_app::Status;
@@ -17,7 +18,7 @@ const AGAIN: &[u8] = b"bench lines 50 commits 52 refused 2 rows 448 total 48620\
 
 /// A run with a source that nobody may ask.
 fn bench_on(
-    rt: &(impl Threads + Sync),
+    rt: &(impl Threads + Wait + Sync),
     alloc: Global,
     words: &[&str],
     sink: MemSink,

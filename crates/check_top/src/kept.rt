@@ -1,6 +1,7 @@
 //! A run that ends before its first line leaves the files as they are.
-use crate::run::{A_ROW, Left, RUN, RUN_NEW, SCRIPT, left_on, run_on};
+use check_run::run::{A_ROW, Left, RUN, RUN_NEW, SCRIPT, left_on, run_on};
 use std::alloc::{AllocError, Global};
+use std::sync::Wait;
 use std::test::Fail;
 use std::thread::Threads;
 use ut_app::Status;
@@ -11,7 +12,7 @@ const WRONG: &[&str] = &["ut", "run", "--knew"];
 
 /// How a run with these words ends, and whether each file is as it was.
 fn run_beside(
-    rt: &(impl Threads + Sync),
+    rt: &(impl Threads + Wait + Sync),
     alloc: Global,
     words: &[&str],
     disk: &mut MemDisk,

@@ -4,27 +4,13 @@
 #[cfg(test)]
 mod bench;
 #[cfg(test)]
-mod crashes;
-#[cfg(test)]
-mod damage;
-#[cfg(test)]
-mod faults;
+mod crowds;
 #[cfg(test)]
 mod kept;
 #[cfg(test)]
 mod replies;
 #[cfg(test)]
 mod rows;
-#[cfg(test)]
-mod run;
-#[cfg(test)]
-mod save_bytes;
-#[cfg(test)]
-mod save_damage;
-#[cfg(test)]
-mod saved;
-#[cfg(test)]
-mod saves;
 #[cfg(test)]
 mod sizes;
 #[cfg(test)]

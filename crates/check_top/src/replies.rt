@@ -1,5 +1,5 @@
 //! What the program answers to whole scripts, and the bytes that it leaves.
-use crate::run::{REPLIES, RUN, RUN_NEW, SCRIPT, run_on};
+use check_run::run::{REPLIES, RUN, RUN_NEW, SCRIPT, run_on};
 use std::test::Fail;
 use ut_app::Status;
 use ut_outside::{MemDisk, Which};

@@ -1,7 +1,7 @@
 //! The worked rows of `check_scripts`, and its scripts, answered by the program.
-use crate::run::{RUN, RUN_NEW, run_on};
-use crate::saved::joined;
 use check_oracle::Oracle;
+use check_run::run::{RUN, RUN_NEW, run_on};
+use check_run::saved::joined;
 use check_scripts::rows::{self, Row};
 use check_scripts::{
     Answers, LINES, StoreLines, answer_rows, merge_rows, refusal_rows, save_rows, script_line,
@@ -9,6 +9,7 @@ use check_scripts::{
 };
 use std::alloc::{AllocError, Global};
 use std::process::Abort;
+use std::sync::Wait;
 use std::test::Fail;
 use std::thread::Threads;
 use ut_app::Status;
@@ -21,7 +22,7 @@ const AMPLE: u32 = 1000;
 const STORE_LINES: StoreLines = StoreLines::OfSaves;
 
 fn check_rows(
-    rt: &(impl Abort + Threads + Sync),
+    rt: &(impl Abort + Threads + Wait + Sync),
     alloc: Global,
     words: &[&str],
     table: &[Row],
@@ -123,7 +124,7 @@ fn scripted(
 }
 
 fn check_script(
-    rt: &(impl Abort + Threads + Sync),
+    rt: &(impl Abort + Threads + Wait + Sync),
     alloc: Global,
     words: &[&str],
     seed: u64,

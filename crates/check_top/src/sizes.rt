@@ -1,5 +1,5 @@
 //! A long log is opened, and many rows are replied.
-use crate::run::{RUN, RUN_NEW, run_on};
+use check_run::run::{RUN, RUN_NEW, run_on};
 use std::alloc::{AllocError, Global};
 use std::test::Fail;
 use ut_app::Status;

@@ -1,9 +1,10 @@
 //! Sources that give a script in pieces, long lines, and streams that fail.
 ghost use Rattle.std.specs.Prelude.{◌<◌};
 
-use crate::run::{REPLIES, RUN_NEW, Ran, SCRIPT, run_between, run_on};
+use check_run::run::{REPLIES, RUN_NEW, Ran, SCRIPT, run_between, run_on};
 use std::alloc::{AllocError, Global};
 use std::process::Abort;
+use std::sync::Wait;
 use std::test::Fail;
 use std::thread::Threads;
 use ut_app::{Status, top};
@@ -13,7 +14,7 @@ use ut_outside::{MemDisk, MemSink, MemSource, NoHook};
 const LINE_LIMIT: usize = 65536;
 
 fn run_in_pieces(
-    rt: &(impl Threads + Sync),
+    rt: &(impl Threads + Wait + Sync),
     alloc: Global,
     script: &[u8],
     piece: usize,
@@ -114,7 +115,7 @@ fn lines_given(left: u64) -> usize {
 
 /// Runs the script from a source that gives so many bytes at once, and looks at what the sink had taken at each of its calls.
 fn asked_in_time(
-    rt: &(impl Abort + Threads + Sync),
+    rt: &(impl Abort + Threads + Wait + Sync),
     alloc: Global,
     piece: usize,
 ) -> Result<(), Fail>

@@ -1,5 +1,5 @@
 //! The words that are taken, what their numbers limit, and those that are refused before the store is touched.
-use crate::run::{REPLIES, SCRIPT, run_on};
+use check_run::run::{REPLIES, SCRIPT, run_on};
 use std::test::Fail;
 use ut_app::Status;
 use ut_outside::{MemDisk, Which};
@@ -31,7 +31,7 @@ const REFUSED: [&[&str]; 26] = [
     &["ut", "run", "--seed", "2147483649"],
     &["ut", "run", "--help"],
     &["ut", "run", "--version"],
-    &["ut", "crowd", "--new"],
+    &["ut", "crowds", "--new"],
 ];
 
 #[test]

@@ -1,5 +1,6 @@
 //! Runs of the program over objects in memory, and what they leave.
 use std::alloc::{AllocError, Global};
+use std::sync::Wait;
 use std::thread::Threads;
 use ut_app::{Status, top};
 use ut_outside::{AckList, MemDisk, MemSink, MemSource, NoHook, Tear};
@@ -136,7 +137,7 @@ pub enum Left {
 }
 
 pub fn run_on(
-    rt: &(impl Threads + Sync),
+    rt: &(impl Threads + Wait + Sync),
     alloc: Global,
     words: &[&str],
     script: &[u8],
@@ -147,7 +148,7 @@ pub fn run_on(
 }
 
 pub fn run_between(
-    rt: &(impl Threads + Sync),
+    rt: &(impl Threads + Wait + Sync),
     alloc: Global,
     words: &[&str],
     mut source: MemSource,
@@ -164,7 +165,7 @@ pub fn run_between(
 
 /// Opens the store of a script, and sees what there is of it.
 pub fn left_on(
-    rt: &(impl Threads + Sync),
+    rt: &(impl Threads + Wait + Sync),
     alloc: Global,
     case: Case,
     disk: &mut MemDisk,

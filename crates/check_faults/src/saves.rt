@@ -1,10 +1,11 @@
 //! Crashes and faults of the disk amid savepoints: what is opened has each entry that was told, and the root that was selected.
-use crate::run::{RUN, RUN_NEW, Ran, run_on};
-use crate::saved::{
+use check_run::run::{RUN, RUN_NEW, Ran, run_on};
+use check_run::saved::{
     CLOSED, PARTS, QUESTION, Root, SAVED, Saved, TEARS, TRANSACTION, is_left, joined,
 };
 use std::alloc::{AllocError, Global};
 use std::process::Abort;
+use std::sync::Wait;
 use std::test::Fail;
 use std::thread::Threads;
 use ut_app::Status;
@@ -16,7 +17,7 @@ fn new_disk(alloc: Global) -> Result<MemDisk, AllocError> {
 
 /// Runs a script on a new store.
 fn made(
-    rt: &(impl Abort + Threads + Sync),
+    rt: &(impl Abort + Threads + Wait + Sync),
     alloc: Global,
     saved: Saved,
 ) -> Result<(Ran, MemDisk), AllocError> {
@@ -58,7 +59,7 @@ fn root_at(saved: Saved, acks: &[Ack], moment: u64) -> Root {
 }
 
 fn check_tears(
-    rt: &(impl Abort + Threads + Sync),
+    rt: &(impl Abort + Threads + Wait + Sync),
     alloc: Global,
     saved: Saved,
     acks: &[Ack],
@@ -135,7 +136,7 @@ fn a_crash_in_a_begin_loses_nothing(rt: HostRuntime) -> Result<(), Fail> {
 
 /// Runs a script on a disk whose calls of these numbers fail.
 fn run_failing(
-    rt: &(impl Threads + Sync),
+    rt: &(impl Threads + Wait + Sync),
     alloc: Global,
     saved: Saved,
     calls: &[u64],
@@ -173,7 +174,7 @@ fn root_behind(saved: Saved, replies: usize) -> Root {
 
 /// What a crash behind a run that failed leaves, whatever it makes of the failed call.
 fn check_failed(
-    rt: &(impl Abort + Threads + Sync),
+    rt: &(impl Abort + Threads + Wait + Sync),
     alloc: Global,
     saved: Saved,
     ran: &Ran,

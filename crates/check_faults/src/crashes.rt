@@ -1,7 +1,10 @@
 //! Crashes at every moment of a run: what is opened then is a front of its journal, with each entry that was told.
-use crate::run::{A_ROW, CHANGES, Case, Left, MERGES, RUN_NEW, TEARS, has_kept, left_on, run_on};
+use check_run::run::{
+    A_ROW, CHANGES, Case, Left, MERGES, RUN_NEW, TEARS, has_kept, left_on, run_on,
+};
 use std::alloc::{AllocError, Global};
 use std::process::Abort;
+use std::sync::Wait;
 use std::test::Fail;
 use std::thread::Threads;
 use ut_app::Status;
@@ -19,7 +22,7 @@ fn told_by(acks: &[Ack], moment: u64) -> u64 {
 }
 
 fn left_by_crash(
-    rt: &(impl Abort + Threads + Sync),
+    rt: &(impl Abort + Threads + Wait + Sync),
     alloc: Global,
     case: Case,
     disk: &MemDisk,
@@ -32,7 +35,7 @@ fn left_by_crash(
 }
 
 fn check_tears(
-    rt: &(impl Abort + Threads + Sync),
+    rt: &(impl Abort + Threads + Wait + Sync),
     alloc: Global,
     case: Case,
     disk: &MemDisk,

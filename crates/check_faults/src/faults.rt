@@ -1,9 +1,10 @@
 //! Faults of the disk at each of its calls: the replies are a front, and what was told is there again.
-use crate::run::{
+use check_run::run::{
     A_ROW, CHANGES, Case, Left, MERGES, RUN, RUN_NEW, Ran, TEARS, has_kept, left_on, run_on,
 };
 use std::alloc::{AllocError, Global};
 use std::process::Abort;
+use std::sync::Wait;
 use std::test::Fail;
 use std::thread::Threads;
 use ut_app::Status;
@@ -26,7 +27,7 @@ fn told_in(ran: &Ran) -> u64 {
 }
 
 fn run_failing(
-    rt: &(impl Threads + Sync),
+    rt: &(impl Threads + Wait + Sync),
     alloc: Global,
     case: Case,
     disk: &mut MemDisk,
@@ -38,7 +39,7 @@ fn run_failing(
 
 /// What a crash behind the run leaves, whatever it makes of the failed call.
 fn check_left(
-    rt: &(impl Abort + Threads + Sync),
+    rt: &(impl Abort + Threads + Wait + Sync),
     alloc: Global,
     case: Case,
     disk: &MemDisk,
@@ -72,7 +73,7 @@ fn a_fault_of_the_disk_is_told_and_loses_nothing(rt: HostRuntime) -> Result<(), 
 
 /// Opens the store of a script on a disk that fails at a call. Its first line is a question, its second a commit.
 fn open_failing(
-    rt: &(impl Threads + Sync),
+    rt: &(impl Threads + Wait + Sync),
     alloc: Global,
     made: &MemDisk,
     call: u64,

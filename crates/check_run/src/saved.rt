@@ -3,6 +3,7 @@ use crate::run::{RUN, run_on};
 use check_scripts::rows::Row;
 use check_scripts::save_rows;
 use std::alloc::{AllocError, Global};
+use std::sync::Wait;
 use std::thread::Threads;
 use ut_app::Status;
 use ut_outside::{MemDisk, Tear};
@@ -148,7 +149,7 @@ fn has_kept(saved: Saved, answer: &[u8], least: u64, root: Root) -> bool {
 /// Whether the store of a disk is opened with such a root, and has so many entries of its journal or more. One that has told
 /// nothing may not be made.
 pub fn is_left(
-    rt: &(impl Threads + Sync),
+    rt: &(impl Threads + Wait + Sync),
     alloc: Global,
     saved: Saved,
     disk: &mut MemDisk,

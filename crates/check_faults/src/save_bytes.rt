@@ -1,8 +1,9 @@
 //! The bytes that savepoints leave, beside those worked out by hand.
-use crate::run::{RUN, RUN_NEW, SCRIPT, run_on};
-use crate::saved::{TRANSACTION, joined};
+use check_run::run::{RUN, RUN_NEW, SCRIPT, run_on};
+use check_run::saved::{TRANSACTION, joined};
 use std::alloc::{AllocError, Global};
 use std::process::Abort;
+use std::sync::Wait;
 use std::test::Fail;
 use std::thread::Threads;
 use ut_app::Status;
@@ -46,7 +47,7 @@ fn root_in(disk: &MemDisk, page: usize) -> &[u8] {
 }
 
 fn run_script(
-    rt: &(impl Abort + Threads + Sync),
+    rt: &(impl Abort + Threads + Wait + Sync),
     alloc: Global,
     words: &[&str],
     script: &[u8],
@@ -77,7 +78,10 @@ fn a_first_savepoint_leaves_these_bytes(rt: HostRuntime) -> Result<(), Fail> {
 }
 
 /// A store of one row whose root is of version 1, which ends before the log's file.
-fn first_version(rt: &(impl Abort + Threads + Sync), alloc: Global) -> Result<MemDisk, AllocError> {
+fn first_version(
+    rt: &(impl Abort + Threads + Wait + Sync),
+    alloc: Global,
+) -> Result<MemDisk, AllocError> {
     let mut disk = MemDisk::of(alloc, &[], &[], &[])?;
     let ran = run_on(rt, alloc, RUN_NEW, SCRIPT, &mut disk)?;
     assert_eq!(rt; ran.status, Status::Done);

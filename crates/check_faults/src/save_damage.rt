@@ -1,8 +1,9 @@
 //! Stores of a savepoint whose pages are changed: they are damaged.
-use crate::run::{RUN, RUN_NEW, run_on};
-use crate::saved::{TRANSACTION, joined};
+use check_run::run::{RUN, RUN_NEW, run_on};
+use check_run::saved::{TRANSACTION, joined};
 use std::alloc::{AllocError, Global};
 use std::process::Abort;
+use std::sync::Wait;
 use std::test::Fail;
 use std::thread::Threads;
 use ut_app::Status;
@@ -68,7 +69,10 @@ const PATCHES: &[&[Patch]] = &[
 ];
 
 /// A store of one savepoint, whose page file has four pages.
-fn saved_disk(rt: &(impl Abort + Threads + Sync), alloc: Global) -> Result<MemDisk, AllocError> {
+fn saved_disk(
+    rt: &(impl Abort + Threads + Wait + Sync),
+    alloc: Global,
+) -> Result<MemDisk, AllocError> {
     let (script, _) = joined(alloc, TRANSACTION.table)?;
     let mut disk = MemDisk::of(alloc, &[], &[], &[])?;
     let ran = run_on(rt, alloc, RUN_NEW, &script, &mut disk)?;
@@ -97,7 +101,7 @@ fn patched(alloc: Global, disk: &MemDisk, patches: &[Patch]) -> Result<MemDisk, 
 
 /// How a store is opened whose page file has these patches.
 fn opened_with(
-    rt: &(impl Threads + Sync),
+    rt: &(impl Threads + Wait + Sync),
     alloc: Global,
     disk: &MemDisk,
     patches: &[Patch],

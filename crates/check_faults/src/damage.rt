@@ -1,7 +1,8 @@
 //! Files that are cut or changed: the store is opened or damaged.
-use crate::run::{A_ROW, Left, RUN, RUN_NEW, SCRIPT, left_on, run_on};
+use check_run::run::{A_ROW, Left, RUN, RUN_NEW, SCRIPT, left_on, run_on};
 use std::alloc::{AllocError, Global};
 use std::process::Abort;
+use std::sync::Wait;
 use std::test::Fail;
 use std::thread::Threads;
 use ut_app::Status;
@@ -20,7 +21,10 @@ const SWITCH: [u8; 6] = [OPEN_GATE, 1, 0, 0, 0, 5];
 const BYTES: [u8; 5] = [0x00, 0x01, 0x33, OPEN_GATE, 0xFF];
 
 /// The script's store, whose log has 46 bytes.
-fn script_disk(rt: &(impl Abort + Threads + Sync), alloc: Global) -> Result<MemDisk, AllocError> {
+fn script_disk(
+    rt: &(impl Abort + Threads + Wait + Sync),
+    alloc: Global,
+) -> Result<MemDisk, AllocError> {
     let mut disk = MemDisk::of(alloc, &[], &[], &[])?;
     let ran = run_on(rt, alloc, RUN_NEW, SCRIPT, &mut disk)?;
     assert_eq!(rt; ran.status, Status::Done);
@@ -29,7 +33,10 @@ fn script_disk(rt: &(impl Abort + Threads + Sync), alloc: Global) -> Result<MemD
 }
 
 /// The same store, whose log goes on in the other file behind its first frame.
-fn switched_disk(rt: &(impl Abort + Threads + Sync), alloc: Global) -> Result<MemDisk, AllocError> {
+fn switched_disk(
+    rt: &(impl Abort + Threads + Wait + Sync),
+    alloc: Global,
+) -> Result<MemDisk, AllocError> {
     let disk = script_disk(rt, alloc)?;
     let bytes = disk.bytes(Which::Redo);
     assert!(rt; bytes.len() > FIRST_LEN);
@@ -41,7 +48,7 @@ fn switched_disk(rt: &(impl Abort + Threads + Sync), alloc: Global) -> Result<Me
 
 /// How the store of these files is opened.
 fn opened(
-    rt: &(impl Threads + Sync),
+    rt: &(impl Threads + Wait + Sync),
     alloc: Global,
     redo: &[u8],
     redo2: &[u8],

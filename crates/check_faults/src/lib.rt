@@ -1,0 +1,15 @@
+//! Checks of the program's top call over crashes, faults of the disk, and damaged files.
+#![tactic(auto)]
+
+#[cfg(test)]
+mod crashes;
+#[cfg(test)]
+mod damage;
+#[cfg(test)]
+mod faults;
+#[cfg(test)]
+mod save_bytes;
+#[cfg(test)]
+mod save_damage;
+#[cfg(test)]
+mod saves;
