@@ -55,23 +55,52 @@ pub fn first_apart(
     seed: u64,
 ) -> Result<Option<Apart>, AllocError> {
     let halves = halves_of(seed);
-    let mut disk = MemDisk::of(alloc, &[], &[], &[])?;
-    let mut acks = Vec::new(alloc);
-    let mut store = Oracle::new(alloc, AMPLE)?;
-    let front = lines_of(alloc, halves, 0, halves.cut, &mut store)?;
-    if let Some(apart) = apart_on(rt, alloc, RUN_NEW, &front, &mut disk, &mut acks)? {
+    let mut both = Both::new(alloc)?;
+    if let Some(apart) = both.run(rt, alloc, RUN_NEW, halves, 0, halves.cut)? {
         return Ok(Some(apart));
     }
-    let mut store = store.reopened(alloc, AMPLE)?;
-    let back = lines_of(alloc, halves, halves.cut, LINES, &mut store)?;
-    if let Some(apart) = apart_on(rt, alloc, RUN, &back, &mut disk, &mut acks)? {
+    if let Some(apart) = both.run(rt, alloc, RUN, halves, halves.cut, LINES)? {
         return Ok(Some(apart));
     }
-    if let Some(apart) = crash_apart(rt, alloc, halves, &disk, &acks)? {
+    if let Some(apart) = crash_apart(rt, alloc, halves, &both.disk, &both.acks)? {
         return Ok(Some(apart));
     }
-    let mut store = store.reopened(alloc, AMPLE)?;
-    apart_in_questions(rt, alloc, &mut store, &mut disk)
+    apart_in_questions(rt, alloc, &mut both.store, &mut both.disk)
+}
+
+/// A script's two sides: the slow store, and the program's disk with what was acknowledged over it.
+#[derive(Drop)]
+struct Both {
+    store: Oracle,
+    disk: MemDisk,
+    acks: Vec<Ack>,
+}
+
+impl Both {
+    fn new(alloc: Global) -> Result<Both, AllocError> {
+        Ok(Both {
+            store: Oracle::new(alloc, AMPLE)?,
+            disk: MemDisk::of(alloc, &[], &[], &[])?,
+            acks: Vec::new(alloc),
+        })
+    }
+
+    /// Where the two answer those lines of a script otherwise. The slow store is opened again behind them.
+    fn run(
+        &mut self,
+        rt: &(impl Threads + Wait + Sync),
+        alloc: Global,
+        words: &[&str],
+        halves: Halves,
+        from: u32,
+        to: u32,
+    ) -> Result<Option<Apart>, AllocError> {
+        let script = lines_of(alloc, halves, from, to, &mut self.store)?;
+        self.store = self.store.reopened(alloc, AMPLE)?;
+        let ran = run_on(rt, alloc, words, &script.lines, &mut self.disk)?;
+        self.acks.extend_from_slice(ran.acks.as_slice())?;
+        apart_from(alloc, &script, &ran)
+    }
 }
 
 /// Where a store that is opened now answers the questions otherwise.
@@ -103,18 +132,4 @@ fn lines_of(
         script.ask(alloc, &line, store)?;
     }
     Ok(script)
-}
-
-/// Where the program answers a script otherwise. What it acknowledges joins `acks`.
-fn apart_on(
-    rt: &(impl Threads + Wait + Sync),
-    alloc: Global,
-    words: &[&str],
-    script: &Script,
-    disk: &mut MemDisk,
-    acks: &mut Vec<Ack>,
-) -> Result<Option<Apart>, AllocError> {
-    let ran = run_on(rt, alloc, words, &script.lines, disk)?;
-    acks.extend_from_slice(ran.acks.as_slice())?;
-    apart_from(alloc, script, &ran)
 }

@@ -58,13 +58,23 @@ pub fn crash_apart(
     if told == 0 && run_on(rt, alloc, RUN, b"", &mut image)?.status == Status::NoStore {
         return Ok(None);
     }
-    let mut store = store_behind(alloc, halves, told)?;
-    if apart_in_questions(rt, alloc, &mut store, &mut image)?.is_none() {
+    if apart_behind(rt, alloc, halves, told, &mut image)?.is_none() {
         return Ok(None);
     }
-    let mut store = store_behind(alloc, halves, told.saturating_add(1))?;
-    let apart = apart_in_questions(rt, alloc, &mut store, &mut image)?;
+    let apart = apart_behind(rt, alloc, halves, told.saturating_add(1), &mut image)?;
     told_of(alloc, apart, moment, told)
+}
+
+/// Where a store that is opened now answers the questions otherwise than the slow one behind so many lines of a script.
+fn apart_behind(
+    rt: &(impl Threads + Wait + Sync),
+    alloc: Global,
+    halves: Halves,
+    count: u32,
+    disk: &mut MemDisk,
+) -> Result<Option<Apart>, AllocError> {
+    let mut store = store_behind(alloc, halves, count)?;
+    apart_in_questions(rt, alloc, &mut store, disk)
 }
 
 /// The slow store, opened again behind so many lines of a script.

@@ -2,7 +2,7 @@
 //!
 //! A line that was answered by `refused memory` has changed nothing: the slow store passes over it.
 use crate::compare::{AMPLE, apart_in_questions};
-use crate::run::{RUN, RUN_NEW, run_on};
+use crate::run::{RUN, RUN_NEW, Ran, run_on};
 use crate::worked::lines_of;
 use check_oracle::Oracle;
 use check_scripts::Answers;
@@ -220,15 +220,31 @@ pub fn verdict_on(
     number: usize,
 ) -> Result<Verdict, AllocError> {
     let lines = lines_of(alloc, number)?;
+    let mut disk = MemDisk::of(alloc, &[], &[], &[])?;
+    let script = script_of(alloc, &lines)?;
+    let ran = run_on(rt, alloc, RUN_NEW, &script, &mut disk)?;
+    judged(rt, alloc, &lines, &ran, &mut disk)
+}
+
+fn script_of(alloc: Global, lines: &[&str]) -> Result<Vec<u8>, AllocError> {
     let mut script = Vec::new(alloc);
-    for line in &lines {
+    for line in lines {
         script.extend_from_slice(line.as_bytes())?;
         script.push(b'\n')?;
     }
-    let mut disk = MemDisk::of(alloc, &[], &[], &[])?;
-    let ran = run_on(rt, alloc, RUN_NEW, &script, &mut disk)?;
+    Ok(script)
+}
+
+/// The verdict on what a run of those lines told and left on its disk.
+fn judged(
+    rt: &(impl Threads + Wait + Sync),
+    alloc: Global,
+    lines: &[&str],
+    ran: &Ran,
+    disk: &mut MemDisk,
+) -> Result<Verdict, AllocError> {
     let mut follower = Follower::new(alloc, &ran.told)?;
-    let wrong = follower.wrong_in(rt, alloc, &lines, ran.status, &mut disk)?;
+    let wrong = follower.wrong_in(rt, alloc, lines, ran.status, disk)?;
     Ok(Verdict {
         status: ran.status,
         answered: follower.answered,
