@@ -19,7 +19,6 @@ use Rattle.ut_plain.specs.declared.stage.PendingMerge.{PendingMerge}
 use Rattle.ut_plain.specs.Step.{merge_ended, step, step_by, effect_of, committed, committed_by, said_changed, said_alone, MayAnswer, Steps, LacksMemory, may_lack_memory, save_written, save_sealed, save_flipped, MayFault}
 use Rattle.ut_plain.specs.Transcript.{Answer, AnswersLine}
 use Rattle.ut_reply.specs.Texts.{reply_text, is_small}
-use Rattle.ut_script.specs.Statements.{needs_memory}
 use Rattle.ut_script.specs.Grammar.{MayLackMemory}
 use Rattle.ut_engine.specs.Logged.{Logged}
 use Rattle.ut_engine.specs.Runs.{Runs}
@@ -27,6 +26,7 @@ use Rattle.ut_engine.specs.Serves.{Serves, IsAnswered, IsLost}
 use Rattle.ut_app.specs.declared.say.Said.{Said}
 use Rattle.ut_app.specs.declared.say.Said.TheVariants as saids
 use Rattle.ut_course.specs.Keeping.{Keeps}
+use Rattle.ut_course.proofs.ComeLemmas.{not_bare}
 use Rattle.ut_course.proofs.KeepLemmas.{OnlyNow, still}
 use Rattle.ut_app.specs.Saying.{IsText, Whole, Lacking, Outcome, Quiet, Replied, Failed, Says, said_of}
 
@@ -171,26 +171,6 @@ pub says_bad : (e : Logged) (v : View) (line : Parsed) (session : ℕ) (said : S
 says_bad e v line session said text only is k t =
     let a : Answer = record { session = Some session; reply = replies.Refused refusals.Syntax } in
     record { each = λ p runs. Replied a p k (subst (λ (l : Parsed). AnswersLine p l (a ∷ []) p) (sym is) (refl, refl)) runs (still e v p only runs) t }
-
-not_bare : (st : Statement) → needs_memory (Some st) ≡ true → may_lack_memory st ≡ true
-not_bare (statements.Create a b) h = refl
-not_bare (statements.Insert a b) h = refl
-not_bare (statements.Bulk a b) h = refl
-not_bare (statements.Ask q) h = refl
-not_bare (statements.Update a b c d) h = refl
-not_bare (statements.Delete a b) h = refl
-not_bare statements.Begin h = cc
-not_bare statements.Commit h = cc
-not_bare statements.Abort h = cc
-not_bare (statements.MergeL1 a b) h = refl
-not_bare (statements.MergeBegin a b) h = refl
-not_bare statements.MergeEnd h = cc
-not_bare statements.SaveBegin h = cc
-not_bare (statements.SaveStep n) h = cc
-not_bare statements.SaveSeal h = cc
-not_bare statements.SaveFlip h = cc
-not_bare statements.SaveDrop h = cc
-not_bare (statements.Shape a) h = refl
 
 pub lacks : (p : Plain) (line : Parsed) (session : ℕ) → MayLackMemory session line → AnswersLine p line (record { session = Some session; reply = replies.Refused refusals.Memory } ∷ []) p
 lacks p Comment session h = absurd h

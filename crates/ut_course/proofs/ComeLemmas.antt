@@ -130,7 +130,7 @@ bad_line session (Good n st) h k p = cc
 pub comes_bad : (e : Logged) (v : View) (line : Parsed) (session : ℕ) → OnlyNow v → is_of session (session_in line) ≡ true → is_good line ≡ false → Comes e v line (Some session) (replies.Refused refusals.Syntax) e v
 comes_bad e v line session only own bad = comes_still e v line (Some session) (replies.Refused refusals.Syntax) only (λ is. cc) (bad_line session line own bad)
 
-not_bare : (st : Statement) → needs_memory (Some st) ≡ true → may_lack_memory st ≡ true
+pub not_bare : (st : Statement) → needs_memory (Some st) ≡ true → may_lack_memory st ≡ true
 not_bare (statements.Create a b) h = refl
 not_bare (statements.Insert a b) h = refl
 not_bare (statements.Bulk a b) h = refl

@@ -41,6 +41,3 @@ crowded store new disk now name name' lines queues book job all stopped s none c
   answered = λ a. all_answered lines queues book s.weaves (none a);
   cause = cause;
 }
-
-pub same_loan : (n m : GName) → Some n ≡ Some m → n ≡ m
-same_loan n m e = cc

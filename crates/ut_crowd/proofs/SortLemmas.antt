@@ -17,7 +17,6 @@ use Rattle.ut_durable.specs.Journals.{HoldsPrefix}
 use Rattle.ut_course.specs.Telling.{Tells}
 use Rattle.ut_course.specs.Keeping.{lengths_of, AreKept}
 use Rattle.ut_course.specs.Coming.{is_of, session_in}
-use Rattle.ut_course.proofs.ComeLemmas.{InRange, in_range}
 use Rattle.ut_crowd.specs.declared.book.Asked.{Asked}
 use Rattle.ut_crowd.specs.declared.book.Asked.TheVariants.{Line, Store}
 use Rattle.ut_crowd.specs.declared.book.Turn.{Turn}
@@ -60,9 +59,6 @@ of_strangers (Good m st) n h = refl
 
 eq_self : (n : ℕ) → nat_eq n n ≡ true
 eq_self n = grind (arith, common_steps)
-
-pub seat_of : (line : List ℕ) (n : ℕ) → whose_of (parsed true line) ≡ whoses.Of n → n < 17
-seat_of line n h = let r : InRange n = in_range n line (ap (is_of n) (of_session (parsed true line) n h) ∙ eq_self n) in r.most
 
 pub lacking : (l : Parsed) (n : ℕ) → MayLackMemory n l → whoses.Of n ≡ whose_of l
 lacking Comment n h = absurd h
@@ -139,9 +135,6 @@ sorted_session lines line queues now book n m session h adds same s = record {
     by k false is =
         let differs : k ≢ session = λ e. absurd (grind (arith, common_steps, e, is)) in
         adds.others k differs ∙ s.each k ∙ sym (session_by k lines line false (ap (is_of k) (of_session (parsed true line) session h) ∙ is) ∙ append-nil (lines_of_session k lines))
-
-pub sorted_start : (queues : List (List (List ℕ))) (n m : ℕ) → length queues ≡ 17 → ((s : ℕ) → left_of queues s ≡ []) → Sorted [] queues [] n m
-sorted_start queues n m seats none = record { each = none; seats = seats; all = refl; turns = λ k d lt. absurd (omega (arith, lt)) }
 
 pub left_push : (qs : List (List (List ℕ))) → ((s : ℕ) → left_of qs s ≡ []) → (s : ℕ) → left_of (qs ++ [] ∷ []) s ≡ []
 left_push [] h zero = refl
