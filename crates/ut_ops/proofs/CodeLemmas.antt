@@ -1,12 +1,16 @@
 -- What the codes of a column tell of rows that fit: their numbers, and the places of their sums.
 use Rattle.std.proofs.Common.{ℕ, zero, suc, ◌+◌, ◌<◌, ◌≡◌, List, [], ◌∷◌, ◌++◌, length, map, get_or, set, Option, Some, IfSome, IsTrue, refl, sym, ap, ◌∙◌, subst, arith, ℤ, pos, negsuc, to_z, of_z, ltb-true, ◌^◌, ◌⊎◌, inl, inr}
-use Rattle.std.specs.Prelude.{slice_get}
+use Rattle.std.specs.Prelude.{slice_get, unwrap_or}
+use Rattle.std.specs.Option.{option_map}
 use Rattle.std.proofs.lemmas.Bool.{cases_eq}
 use Rattle.std.proofs.lemmas.List.{length-append, length-map, map-append, get_or-set_same, get_or-set_other}
-use Rattle.std.proofs.lemmas.Option.{same_Some}
+use Rattle.std.proofs.lemmas.Option.{same_Some, slice_get-map}
 use Rattle.ut_value.specs.declared.value.Value.{Value}
 use Rattle.ut_value.specs.declared.value.Value.TheVariants.{Int, Text}
-use Rattle.ut_value.specs.KeyBytes.{is_value}
+use Rattle.ut_value.specs.declared.value.Kind.{Kind}
+use Rattle.ut_value.specs.declared.value.Kind.TheVariants as kinds
+use Rattle.ut_value.specs.declared.value.Column.{Column}
+use Rattle.ut_value.specs.KeyBytes.{is_int, is_value, int_key}
 use Rattle.std.specs.Int.{w64}
 use Rattle.std.proofs.lemmas.Int.{ints, to_z-of_z}
 use Rattle.ut_plain.specs.Query.{number_of}
@@ -14,7 +18,11 @@ use Rattle.ut_plain.specs.declared.reply.Group as group
 use Rattle.ut_scan.specs.declared.place.Found.{Found}
 use Rattle.ut_exact.specs.Places.{StagedRow}
 use Rattle.ut_staged.specs.Staged.{Staged, row_at}
-use Rattle.ut_table.specs.Coded.{coded_values}
+use Rattle.ut_scan.specs.Coded.{keys_in}
+use Rattle.ut_table.specs.Coded.{no_column, keyed_main, delta_keys, coded_keys, coded_values}
+use Rattle.ut_table.specs.Decoded.{decoded}
+use Rattle.ut_table.proofs.CodedLemmas.{before}
+use Rattle.ut_table.proofs.DecodedLemmas.{decoded-key_of}
 use Rattle.ut_ops.specs.declared.numbers.Noted.{Noted}
 use Rattle.ut_ops.specs.Fit.{is_row, cell}
 use Rattle.ut_ops.specs.Noted.{IsNoted}
@@ -53,6 +61,26 @@ noted-value s c f note code kept at noted mark =
 
 pub noted-new : (s : Staged) (c : ℕ) (f : Found) (note : Noted) (code : ℕ) → slice_get (coded_values s c) code ≡ Some (cell s c f) → note.mark ≡ code + 1 → cell s c f ≡ Int note.number → IsNoted s c note
 noted-new s c f note code at mark is = record { number = λ other e. let same : other ≡ code = omega (arith, mark, e) in ap (slice_get (coded_values s c)) same ∙ at ∙ ap Some is }
+
+-- a kind that is told is that of the column
+kind-there : (columns : List Column) (c : ℕ) (k : Kind) → option_map (λ (x : Column). x.kind) (slice_get columns c) ≡ Some k → (get_or columns c no_column).kind ≡ k
+kind-there [] c k h = cc
+kind-there (x ∷ xs) zero k h = same_Some x.kind k h
+kind-there (x ∷ xs) (suc c) k h = kind-there xs c k h
+
+-- the number of a key of main's dictionaries
+pub noted-key : (s : Staged) (c code : ℕ) (key : List ℕ) (x : ℤ) (note : Noted) → option_map (λ (d : Column). d.kind) (slice_get s.columns c) ≡ Some kinds.Int → slice_get (keys_in (keyed_main s) c) code ≡ Some key
+    → key ≡ int_key x → IsTrue (is_int x) → note.mark ≡ code + 1 → note.number ≡ x → IsNoted s c note
+noted-key s c code key x note kind at is small mark number = record {
+  number = λ other e.
+      let here = (get_or s.columns c no_column).kind in
+      let same : other ≡ code = omega (arith, mark, e) in
+      ap (slice_get (coded_values s c)) same
+      ∙ slice_get-map (decoded here) (coded_keys s c) code
+      ∙ ap (option_map (decoded here)) (before (keys_in (keyed_main s) c) (delta_keys c s.l2 ++ delta_keys c (unwrap_or s.closed [])) code key at)
+      ∙ (λ i. Some (decoded (kind-there s.columns c kinds.Int kind i) (is i)))
+      ∙ ap Some (decoded-key_of kinds.Int (Int x) refl small ∙ ap Int (sym number));
+}
 
 pub noted-none : (s : Staged) (c : ℕ) (note : Noted) → note.mark ≡ 0 → IsNoted s c note
 noted-none s c note mark = record { number = λ code e. absurd (omega (arith, mark, e)) }

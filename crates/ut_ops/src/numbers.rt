@@ -1,16 +1,18 @@
 //! The numbers of a column, read by their codes.
-ghost use Rattle.std.specs.Prelude.{◌≡◌, ◌<◌, length, slice_get, option_map, Some, IsTrue, IfOk};
+ghost use Rattle.std.specs.Prelude.{◌≡◌, ◌+◌, ◌<◌, ◌^◌, ℕ, length, slice_get, option_map, Some, IsTrue, IfOk};
 ghost use Rattle.ut_value.specs.declared.value.Column.{Column};
 ghost use Rattle.ut_value.specs.declared.value.Value.TheVariants as values;
-ghost use Rattle.ut_staged.specs.Staged.{row_at};
+ghost use Rattle.ut_scan.specs.Coded.{keys_in};
+ghost use Rattle.ut_staged.specs.Staged.{Staged, row_at};
+ghost use Rattle.ut_table.specs.Coded.{keyed_main};
 ghost use Rattle.ut_ops.specs.Fit.{is_row, cell};
-ghost use Rattle.ut_ops.specs.Noted.{AreNoted};
+ghost use Rattle.ut_ops.specs.Noted.{IsNoted, AreNoted};
 
 use crate::cell::number_at;
 use std::alloc::{AllocError, Global};
 use ut_scan::Found;
 use ut_table::Table;
-use ut_value::Kind;
+use ut_value::{Kind, int_of};
 
 /// The number of a code that was read. The mark is one more than the code, or 0 where none was.
 #[derive(Clone, Copy)]
@@ -38,6 +40,37 @@ pub(crate) fn notes(
         notes.push(NONE)?;
     }
     Ok(notes)
+}
+
+/// The numbers of all of main's codes, by one walk over its dictionaries.
+pub(crate) fn main_notes(
+    alloc: Global,
+    table: &Table,
+    column: usize,
+) -> Result<Vec<Noted>, AllocError>
+    requires { option_map (λ (c : Column). c.kind) (slice_get table.now.stages.columns column) ≡ Some Kind.Int }
+    ensures { IfOk result (λ notes. AreNoted table.now.stages column notes.items) }
+{
+    let keys = table.main_keys(alloc, column)?;
+    let mut notes = Vec::with_capacity(alloc, keys.len())?;
+    for code in 0..keys.len() {
+        notes.push(noted_key(code, keys.key(code)))?;
+    }
+    Ok(notes)
+}
+
+/// What is noted of one of main's codes by its key.
+fn noted_key(code: usize, key: &[u8]) -> Noted
+    requires { code + 1 < 2 ^ 64 }
+    ensures { (s : Staged) (column : ℕ) → option_map (λ (c : Column). c.kind) (slice_get s.columns column) ≡ Some Kind.Int → slice_get (keys_in (keyed_main s) column) code ≡ Some key.now → IsNoted s column result }
+{
+    match int_of(key) {
+        Some(number) => Noted {
+            mark: code + 1,
+            number,
+        },
+        None => NONE,
+    }
 }
 
 /// A row's number in a column of numbers: a code that was noted is not read again.

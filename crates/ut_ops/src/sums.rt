@@ -7,7 +7,8 @@ ghost use Rattle.ut_table.specs.Finds.{rows_at};
 ghost use Rattle.ut_ops.specs.Fit.{Fit, cell};
 ghost use Rattle.ut_ops.specs.Noted.{AreNoted};
 
-use crate::numbers::{NONE, Noted, noted_number};
+use crate::numbers::{NONE, Noted, main_notes, noted_number};
+use std::alloc::Global;
 use ut_plain::column_of;
 use ut_scan::Found;
 use ut_table::Table;
@@ -16,8 +17,8 @@ use ut_value::Kind;
 /// How many codes have their numbers noted.
 const ROOM: usize = 1024;
 
-/// The sum of a column of numbers. Takes no memory of an allocator.
-pub fn sum(table: &Table, column: &[u8], hits: &[Found]) -> i128
+/// The sum of a column of numbers. Where memory is refused keys are read one by one.
+pub fn sum(alloc: Global, table: &Table, column: &[u8], hits: &[Found]) -> i128
     requires numbers { IsTrue (is_int (kind_in table.now.stages.columns column.now)) }
     requires few { length hits.now ≤ 2 ^ 31 }
     requires fit { Fit table.now.stages hits.now }
@@ -25,12 +26,13 @@ pub fn sum(table: &Table, column: &[u8], hits: &[Found]) -> i128
 {
     match column_of(table.columns(), column) {
         None => 0,
-        Some(place) => sum_in(table, place, hits),
+        Some(place) => sum_in(alloc, table, place, hits),
     }
 }
 
-/// Where there are many rows, the numbers of their codes are noted.
-fn sum_in(table: &Table, column: usize, hits: &[Found]) -> i128
+/// Where there are many rows, the numbers of their codes are noted: of main's all at once, where
+/// these are many and the rows not fewer.
+fn sum_in(alloc: Global, table: &Table, column: usize, hits: &[Found]) -> i128
     requires numbers { option_map (λ (c : Column). c.kind) (slice_get table.now.stages.columns column) ≡ Some Kind.Int }
     requires few { length hits.now ≤ 2 ^ 31 }
     requires fit { Fit table.now.stages hits.now }
@@ -38,6 +40,13 @@ fn sum_in(table: &Table, column: usize, hits: &[Found]) -> i128
 {
     if hits.len() < ROOM {
         return sum_at(table, column, hits, &mut []);
+    }
+    let codes = table.codes(column);
+    if ROOM < codes && codes <= hits.len() {
+        if let Ok(all) = main_notes(alloc, table, column) {
+            let mut notes = all;
+            return sum_at(table, column, hits, notes.as_mut_slice());
+        }
     }
     let mut notes = [NONE; ROOM];
     sum_at(table, column, hits, &mut notes)

@@ -8,14 +8,14 @@ map-same : (xs : List ℕ) → map (λ i. i) xs ≡ xs
 map-same [] = refl
 map-same (x ∷ xs) = ap (λ l. x ∷ l) (map-same xs)
 
-filter-range : (t : ℕ → Bool) (n : ℕ) → filter t (range_with_len 0 (n + 1)) ≡ filter t (range_with_len 0 n) ++ cond (t n) (n ∷ []) []
+pub filter-range : (t : ℕ → Bool) (n : ℕ) → filter t (range_with_len 0 (n + 1)) ≡ filter t (range_with_len 0 n) ++ cond (t n) (n ∷ []) []
 filter-range t n =
     ap (filter t) (sym (map-same (range_with_len 0 (n + 1))))
     ∙ filter_of_map_range_with_len_more t (λ i. i) 0 n n (let e : 0 + n ≡ n = omega arith in e)
     ∙ ap (λ l. filter t l ++ cond (t n) (n ∷ []) []) (map-same (range_with_len 0 n))
 
 -- places that fail are passed over
-none-between : (t : ℕ → Bool) (from k : ℕ) → ((j : ℕ) → from ≤ j → j < from + k → t j ≡ false) → filter t (range_with_len 0 (from + k)) ≡ filter t (range_with_len 0 from)
+pub none-between : (t : ℕ → Bool) (from k : ℕ) → ((j : ℕ) → from ≤ j → j < from + k → t j ≡ false) → filter t (range_with_len 0 (from + k)) ≡ filter t (range_with_len 0 from)
 none-between t from zero h = let e : from + 0 ≡ from = omega arith in ap (λ n. filter t (range_with_len 0 n)) e
 none-between t from (suc k) h =
     let e : from + suc k ≡ from + k + 1 = omega arith in

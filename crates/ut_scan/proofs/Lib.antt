@@ -1,4 +1,5 @@
 pub mod CodeLemmas
+pub mod CountLemmas
 pub mod FindLemmas
 pub mod MainLemmas
 pub mod PartLemmas

@@ -19,7 +19,7 @@ pub seen-as : (v : Viewer) (stamps : List Stamp) (stamp : Stamp) (seen : Bool) �
 seen-as v stamps stamp seen agree is = λ i lt.
     ap (λ (s : Stamp). sees v.fates.now v.snapshot v.own s) (ap (λ (l : List Stamp). get_or l i no_stamp) agree ∙ get_or-replicate (length stamps) i stamp no_stamp lt) ∙ sym is
 
-both-false : (b c : Bool) → c ≡ false → (b && c) ≡ false
+pub both-false : (b c : Bool) → c ≡ false → (b && c) ≡ false
 both-false true c e = e
 both-false false c e = refl
 

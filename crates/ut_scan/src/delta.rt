@@ -54,7 +54,7 @@ pub fn scan_delta(
 
 /// The comparison that picks the candidates: of the equalities the one with the fewest places, and
 /// where there is none the first.
-fn leading(l2: &L2, preds: &[ColumnPred]) -> Option<usize>
+pub fn leading(l2: &L2, preds: &[ColumnPred]) -> Option<usize>
     requires { All (λ p. p.column < l2.now.width) preds.now }
     ensures { MatchOption result (preds.now ≡ []) (λ k. k < length preds.now) }
 {
@@ -77,7 +77,7 @@ fn leading(l2: &L2, preds: &[ColumnPred]) -> Option<usize>
 }
 
 /// Which codes have a key that meets the comparison.
-fn marks(alloc: Global, dict: &UnsortedDict, pred: &ColumnPred) -> Result<Vec<bool>, AllocError>
+pub fn marks(alloc: Global, dict: &UnsortedDict, pred: &ColumnPred) -> Result<Vec<bool>, AllocError>
     requires { length dict.now < 2 ^ 32 }
     ensures { IfOk result (λ marks. marks.items ≡ map (meets pred.now.op pred.now.key) dict.now) }
 {
@@ -127,7 +127,7 @@ fn scan_equal(probe: &Probe<'_>, pred: &ColumnPred, out: &mut Vec<Found>) -> Res
 }
 
 /// Whether the code is marked, and the probe finds its row.
-fn is_marked_find(probe: &Probe<'_>, marks: &[bool], code: u32, i: u32) -> bool
+pub fn is_marked_find(probe: &Probe<'_>, marks: &[bool], code: u32, i: u32) -> bool
     requires mark { code < length marks.now }
     requires place { i < length probe.now.l2.now.rows }
     ensures { result ≡ (slice_index_or marks.now code false && finds probe.now i) }

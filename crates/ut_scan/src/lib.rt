@@ -2,7 +2,10 @@
 #![tactic(auto)]
 
 mod coded;
+mod counting;
 mod delta;
+mod delta_count;
+mod part_count;
 mod part_stamps;
 mod parts;
 mod place;
@@ -12,6 +15,7 @@ mod stages;
 mod stamp_table;
 mod table;
 
+pub use counting::count;
 pub use place::{ColumnPred, Found, Place};
 pub use stages::Stages;
 pub use stamp_table::StampTable;

@@ -62,7 +62,7 @@ pub fn scan_parts<L: Ledger>(
 }
 
 /// Whether all rows of a part are seen or none, where one stamp tells.
-fn joint_sight(viewer: &Viewer<'_>, stamps: &PartStamps) -> Option<bool>
+pub fn joint_sight(viewer: &Viewer<'_>, stamps: &PartStamps) -> Option<bool>
     ensures { Tells viewer.now stamps.now result }
 {
     match stamps.joint() {
@@ -111,7 +111,7 @@ fn scan_part(
 
 impl PartProbe<'_> {
     /// The places whose codes meet each comparison: one mask, which each of them narrows.
-    fn held(&self, alloc: Global) -> Result<Mask, AllocError>
+    pub fn held(&self, alloc: Global) -> Result<Mask, AllocError>
         ensures { let p = self.now in
             IfOk result (λ mask. mask ≡ held_mask p.coded.now p.part.now) }
     {
@@ -123,7 +123,7 @@ impl PartProbe<'_> {
     }
 
     /// Whether no code of the part meets one of the comparisons.
-    fn is_out(&self) -> bool
+    pub fn is_out(&self) -> bool
         ensures { let part = self.now.part.now in let coded = self.now.coded.now in
             IsTrue result → (i : ℕ) → i < length part.rows → is_held coded part i ≡ false }
     {
@@ -189,7 +189,7 @@ impl PartProbe<'_> {
     }
 
     /// Whether the row at a place is seen. No stamp is looked at where one has told for all.
-    fn sees(&self, i: u32) -> bool
+    pub fn sees(&self, i: u32) -> bool
         requires { i < length self.now.part.now.rows }
         ensures { result ≡ is_seen self.now.viewer.now self.now.stamps.now i }
     {

@@ -67,3 +67,19 @@ pub fn scan_rows(
     }
     Ok(())
 }
+
+/// How many rows of L1 are seen and meet each comparison.
+pub fn count_rows(viewer: &Viewer<'_>, preds: &[ColumnPred], rows: &[Row], stamps: &[Stamp]) -> u32
+    requires count { length rows.now ≤ 2 ^ 31 }
+    requires stamped { length stamps.now ≡ length rows.now }
+    requires wide { All (λ r. All (λ p. p.column < length r.values) preds.now) rows.now }
+    ensures { result ≡ length (found_for viewer.now preds.now Place.L1 (map keyed rows.now) stamps.now) }
+{
+    let mut count = 0;
+    for i in 0..rows.len() {
+        if is_hit(viewer, preds, &rows[i], &stamps[i]) {
+            count += 1;
+        }
+    }
+    count
+}

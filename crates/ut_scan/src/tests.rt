@@ -3,7 +3,7 @@ ghost use Rattle.std.specs.Prelude.{◌≡◌, ◌+◌, ◌<◌, ◌++◌, [], �
 ghost use Rattle.ut_main.specs.Parts.{dicts_behind};
 ghost use Rattle.ut_scan.specs.StageRows.{AreStamped};
 
-use crate::{ColumnPred, Found, Stages, StampTable, scan};
+use crate::{ColumnPred, Found, Stages, StampTable, count, scan};
 use std::alloc::{AllocError, Global};
 use std::marker::Brand;
 use std::process::Abort;
@@ -169,13 +169,13 @@ fn table_of(alloc: Global) -> Result<StampTable, AllocError>
     Ok(table)
 }
 
-/// Finds the rows whose number compares so with 4.
+/// Finds and counts the rows whose number compares so with 4.
 fn find<L: Ledger>(
     alloc: Global,
     stages: &Stages<'_>,
     op: Cmp,
     blank: Blank,
-) -> Result<Vec<Found>, AllocError>
+) -> Result<(Vec<Found>, u64), AllocError>
     requires name { blank.name ≡ L.name }
     requires parts { blank.parts ≡ L.parts }
     requires positive { 0 < blank.parts }
@@ -189,7 +189,10 @@ fn find<L: Ledger>(
         op,
         key: key_of(&Value::Int(4)),
     };
-    scan(alloc, stages, &fates, 0, None, &[pred], &mut steps)
+    let preds = [pred];
+    let found = scan(alloc, stages, &fates, 0, None, &preds, &mut steps)?;
+    let count = count(alloc, stages, &fates, 0, None, &preds, &mut steps)?;
+    Ok((found, count))
 }
 
 #[test]
@@ -211,8 +214,9 @@ fn rows_are_found_in_all_places(rt: HostRuntime) -> Result<(), Fail> {
         stamps: &table,
     };
     for (op, ids) in WANTED {
-        let found = find::<Brand>(alloc, &stages, op, Blank::new(1))?;
+        let (found, count) = find::<Brand>(alloc, &stages, op, Blank::new(1))?;
         assert_eq!(rt; found.len(), ids.len());
+        assert_eq!(rt; count, ids.len() as u64);
         for i in 0..ids.len() {
             assert_eq!(rt; found[i].id, ids[i]);
         }

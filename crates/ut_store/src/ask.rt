@@ -96,8 +96,7 @@ impl Store {
         requires known { early_refusal self.now session (statements.Ask (queries.Count name.now preds.now)) ≡ None }
         ensures { IfOk result (λ reply. (p : Plain) → StandsFor self.now p → reply ≡ told (view p session).tables (view p session).rows (queries.Count name.now preds.now)) }
     {
-        let hits = self.scan(alloc, session, name.as_slice(), preds)?;
-        let count = hits.as_slice().len();
+        let count = self.count(alloc, session, name.as_slice(), preds)?;
         Ok(Reply::Count(count as u32))
     }
 
@@ -116,7 +115,7 @@ impl Store {
     {
         let hits = self.scan(alloc, session, name.as_slice(), preds)?;
         let table = self.table_of(name.as_slice());
-        let total = sum(table, column.as_slice(), hits.as_slice());
+        let total = sum(alloc, table, column.as_slice(), hits.as_slice());
         Ok(Reply::Sum(total))
     }
 

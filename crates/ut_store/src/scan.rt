@@ -5,7 +5,7 @@ ghost use Rattle.ut_plain.specs.Kinds.{preds_fit};
 ghost use Rattle.ut_plain.specs.Names.{known, preds_known};
 ghost use Rattle.ut_plain.specs.Tables.{columns_of, columns_in, place_in};
 ghost use Rattle.ut_table.specs.Finds.{hits_of};
-ghost use Rattle.ut_store.specs.Hits.{Hits};
+ghost use Rattle.ut_store.specs.Hits.{CountsHits, Hits};
 ghost use Rattle.ut_store.specs.Reads.{looks_at, own_at};
 ghost use Rattle.ut_store.specs.Standing.{Stands};
 
@@ -34,6 +34,27 @@ impl Store {
         let snapshot = self.looks_at(session);
         let own = self.own(session);
         table.scan(alloc, &self.fates, snapshot, own, preds)
+    }
+
+    /// How many rows of a table the session sees that meet each comparison.
+    pub(crate) fn count(
+        &self,
+        alloc: Global,
+        session: u8,
+        name: &[u8],
+        preds: &[Pred],
+    ) -> Result<u64, AllocError>
+        requires seat { session < 17 }
+        requires stands { Stands self.now }
+        requires known { IsTrue (known (preds_known preds.now) (columns_of self.now.tables name.now)) }
+        requires fit { IsTrue (preds_fit (columns_in self.now.tables name.now) preds.now) }
+        ensures { IfOk result (λ count. CountsHits self.now session (place_in self.now.tables name.now) (meets (columns_in self.now.tables name.now) preds.now) count) }
+    {
+        let place = place_of(&self.tables, name).unwrap();
+        let table = &self.stages[place];
+        let snapshot = self.looks_at(session);
+        let own = self.own(session);
+        table.count(alloc, &self.fates, snapshot, own, preds)
     }
 
     /// The length of the journal at which a session looks.

@@ -34,7 +34,7 @@ use Rattle.ut_table.proofs.ReadLemmas.{columns-are, holds-row, held-values, with
 -- ---- the keys of all dictionaries
 
 -- the keys of a column in the first parts, so many
-abbrev keys_first : MainValue → ℕ → ℕ → List (List ℕ)
+abbrev pub keys_first : MainValue → ℕ → ℕ → List (List ℕ)
 keys_first main j n = end_to_end (get_or (dicts_behind (first_parts n main)) j [])
 
 -- they are the first of those in more parts
@@ -93,6 +93,21 @@ no-codes main j e = by main.parts e
     by [] e = sym (ap (λ (c : Chain). length (end_to_end c)) (no-keys main.width j))
     by (r ∷ rs) e = absurd (omega (arith, e))
 
+-- the keys of no parts, and of one part more
+pub keys-none : (main : MainValue) (j : ℕ) → [] ≡ keys_first main j 0
+keys-none main j = sym (ap (λ (c : Chain). end_to_end c) (no-keys main.width j))
+
+pub keys-next : (main : MainValue) (p j : ℕ) (part : PartValue) (old own new : List (List ℕ)) → p < length main.parts → j < main.width → part.rows ≡ get_or main.parts p [] → part.before ≡ dicts_behind (first_parts p main)
+    → old ≡ keys_first main j p → own ≡ own_dict (end_to_end (get_or part.before j [])) (cells_at j part.rows) → new ≡ old ++ own → new ≡ keys_first main j (p + 1)
+keys-next main p j part old own new there wide rows before_is so_far own_is is =
+    let chain = get_or (dicts_behind (first_parts p main)) j [] in
+    let next = own_dict (end_to_end chain) (cells_at j (get_or main.parts p [])) in
+    let own_here : own ≡ next = own_is ∙ (λ i. own_dict (end_to_end (get_or (before_is i) j [])) (cells_at j (rows i))) in
+    is ∙ (λ i. so_far i ++ own_here i) ∙ sym (ap (λ (c : Chain). end_to_end c) (dicts-next main p j there wide) ∙ end_to_end-push chain next)
+
+pub keys-all : (main : MainValue) (p j : ℕ) → length main.parts ≤ p → keys_first main j p ≡ keys_in main j
+keys-all main p j le = ap (λ (m : MainValue). keys_in m j) (first-all main p le)
+
 -- the keys of the last part are those of main
 pub last-codes : (main : MainValue) (p j : ℕ) → p + 1 ≡ length main.parts → keys_in (first_parts (p + 1) main) j ≡ keys_in main j
 last-codes main p j e = ap (λ (m : MainValue). keys_in m j) (first-all main (p + 1) (omega (arith, e)))
@@ -107,7 +122,7 @@ behind xs ys n x e =
     ∙ ap Some (get_or-append-add xs ys n x ∙ get_or_from_slice_get ys n x x e)
 
 -- what stands before one
-before : {X : Type 0} (xs ys : List X) (n : ℕ) (x : X) → slice_get xs n ≡ Some x → slice_get (xs ++ ys) n ≡ Some x
+pub before : {X : Type 0} (xs ys : List X) (n : ℕ) (x : X) → slice_get xs n ≡ Some x → slice_get (xs ++ ys) n ≡ Some x
 before xs ys n x e =
     let lt = slice_get_within xs n x e in
     slice_get-get_or (xs ++ ys) n x (omega (arith, lt, length-append xs ys))

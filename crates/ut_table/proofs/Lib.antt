@@ -11,6 +11,7 @@ pub mod ResortedLemmas
 pub mod SwitchLemmas
 pub mod FlagLemmas
 pub mod SizeLemmas
+pub mod SortLemmas
 pub mod CompiledLemmas
 pub mod OrderLemmas
 pub mod PartLemmas

@@ -5,6 +5,7 @@ use Rattle.std.specs.Option.{option_map}
 use Rattle.std.specs.List.{flat_map, range_with_len}
 use Rattle.std.specs.List.Sorted.{IsPermutation, IsNonDecreasingBy}
 use Rattle.std.proofs.lemmas.List.{length-map}
+use Rattle.std.proofs.lemmas.List.Sorted.{length_permutation}
 use Rattle.ut_plain.specs.declared.statement.Pred.{Pred}
 use Rattle.ut_stamps.specs.declared.fates.Fate.{Fate}
 use Rattle.ut_stamps.specs.declared.place.Place.{Place}
@@ -16,11 +17,12 @@ use Rattle.ut_scan.specs.StageRows.{StageRows, found_rows, found_in_part}
 use Rattle.ut_staged.specs.Staged.{Staged, row_at, row_in}
 use Rattle.ut_table.specs.Compiled.{column_pred}
 use Rattle.ut_table.specs.Contents.{Contents, PendingValue, closed_rows, stamped_rows, held, staged}
-use Rattle.ut_table.specs.Finds.{SeenOnce, Finds}
+use Rattle.ut_table.specs.Finds.{SeenOnce, Counts, Finds}
 use Rattle.ut_table.specs.Kept.{IsTable}
 use Rattle.ut_table.proofs.DecodedLemmas.{decoded_rows-keyed, All-keyed}
 use Rattle.ut_table.proofs.StampedLemmas.{parts-same, part-at}
 use Rattle.ut_table.proofs.PlaceLemmas.{closed-lengths, place-within, part-there, rows-held}
+use Rattle.ut_table.proofs.SortLemmas.{ordered}
 use Rattle.ut_table.proofs.FindsLemmas.{Asked, AreIn, IsStage, stage_of, Covers, Covers-stage, Covers-none, Covers-append, finds-scan}
 
 -- ---- the places of each stage
@@ -146,3 +148,11 @@ scan-finds {t} h {s} view fates snapshot own preds asked once list rows up =
     let before = subst (λ (x : Staged). SeenOnce x fates snapshot own) (sym view) once in
     subst (λ (x : Staged). Finds x fates snapshot own preds list) view
     (record { scan = finds-scan fates snapshot own t.columns preds asked (staged t) (3 + length t.main.parts) _ list (covers h fates snapshot own preds asked before) (last-stage h) rows up })
+
+-- the answer of a count, as the contract of a table says it: some list in the order of the ids is what a scan finds
+pub scan-counts : {t : Contents} (h : IsTable t) {s : Staged} (view : staged t ≡ s) (fates : List Fate) (snapshot : ℕ) (own : Option ℕ) (preds : List Pred) → Asked t.columns preds → SeenOnce s fates snapshot own
+    → (count : ℕ) → count ≡ length (found_rows fates snapshot own (map (column_pred t.columns) preds) (rows_of t) t.stamps) → Counts s fates snapshot own preds count
+scan-counts {t} h {s} view fates snapshot own preds asked once count is =
+    let rows = found_rows fates snapshot own (map (column_pred t.columns) preds) (rows_of t) t.stamps in
+    let r = ordered (λ (f : Found). f.id) rows in
+    record { found = r.list; finds = scan-finds h view fates snapshot own preds asked once r.list r.same r.up; all = is ∙ sym (length_permutation rows r.list r.same) }

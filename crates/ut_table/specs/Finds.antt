@@ -1,5 +1,5 @@
 -- What a scan of a table finds.
-use Rattle.std.specs.Prelude.{ℕ, ◌≡◌, true, List, map, Option, Some, IsSome, All}
+use Rattle.std.specs.Prelude.{ℕ, ◌≡◌, true, List, length, map, Option, Some, IsSome, All}
 use Rattle.ut_plain.specs.declared.statement.Pred.{Pred}
 use Rattle.ut_plain.specs.declared.table.Stored.{Stored}
 use Rattle.ut_plain.specs.Condition.{meets}
@@ -22,6 +22,12 @@ hits_of found = map (λ (f : Found). (f.id, f.place)) found
 -- By ascending id, exactly the places whose rows are seen and meet each comparison.
 pub record Finds (s : Staged) (fates : List Fate) (snapshot : ℕ) (own : Option ℕ) (preds : List Pred) (found : List Found) : Type 0 where
   pub scan : IsScan (λ n p. row_at s p) 0 fates snapshot own (meets s.columns preds) (hits_of found)
+
+-- so many places as a scan finds
+pub record Counts (s : Staged) (fates : List Fate) (snapshot : ℕ) (own : Option ℕ) (preds : List Pred) (count : ℕ) : Type 0 where
+  pub found : List Found
+  pub finds : Finds s fates snapshot own preds found
+  pub all : count ≡ length found
 
 -- a row stands at each place
 abbrev pub AreThere : Staged → List Found → Type 0

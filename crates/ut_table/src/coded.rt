@@ -1,5 +1,5 @@
 //! The rows of a table by the codes of their keys.
-ghost use Rattle.std.specs.Prelude.{◌≡◌, ◌+◌, ◌<◌, ◌≤◌, ◌^◌, length, get_or, slice_get, Some, IsSome, IfSome};
+ghost use Rattle.std.specs.Prelude.{◌≡◌, ◌+◌, ◌<◌, ◌≤◌, ◌^◌, length, get_or, slice_get, Some, IsSome, IfSome, IfOk};
 ghost use Rattle.ut_exact.specs.Places.{StagedRow};
 ghost use Rattle.ut_unsorted.specs.FirstSeen.{first_seen};
 ghost use Rattle.ut_l2.specs.KeyRows.{cells_at, key_at, no_row};
@@ -8,6 +8,8 @@ ghost use Rattle.ut_staged.specs.Staged.{row_at};
 ghost use Rattle.ut_table.specs.Coded.{coded_values, delta_keys, keyed_main};
 
 use crate::table::Table;
+use std::alloc::{AllocError, Global};
+use ut_key::KeyList;
 use ut_l2::L2;
 use ut_main::{Main, Part};
 use ut_scan::Place;
@@ -24,6 +26,20 @@ fn main_codes(main: &Main, column: usize) -> usize
         return 0;
     }
     main.chain(column as u8, parts - 1).len() as usize
+}
+
+/// The keys of the dictionaries of main in a column, by one walk over each.
+fn main_keys(alloc: Global, main: &Main, column: usize) -> Result<KeyList, AllocError>
+    requires column { column < main.now.width }
+    requires narrow { main.now.width ≤ 64 }
+    ensures { IfOk result (λ keys. keys ≡ keys_in main.now column) }
+{
+    let mut keys = KeyList::new(alloc);
+    for p in 0..main.parts() {
+        let more = main.part(p).dict(column as u8).keys(alloc)?;
+        keys = keys.followed_by(&more)?;
+    }
+    Ok(keys)
 }
 
 /// The code of a row of a delta among the delta's own keys.
@@ -49,6 +65,14 @@ fn part_code(part: &Part, column: usize, i: u32) -> usize
 }
 
 impl Table {
+    /// The keys of main's codes in a column, by one walk over each dictionary.
+    pub fn main_keys(&self, alloc: Global, column: usize) -> Result<KeyList, AllocError>
+        requires { column < length self.now.stages.columns }
+        ensures { IfOk result (λ keys. keys ≡ keys_in (keyed_main self.now.stages) column) }
+    {
+        main_keys(alloc, &self.main, column)
+    }
+
     /// How many codes main and the second stage have in a column.
     fn open_codes(&self, column: usize) -> usize
         requires { column < length self.now.stages.columns }

@@ -8,7 +8,7 @@ use std::alloc::{AllocError, Global};
 use std::sync::ledger::{Blank, Ledger};
 use ut_key::Steps;
 use ut_plain::{Pred, column_of};
-use ut_scan::{ColumnPred, Found, Stages, scan};
+use ut_scan::{ColumnPred, Found, Stages, count, scan};
 use ut_stamps::Fates;
 use ut_value::{Column, key_of, value_keeps_rule};
 
@@ -69,4 +69,25 @@ pub fn counted_scan<L: Ledger>(
 {
     let mut steps = Steps::<L>::new(blank);
     scan(alloc, stages, fates, snapshot, own, preds, &mut steps)
+}
+
+/// How many rows a scan finds, with a counter for its steps over a new ledger.
+pub fn counted_rows<L: Ledger>(
+    alloc: Global,
+    stages: &Stages<'_>,
+    fates: &Fates,
+    snapshot: u32,
+    own: Option<u64>,
+    preds: &[ColumnPred],
+    blank: Blank,
+) -> Result<u64, AllocError>
+    requires name { blank.name ≡ L.name }
+    requires parts { blank.parts ≡ L.parts }
+    requires positive { 0 < blank.parts }
+    requires stamped { AreStamped stages.now }
+    requires columns { All (λ p. p.column < stages.now.l2.now.width) preds.now }
+    ensures { IfOk result (λ count. count ≡ length (asked_for fates.now snapshot own preds.now stages.now)) }
+{
+    let mut steps = Steps::<L>::new(blank);
+    count(alloc, stages, fates, snapshot, own, preds, &mut steps)
 }

@@ -2,9 +2,9 @@
 ghost use Rattle.std.specs.Prelude.{◌≡◌, IsTrue, IfOk};
 ghost use Rattle.ut_plain.specs.Names.{preds_known};
 ghost use Rattle.ut_plain.specs.Kinds.{preds_fit};
-ghost use Rattle.ut_table.specs.Finds.{SeenOnce, Finds};
+ghost use Rattle.ut_table.specs.Finds.{SeenOnce, Counts, Finds};
 
-use crate::compiled::{compiled, counted_scan, preds_keep_rules};
+use crate::compiled::{compiled, counted_rows, counted_scan, preds_keep_rules};
 use crate::table::Table;
 use std::alloc::{AllocError, Global};
 use std::marker::Brand;
@@ -32,6 +32,34 @@ impl Table {
         let compiled = compiled(alloc, self.columns.as_slice(), preds)?;
         let stages = self.stages();
         counted_scan::<Brand>(
+            alloc,
+            &stages,
+            fates,
+            snapshot,
+            own,
+            compiled.as_slice(),
+            Blank::new(1),
+        )
+    }
+
+    /// How many rows a scan finds. There is no list of them.
+    pub fn count(
+        &self,
+        alloc: Global,
+        fates: &Fates,
+        snapshot: u32,
+        own: Option<u64>,
+        preds: &[Pred],
+    ) -> Result<u64, AllocError>
+        requires known { IsTrue (preds_known preds.now self.now.stages.columns) }
+        requires fit { IsTrue (preds_fit self.now.stages.columns preds.now) }
+        requires once { SeenOnce self.now.stages fates.now snapshot own }
+        ensures { IfOk result (λ count. Counts self.now.stages fates.now snapshot own preds.now count) }
+    {
+        preds_keep_rules(preds);
+        let compiled = compiled(alloc, self.columns.as_slice(), preds)?;
+        let stages = self.stages();
+        counted_rows::<Brand>(
             alloc,
             &stages,
             fates,

@@ -157,8 +157,11 @@ fn find(
         panic!(rt; "a column has no kind");
     };
     assert!(rt; is_of_kind(kind, &value));
-    let pred = Pred { column, op, value };
-    table.scan(alloc, fates, 0, None, &[pred])
+    let preds = [Pred { column, op, value }];
+    let found = table.scan(alloc, fates, 0, None, &preds)?;
+    let count = table.count(alloc, fates, 0, None, &preds)?;
+    assert!(rt; count == found.len() as u64);
+    Ok(found)
 }
 
 /// The row in a place has this text.
@@ -296,5 +299,7 @@ fn rows_are_found_in_each_stage_and_behind_merges(rt: HostRuntime) -> Result<(),
         4,
     )?;
     has_shape(&rt, alloc, &table, 0, 0, &[3])?;
+    assert!(rt; table.columns().len() == 2);
+    assert!(rt; table.main_keys(alloc, 0)?.len() == 2);
     Ok(())
 }

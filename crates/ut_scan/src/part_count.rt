@@ -1,0 +1,144 @@
+//! How many rows of main's parts a scan finds, by codes.
+ghost use Rattle.std.specs.Prelude.{◌≡◌, ◌+◌, ◌*◌, ◌^◌, ◌<◌, ◌≤◌, length, All, IfOk};
+ghost use Rattle.ut_scan.specs.Coded.{held_places, seen_at, standing};
+ghost use Rattle.ut_scan.specs.Finds.{all_places};
+ghost use Rattle.ut_scan.specs.Probes.{found_in_main};
+ghost use Rattle.ut_scan.specs.StageRows.{scan_steps, AreStampedParts};
+
+use crate::coded::{CodedPred, coded_preds};
+use crate::part_stamps::PartStamps;
+use crate::parts::{PartProbe, joint_sight};
+use crate::place::ColumnPred;
+use crate::probe::Viewer;
+use crate::stamp_table::StampTable;
+use std::alloc::{AllocError, Global};
+use std::sync::ledger::Ledger;
+use ut_key::Steps;
+use ut_main::{Main, Part};
+use ut_mask::Mask;
+
+/// How many rows of main are seen and meet each comparison.
+pub fn count_parts<L: Ledger>(
+    alloc: Global,
+    viewer: &Viewer<'_>,
+    preds: &[ColumnPred],
+    main: &Main,
+    stamps: &StampTable,
+    steps: &mut Steps<L>,
+) -> Result<u64, AllocError>
+    requires columns { All (λ p. p.column < main.now.width) preds.now }
+    requires stamped { AreStampedParts main.now.parts stamps.now.parts }
+    ensures count { IfOk result (λ count. count
+        ≡ length (found_in_main viewer.now preds.now main.now.parts stamps.now.parts)) }
+    ensures few { IfOk result (λ count. count ≤ 8 * 2 ^ 32) }
+    ensures cost { steps.new ≤ steps.old + scan_steps main.now preds.now }
+{
+    if main.parts() == 0 {
+        return Ok(0);
+    }
+    let coded = coded_preds(alloc, main, preds, steps)?;
+    let mut count: u64 = 0;
+    for number in 0..main.parts() {
+        let part = main.part(number);
+        let stamps = stamps.part_stamps(number);
+        let more = count_part(alloc, viewer, coded.as_slice(), number, part, stamps)?;
+        count += u64::from(more);
+    }
+    Ok(count)
+}
+
+/// How many of the part's rows are seen and meet each comparison.
+fn count_part(
+    alloc: Global,
+    viewer: &Viewer<'_>,
+    coded: &[CodedPred],
+    number: u8,
+    part: &Part,
+    stamps: &PartStamps,
+) -> Result<u32, AllocError>
+    requires stamped { length stamps.now ≡ length part.now.rows }
+    requires columns { All (λ c. c.column < length part.now.before) coded.now }
+    ensures { let held = held_places coded.now part.now in
+        IfOk result (λ count. count
+        ≡ length (seen_at viewer.now number part.now.rows stamps.now held)) }
+{
+    let seen = joint_sight(viewer, stamps);
+    if let Some(false) = seen {
+        return Ok(0);
+    }
+    let probe = PartProbe {
+        viewer,
+        coded,
+        number,
+        part,
+        stamps,
+        seen,
+    };
+    if coded.is_empty() {
+        return Ok(probe.count_all());
+    }
+    if probe.is_out() {
+        return Ok(0);
+    }
+    let mask = probe.held(alloc)?;
+    Ok(probe.count_standing(&mask))
+}
+
+impl PartProbe<'_> {
+    /// How many rows are seen.
+    fn count_all(&self) -> u32
+        ensures { let p = self.now in let rows = p.part.now.rows in
+            result ≡ length (seen_at p.viewer.now p.number rows p.stamps.now (all_places rows)) }
+    {
+        match self.seen {
+            Some(seen) => { if seen { self.part.len() } else { 0 } }
+            None => self.count_each(),
+        }
+    }
+
+    /// How many rows are seen, each looked at.
+    fn count_each(&self) -> u32
+        ensures { let p = self.now in let rows = p.part.now.rows in
+            result ≡ length (seen_at p.viewer.now p.number rows p.stamps.now (all_places rows)) }
+    {
+        let mut count = 0;
+        for i in 0..self.part.len() {
+            if self.sees(i) {
+                count += 1;
+            }
+        }
+        count
+    }
+
+    /// How many of the rows at the places that stand in a mask are seen.
+    fn count_standing(&self, mask: &Mask) -> u32
+        requires { length mask.now ≡ length self.now.part.now.rows }
+        ensures { let p = self.now in result
+            ≡ length (seen_at p.viewer.now p.number p.part.now.rows p.stamps.now (standing mask.now)) }
+    {
+        match self.seen {
+            Some(seen) => { if seen { mask.count() } else { 0 } }
+            None => self.count_each_standing(mask),
+        }
+    }
+
+    /// The same, each row looked at.
+    fn count_each_standing(&self, mask: &Mask) -> u32
+        requires { length mask.now ≡ length self.now.part.now.rows }
+        ensures { let p = self.now in result
+            ≡ length (seen_at p.viewer.now p.number p.part.now.rows p.stamps.now (standing mask.now)) }
+    {
+        let mut count = 0;
+        let mut from = 0;
+        while from < mask.len() {
+            let Some(i) = mask.next(from) else {
+                return count;
+            };
+            if self.sees(i) {
+                count += 1;
+            }
+            from = i + 1;
+        }
+        count
+    }
+}
