@@ -9,6 +9,7 @@ use crate::query::{column_values, found, groups, select};
 use crate::values::{greatest, least, total};
 use std::alloc::{AllocError, Global};
 use ut_plain::{Pred, Query, Reply, Stored, Table, columns_in, value_cmp, value_in};
+use ut_rows::Rows;
 use ut_value::{Column, Duplicate, Name, Seq, Value};
 
 fn agree(left: &[Column], l: &[Value], c: &[u8], right: &[Column], r: &[Value], d: &[u8]) -> bool
@@ -113,7 +114,7 @@ fn join_told(
         d.as_slice(),
         rights.as_slice(),
     )?;
-    Ok(Reply::Rows(tuples))
+    Ok(Reply::Rows(Rows::of_lists(tuples)))
 }
 
 fn select_told(
@@ -129,7 +130,7 @@ fn select_told(
     let columns = columns_in(tables, name.as_slice());
     let hits = found(alloc, tables, rows, name.as_slice(), preds)?;
     let tuples = select(alloc, columns, names, hits.as_slice())?;
-    Ok(Reply::Rows(tuples))
+    Ok(Reply::Rows(Rows::of_lists(tuples)))
 }
 
 fn count_told(

@@ -1,9 +1,8 @@
 -- What the codes of a column tell of rows that fit: their numbers, and the places of their sums.
-use Rattle.std.proofs.Common.{ℕ, zero, suc, ◌+◌, ◌<◌, ◌≡◌, List, [], ◌∷◌, ◌++◌, length, map, get_or, set, Option, Some, IfSome, IsTrue, refl, sym, ap, ◌∙◌, subst, arith, ℤ, pos, negsuc, to_z, of_z, ltb-true, ◌^◌, ◌⊎◌, inl, inr}
+use Rattle.std.proofs.Common.{ℕ, zero, suc, ◌+◌, ◌<◌, ◌≡◌, List, [], ◌∷◌, ◌++◌, length, map, get_or, set, Option, Some, IfSome, IsTrue, refl, sym, ap, ◌∙◌, subst, arith, ℤ, pos, negsuc, to_z, of_z, ltb-true, ◌^◌}
 use Rattle.std.specs.Prelude.{slice_get, unwrap_or}
 use Rattle.std.specs.Option.{option_map}
-use Rattle.std.proofs.lemmas.Bool.{cases_eq}
-use Rattle.std.proofs.lemmas.List.{length-append, length-map, map-append, get_or-set_same, get_or-set_other}
+use Rattle.std.proofs.lemmas.List.{length-append, length-map, map-append}
 use Rattle.std.proofs.lemmas.Option.{same_Some, slice_get-map}
 use Rattle.ut_value.specs.declared.value.Value.{Value}
 use Rattle.ut_value.specs.declared.value.Value.TheVariants.{Int, Text}
@@ -28,6 +27,8 @@ use Rattle.ut_ops.specs.Fit.{is_row, cell}
 use Rattle.ut_ops.specs.Noted.{IsNoted}
 use Rattle.ut_ops.specs.Gathered.{key_in, more_at, AreMarks, Adds}
 use Rattle.ut_ops.proofs.CellLemmas.{is_cell}
+use Rattle.ut_ops.specs.Seen.{AreSeen}
+use Rattle.ut_ops.proofs.SeenLemmas.{seen-none, seen-more, seen-set}
 use Rattle.ut_ops.proofs.GatherLemmas.{length-more, keys-more, IsNumber, sums-push, tallies-more, few-push, few-more}
 
 -- what a code of a row tells
@@ -87,46 +88,24 @@ noted-none s c note mark = record { number = λ code e. absurd (omega (arith, ma
 
 -- ---- marks
 
-left : {X : Type 0} (xs ys : List X) (n : ℕ) → n < length xs → slice_get (xs ++ ys) n ≡ slice_get xs n
-left [] ys n lt = absurd (omega arith)
-left (x ∷ xs) ys zero lt = refl
-left (x ∷ xs) ys (suc n) lt = left xs ys n (omega (arith, lt))
+-- the keys of sums, and marks for them
+as_seen : (s : Staged) (c : ℕ) (marks : List ℕ) (gs : List group.Group) → AreMarks s c marks gs → AreSeen s c (map key_in gs) marks
+as_seen s c marks gs h = record { each = λ code place e. let r = h.each code place e in (omega (arith, r.0, length-map gs key_in), r.1) }
 
-last : {X : Type 0} (xs : List X) (x : X) → slice_get (xs ++ x ∷ []) (length xs) ≡ Some x
-last [] x = refl
-last (y ∷ xs) x = last xs x
-
--- no mark, and one more
-pub zeros-push : (xs : List ℕ) → ((code : ℕ) → get_or xs code 0 ≡ 0) → (code : ℕ) → get_or (xs ++ 0 ∷ []) code 0 ≡ 0
-zeros-push [] h zero = refl
-zeros-push [] h (suc code) = refl
-zeros-push (x ∷ xs) h zero = h 0
-zeros-push (x ∷ xs) h (suc code) = zeros-push xs (λ d. h (suc d)) code
+as_marks : (s : Staged) (c : ℕ) (marks : List ℕ) (gs : List group.Group) → AreSeen s c (map key_in gs) marks → AreMarks s c marks gs
+as_marks s c marks gs h = record { each = λ code place e. let r = h.each code place e in (omega (arith, r.0, length-map gs key_in), r.1) }
 
 pub marks-none : (s : Staged) (c : ℕ) (marks : List ℕ) → ((code : ℕ) → get_or marks code 0 ≡ 0) → AreMarks s c marks []
-marks-none s c marks h = record { each = λ code place e. absurd (omega (arith, h code, e)) }
+marks-none s c marks h = as_marks s c marks [] (seen-none s c [] marks h)
 
 pub marks-push : (s : Staged) (c : ℕ) (marks : List ℕ) (gs : List group.Group) (g : group.Group) → AreMarks s c marks gs → AreMarks s c marks (gs ++ g ∷ [])
-marks-push s c marks gs g h = record {
-  each = λ code place e.
-      let r = h.each code place e in (
-        omega (arith, r.0, length-append gs (g ∷ [])),
-        ap (λ ks. slice_get ks place) (map-append key_in gs (g ∷ [])) ∙ left (map key_in gs) (g.key ∷ []) place (omega (arith, r.0, length-map gs key_in)) ∙ r.1,
-      );
-}
+marks-push s c marks gs g h = as_marks s c marks (gs ++ g ∷ []) (seen-more s c (map key_in gs) (map key_in (gs ++ g ∷ [])) marks (record { more = g.key ∷ []; is = map-append key_in gs (g ∷ []) }) (as_seen s c marks gs h))
 
 pub marks-set : (s : Staged) (c : ℕ) (marks : List ℕ) (gs : List group.Group) (g : group.Group) (code m : ℕ) → AreMarks s c marks gs → code < length marks → slice_get (coded_values s c) code ≡ Some g.key → m ≡ length gs + 1
     → AreMarks s c (set marks code m) (gs ++ g ∷ [])
-marks-set s c marks gs g code m h lt at is = record { each = λ k place e. by k place e (cases_eq k code) }
-  where
-    by : (k place : ℕ) → get_or (set marks code m) k 0 ≡ suc place → (k ≡ code) ⊎ (k ≡ code → ⊥)
-        → (place < length (gs ++ g ∷ [])) × (slice_get (map key_in (gs ++ g ∷ [])) place ≡ slice_get (coded_values s c) k)
-    by k place e (inl same) =
-        let here : place ≡ length (map key_in gs) = omega (arith, is, sym (ap (λ n. get_or (set marks code m) n 0) same ∙ get_or-set_same marks code m 0 lt) ∙ e, length-map gs key_in) in (
-          omega (arith, here, length-append gs (g ∷ []), length-map gs key_in),
-          ap (slice_get (map key_in (gs ++ g ∷ []))) here ∙ ap (λ ks. slice_get ks (length (map key_in gs))) (map-append key_in gs (g ∷ [])) ∙ last (map key_in gs) g.key ∙ sym (ap (slice_get (coded_values s c)) same ∙ at),
-        )
-    by k place e (inr other) = (marks-push s c marks gs g h).each k place (sym (get_or-set_other marks code k m 0 other) ∙ e)
+marks-set s c marks gs g code m h lt at is =
+    as_marks s c (set marks code m) (gs ++ g ∷ [])
+    (subst (λ vs. AreSeen s c vs (set marks code m)) (sym (map-append key_in gs (g ∷ []))) (seen-set s c (map key_in gs) g.key marks code m (as_seen s c marks gs h) lt at (omega (arith, is, length-map gs key_in))))
 
 pub marks-more : (s : Staged) (c : ℕ) (marks : List ℕ) (gs : List group.Group) (i : ℕ) (x : ℤ) → AreMarks s c marks gs → AreMarks s c marks (more_at i x gs)
 marks-more s c marks gs i x h = record {

@@ -1,7 +1,7 @@
 -- The values of a column, of rows that were found.
 use Rattle.std.proofs.Common.{ℕ, zero, suc, ◌+◌, ◌<◌, ◌≡◌, Bool, true, false, not, cond, if◌then◌else◌, List, [], ◌∷◌, length, map, drop, get_or, Option, None, Some, refl, sym, ap, ◌∙◌, arith, slice_get, unwrap_or, IsTrue, true≢false, lt-ltb}
 use Rattle.std.specs.Option.{option_map, option_and_then}
-use Rattle.std.specs.List.{filter_map, find, position_or_len, All, cons_option}
+use Rattle.std.specs.List.{list_all, filter_map, find, position_or_len, All, cons_option}
 use Rattle.std.specs.declared.cmp.Ordering.{Ordering}
 use Rattle.ut_value.specs.declared.value.Value.{Value}
 use Rattle.ut_value.specs.declared.value.Kind.{Kind}
@@ -10,7 +10,7 @@ use Rattle.ut_value.specs.declared.value.Column.{Column}
 use Rattle.ut_value.specs.KeyOrder.{value_cmp}
 use Rattle.ut_value.specs.Text.{same_bytes}
 use Rattle.ut_plain.specs.declared.table.Stored.{Stored}
-use Rattle.ut_plain.specs.Tables.{column_of}
+use Rattle.ut_plain.specs.Tables.{column_of, fits_columns}
 use Rattle.ut_plain.specs.Kinds.{kind_in, is_int}
 use Rattle.ut_plain.specs.Condition.{value_in}
 use Rattle.ut_plain.specs.Query.{column_values, picked, best_from}
@@ -21,6 +21,8 @@ use Rattle.ut_exact.specs.Scan.{stored_in}
 use Rattle.ut_staged.specs.Staged.{Staged, row_at}
 use Rattle.ut_table.specs.Finds.{rows_at}
 use Rattle.ut_ops.specs.Fit.{Fit, is_row, values_in, values_at, cell}
+use Rattle.ut_value.specs.KeyBytes.{is_value, is_of_kind}
+use Rattle.ut_plain.proofs.BoolLemmas.{and_left, and_right}
 use Rattle.ut_ops.proofs.CellLemmas.{is_cell}
 
 -- ---- rows that fit
@@ -34,6 +36,22 @@ fit_rest s f fs fit = record { each = λ k d h. let more : suc k < length (f ∷
 -- the row at a place of the list
 pub fit_at : (s : Staged) (fs : List Found) (k : ℕ) (f : Found) → Fit s fs → k < length fs → IsTrue (is_row s.columns (row_at s (get_or fs k f).place))
 fit_at s fs k f fit h = fit.each k f h
+
+-- ---- whole rows
+
+fits-length : (columns : List Column) (values : List Value) → IsTrue (fits_columns columns values) → length values ≡ length columns
+fits-length [] [] h = refl
+fits-length [] (v ∷ vs) h = absurd (true≢false (sym h))
+fits-length (c ∷ cs) [] h = absurd (true≢false (sym h))
+fits-length (c ∷ cs) (v ∷ vs) h = ap suc (fits-length cs vs (and_right (is_of_kind c.kind v) (fits_columns cs vs) h))
+
+-- a row that fits has a value for each column
+pub row-length : (s : Staged) (f : Found) → IsTrue (is_row s.columns (row_at s f.place)) → length (values_at s f) ≡ length s.columns
+row-length s f fit = by (row_at s f.place) fit
+  where
+    by : (o : Option StagedRow) → IsTrue (is_row s.columns o) → length (values_in o) ≡ length s.columns
+    by None h = absurd (true≢false (sym h))
+    by (Some row) h = fits-length s.columns row.values (and_left (fits_columns s.columns row.values) (list_all is_value row.values) h)
 
 -- ---- the place of a column
 

@@ -1,7 +1,8 @@
 -- The pairs of rows with equal values.
-use Rattle.std.proofs.Common.{◌≡◌, ℕ, zero, suc, ◌+◌, ◌<◌, Bool, true, false, cond, List, [], ◌∷◌, ◌++◌, length, map, filter, drop, get_or, Option, None, Some, refl, sym, ap, ◌∙◌, subst, arith, unwrap_or, IsTrue, slice_get}
-use Rattle.std.proofs.lemmas.List.{append_assoc, drop_more}
-use Rattle.std.specs.Option.{option_and_then}
+use Rattle.std.proofs.Common.{◌≡◌, ℕ, zero, suc, ◌+◌, ◌<◌, Bool, true, false, cond, List, [], ◌∷◌, ◌++◌, length, map, filter, drop, take, get_or, Option, None, Some, refl, sym, ap, ◌∙◌, subst, arith, unwrap_or, IsTrue, slice_get}
+use Rattle.std.proofs.lemmas.List.{take_more}
+use Rattle.std.proofs.lemmas.Option.{same_Some, slice_get-map, slice_get-get_or}
+use Rattle.std.specs.Option.{option_map, option_and_then}
 use Rattle.std.specs.List.{flat_map}
 use Rattle.std.specs.Ordering.{is_eq}
 use Rattle.std.specs.BTreeMap.{BTreeMap, get}
@@ -38,6 +39,38 @@ listed_more old mid new value hit hits out in_again is v =
         ∙ sym (ap (λ b. cond b (listed old v ++ hit ∷ []) (listed old v)) (eq_turned v value ∙ e))
     by false e = sym (ap (λ b. cond b (listed old v ++ hit ∷ []) (listed old v)) (eq_turned v value ∙ e))
 
+filter-push : {X : Type 0} (p : X → Bool) (xs : List X) (x : X) → filter p (xs ++ x ∷ []) ≡ filter p xs ++ cond (p x) (x ∷ []) []
+filter-push p [] x = refl
+filter-push p (y ∷ ys) x = by (p y) (filter-push p ys x)
+  where
+    by : (b : Bool) → filter p (ys ++ x ∷ []) ≡ filter p ys ++ cond (p x) (x ∷ []) [] → cond b (y ∷ filter p (ys ++ x ∷ [])) (filter p (ys ++ x ∷ [])) ≡ cond b (y ∷ filter p ys) (filter p ys) ++ cond (p x) (x ∷ []) []
+    by true more = λ i. y ∷ more i
+    by false more = more
+
+-- a row more under its value
+pub index-next : (s : Staged) (c : ℕ) (fs : List Found) (i : ℕ) (d : Found) (index new : BTreeMap Value (List Found)) (v : Value) → i < length fs → v ≡ cell s c (get_or fs i d) → IsIndex s c (take i fs) index
+    → ((w : Value) → listed new w ≡ cond (is_eq (value_cmp w v)) (listed index w ++ get_or fs i d ∷ []) (listed index w)) → IsIndex s c (take (i + 1) fs) new
+index-next s c fs i d index new v lt is old more = record {
+  each = λ w.
+      more w ∙ by (is_eq (value_cmp w v)) (listed index w)
+      ∙ (λ k. old.each w k ++ cond (is_eq (value_cmp w (is k))) (get_or fs i d ∷ []) [])
+      ∙ sym (filter-push (λ (f : Found). is_eq (value_cmp w (cell s c f))) (take i fs) (get_or fs i d))
+      ∙ ap (with_cell s c w) (sym (take_more fs i d lt));
+}
+  where
+    nothing : {X : Type 0} (xs : List X) → xs ≡ xs ++ []
+    nothing [] = refl
+    nothing (x ∷ xs) = λ k. x ∷ nothing xs k
+
+    by : (b : Bool) (gs : List Found) → cond b (gs ++ get_or fs i d ∷ []) gs ≡ gs ++ cond b (get_or fs i d ∷ []) []
+    by true gs = refl
+    by false gs = nothing gs
+
+-- what was read for a row
+pub value-read : (s : Staged) (c : ℕ) (fs : List Found) (i : ℕ) (d : Found) (keys : List Value) (v : Value) → i < length fs → keys ≡ map (cell s c) fs → slice_get keys i ≡ Some v → v ≡ cell s c (get_or fs i d)
+value-read s c fs i d keys v lt is at =
+    same_Some v (cell s c (get_or fs i d)) (sym at ∙ ap (λ ks. slice_get ks i) is ∙ slice_get-map (cell s c) fs i ∙ ap (option_map (cell s c)) (slice_get-get_or fs i d lt))
+
 -- some of the rows that fit
 fit_filter : (s : Staged) (test : Found → Bool) (fs : List Found) → Fit s fs → Fit s (filter test fs)
 fit_filter s test [] fit = fit
@@ -64,27 +97,8 @@ flat_step f (y ∷ ys) (suc i) d done all h k =
     let next : suc i + 1 ≡ suc (i + 1) = omega arith in
     ap (λ j. (done ++ f (get_or ys i d)) ++ flat_map f (drop j (y ∷ ys))) next ∙ flat_step f ys i d done all (omega arith) k
 
-flat_more : {X A : Type 0} (f : X → List A) (xs : List X) (i : ℕ) (d : X) (done more now all : List A) → i < length xs → more ≡ f (get_or xs i d) → now ≡ done ++ more → done ++ flat_map f (drop i xs) ≡ all → now ++ flat_map f (drop (i + 1) xs) ≡ all
+pub flat_more : {X A : Type 0} (f : X → List A) (xs : List X) (i : ℕ) (d : X) (done more now all : List A) → i < length xs → more ≡ f (get_or xs i d) → now ≡ done ++ more → done ++ flat_map f (drop i xs) ≡ all → now ++ flat_map f (drop (i + 1) xs) ≡ all
 flat_more f xs i d done more now all h m n k = ap (λ ys. ys ++ flat_map f (drop (i + 1) xs)) (n ∙ ap (λ ys. done ++ ys) m) ∙ flat_step f xs i d done all h k
-
--- the pairs of one left row more
-pub pairs_more : (l r : Staged) (c : ℕ) (index : BTreeMap Value (List Found)) (fs : List Found) (i : ℕ) (d : Found) (done now all : List (List Value)) (others : List Found) → i < length fs → others ≡ listed index (cell l c (get_or fs i d))
-    → now ≡ done ++ beside (values_at l (get_or fs i d)) r others → done ++ flat_map (λ f. beside (values_at l f) r (listed index (cell l c f))) (drop i fs) ≡ all
-    → now ++ flat_map (λ f. beside (values_at l f) r (listed index (cell l c f))) (drop (i + 1) fs) ≡ all
-pairs_more l r c index fs i d done now all others lt is new before =
-    flat_more (λ f. beside (values_at l f) r (listed index (cell l c f))) fs i d done (beside (values_at l (get_or fs i d)) r others) now all lt (ap (beside (values_at l (get_or fs i d)) r) is) new before
-
--- a row behind another
-pub two_rows : {X : Type 0} (none one two a b : List X) → none ≡ [] → one ≡ none ++ a → two ≡ one ++ b → two ≡ a ++ b
-two_rows none one two a b e f g = g ∙ ap (λ xs. xs ++ b) (f ∙ ap (λ xs. xs ++ a) e)
-
--- the same beside one row
-pub beside_more : (row : List Value) (s : Staged) (fs : List Found) (i : ℕ) (d : Found) (done now all : List (List Value)) (v : List Value) → i < length fs → v ≡ row ++ values_at s (get_or fs i d) → now ≡ done ++ v ∷ [] → done ++ beside row s (drop i fs) ≡ all
-    → now ++ beside row s (drop (i + 1) fs) ≡ all
-beside_more row s fs i d done now all v lt is new before =
-    ap (λ rs. rs ++ beside row s (drop (i + 1) fs)) (new ∙ ap (λ w. done ++ w ∷ []) is)
-    ∙ append_assoc done ((row ++ values_at s (get_or fs i d)) ∷ []) (beside row s (drop (i + 1) fs))
-    ∙ ap (λ gs. done ++ beside row s gs) (sym (drop_more fs i d lt)) ∙ before
 
 -- ---- all pairs
 

@@ -5,4 +5,6 @@ pub mod TallyLemmas
 pub mod JoinLemmas
 pub mod GatherLemmas
 pub mod CodeLemmas
-pub mod CopyLemmas
+pub mod SeenLemmas
+pub mod RowLemmas
+pub mod PairLemmas

@@ -1,5 +1,5 @@
 -- The rows of a table by their values in a column.
-use Rattle.std.specs.Prelude.{ℕ, ◌≡◌, List, [], unwrap_or, ◌++◌}
+use Rattle.std.specs.Prelude.{ℕ, ◌≡◌, List, [], ◌∷◌, unwrap_or, ◌++◌}
 use Rattle.std.specs.List.{filter}
 use Rattle.std.specs.Prelude.{map}
 use Rattle.std.specs.Ordering.{is_eq}
@@ -29,3 +29,9 @@ pub record AreFit (s : Staged) (index : BTreeMap Value (List Found)) : Type 0 wh
 -- a row's values, and behind them those of each of these
 abbrev pub beside : List Value → Staged → List Found → List (List Value)
 beside row s found = map (λ (f : Found). row ++ values_at s f) found
+
+-- pair by pair a left row's values, and behind them those of the right one
+abbrev pub beside_each : Staged → List Found → Staged → List Found → List (List Value)
+beside_each l [] r gs = []
+beside_each l (f ∷ fs) r [] = []
+beside_each l (f ∷ fs) r (g ∷ gs) = (values_at l f ++ values_at r g) ∷ beside_each l fs r gs

@@ -4,4 +4,4 @@ pub mod Tally
 pub mod Index
 pub mod Noted
 pub mod Gathered
-pub mod Copied
+pub mod Seen

@@ -1,6 +1,6 @@
 //! The values of the columns that are named.
-ghost use Rattle.std.specs.Prelude.{◌≡◌, ◌<◌, ℕ, length, map, IfOk, IsTrue, All};
-ghost use Rattle.std.specs.List.{filter_map};
+ghost use Rattle.std.specs.Prelude.{◌≡◌, ◌<◌, ◌++◌, ℕ, length, map, IfOk, OnOk, IsTrue, All};
+ghost use Rattle.std.specs.List.{filter_map, range_with_len};
 ghost use Rattle.ut_plain.specs.Tables.{column_of};
 ghost use Rattle.ut_plain.specs.Query.{picked};
 ghost use Rattle.ut_staged.specs.Staged.{row_at};
@@ -8,11 +8,16 @@ ghost use Rattle.ut_table.specs.Finds.{rows_at};
 ghost use Rattle.ut_ops.specs.Fit.{is_row, Fit, cell, values_at};
 
 use crate::cell::{value_at, values_at};
+use crate::gather::cells;
 use std::alloc::{AllocError, Global};
 use ut_plain::column_of;
+use ut_rows::{Cells, Rows};
 use ut_scan::Found;
 use ut_table::Table;
 use ut_value::{Column, Name, Seq, Value};
+
+/// Fewer rows are read one by one, more of them column by column.
+const FEW: usize = 64;
 
 /// The columns that are named, or all, of each row.
 pub fn select(
@@ -20,7 +25,7 @@ pub fn select(
     table: &Table,
     names: &Option<Seq<Name>>,
     hits: &[Found],
-) -> Result<Seq<Seq<Value>>, AllocError>
+) -> Result<Rows, AllocError>
     requires { Fit table.now.stages hits.now }
     ensures { IfOk result (λ rows. (n : ℕ) → rows ≡ map (λ e. picked table.now.stages.columns names.now e.1.values) (rows_at n table.now.stages hits.now)) }
 {
@@ -37,16 +42,32 @@ pub fn select(
     }
 }
 
-fn all_columns(alloc: Global, table: &Table, hits: &[Found]) -> Result<Seq<Seq<Value>>, AllocError>
+fn all_columns(alloc: Global, table: &Table, hits: &[Found]) -> Result<Rows, AllocError>
     requires { Fit table.now.stages hits.now }
     ensures { IfOk result (λ rows. rows ≡ map (values_at table.now.stages) hits.now) }
 {
+    if FEW < hits.len() {
+        let places = all_places(alloc, table.columns().len())?;
+        let rows = by_columns(alloc, table, places.as_slice(), hits)?;
+        return Ok(rows);
+    }
     let mut rows = Seq::new(alloc);
     for hit in hits {
         let row = values_at(alloc, table, *hit)?;
         rows.push(row)?;
     }
-    Ok(rows)
+    Ok(Rows::of_lists(rows))
+}
+
+/// The places of so many columns.
+pub(crate) fn all_places(alloc: Global, width: usize) -> Result<Vec<usize>, AllocError>
+    ensures { IfOk result (λ places. places.items ≡ range_with_len 0 width) }
+{
+    let mut places = Vec::with_capacity(alloc, width)?;
+    for place in 0..width {
+        places.push(place)?;
+    }
+    Ok(places)
 }
 
 /// Where the columns of these names stand.
@@ -68,17 +89,20 @@ fn some_columns(
     table: &Table,
     places: &[usize],
     hits: &[Found],
-) -> Result<Seq<Seq<Value>>, AllocError>
+) -> Result<Rows, AllocError>
     requires fit { Fit table.now.stages hits.now }
     requires places { All (λ place. place < length table.now.stages.columns) places.now }
     ensures { IfOk result (λ rows. rows ≡ map (λ f. map (λ place. cell table.now.stages place f) places.now) hits.now) }
 {
+    if FEW < hits.len() {
+        return by_columns(alloc, table, places, hits);
+    }
     let mut rows = Seq::new(alloc);
     for hit in hits {
         let row = picked_row(alloc, table, places, *hit)?;
         rows.push(row)?;
     }
-    Ok(rows)
+    Ok(Rows::of_lists(rows))
 }
 
 fn picked_row(
@@ -97,4 +121,38 @@ fn picked_row(
         values.push(value)?;
     }
     Ok(values)
+}
+
+fn by_columns(
+    alloc: Global,
+    table: &Table,
+    places: &[usize],
+    hits: &[Found],
+) -> Result<Rows, AllocError>
+    requires fit { Fit table.now.stages hits.now }
+    requires places { All (λ place. place < length table.now.stages.columns) places.now }
+    ensures { IfOk result (λ rows. rows ≡ map (λ f. map (λ place. cell table.now.stages place f) places.now) hits.now) }
+{
+    let mut columns = Vec::with_capacity(alloc, places.len())?;
+    add_columns(alloc, table, places, hits, &mut columns)?;
+    Ok(Rows::of_columns(hits.len(), columns))
+}
+
+/// These columns of a table, behind others.
+pub(crate) fn add_columns(
+    alloc: Global,
+    table: &Table,
+    places: &[usize],
+    hits: &[Found],
+    columns: &mut Vec<Cells>,
+) -> Result<(), AllocError>
+    requires fit { Fit table.now.stages hits.now }
+    requires places { All (λ place. place < length table.now.stages.columns) places.now }
+    ensures { OnOk result (columns.new.items ≡ columns.old.items ++ map (λ place. map (cell table.now.stages place) hits.now) places.now) }
+{
+    for place in places {
+        let column = cells(alloc, table, *place, hits)?;
+        columns.push(column)?;
+    }
+    Ok(())
 }

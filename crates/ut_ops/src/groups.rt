@@ -11,6 +11,7 @@ ghost use Rattle.ut_ops.specs.Noted.{AreNoted};
 ghost use Rattle.ut_ops.specs.Gathered.{entry_in, more_at, AreFew, AreMarks, Adds};
 
 use crate::cell::value_at;
+use crate::gather::no_marks;
 use crate::numbers::{Noted, noted_number, notes};
 use crate::ranked::Ranked;
 use std::alloc::{AllocError, Global};
@@ -61,7 +62,7 @@ fn gather(
     ensures sums { IfOk result (λ gathered. tallies (map entry_in gathered.items) ≡ tallies (map (entry_of table.now.stages key sum) hits.now)) }
 {
     let mut noted = notes(alloc, table, sum, hits.len())?;
-    let mut marks = no_marks(alloc, table, key, hits.len())?;
+    let mut marks = marks_for(alloc, table, key, hits.len())?;
     let gathered = gather_by(alloc, table, key, sum, hits, &mut noted, &mut marks)?;
     Ok(gathered)
 }
@@ -94,7 +95,7 @@ fn gather_by(
 }
 
 /// A mark for each code of a column, where these are not more than the rows, and else none.
-fn no_marks(
+fn marks_for(
     alloc: Global,
     table: &Table,
     column: usize,
@@ -104,11 +105,7 @@ fn no_marks(
     ensures { IfOk result (λ marks. AreMarks table.now.stages column marks.items []) }
 {
     let codes = table.codes(column);
-    let n = if codes <= rows { codes } else { 0 };
-    let mut marks = Vec::with_capacity(alloc, n)?;
-    for _ in 0..n {
-        marks.push(0)?;
-    }
+    let marks = no_marks(alloc, if codes <= rows { codes } else { 0 })?;
     Ok(marks)
 }
 

@@ -1,24 +1,31 @@
 //! The pairs of rows of two tables with equal values.
-ghost use Rattle.std.specs.Prelude.{◌≡◌, ◌<◌, ◌++◌, ◌∷◌, [], ℕ, length, map, cond, IsTrue, IfOk, OnOk};
+ghost use Rattle.std.specs.Prelude.{◌≡◌, ◌<◌, ◌++◌, ◌∷◌, [], ℕ, length, map, cond, IfOk, OnOk};
 ghost use Rattle.std.specs.List.{flat_map};
 ghost use Rattle.std.specs.Ordering.{is_eq};
 ghost use Rattle.ut_value.specs.declared.value.Value.{Value};
 ghost use Rattle.ut_value.specs.KeyOrder.{value_cmp};
 ghost use Rattle.ut_plain.specs.Query.{joined};
-ghost use Rattle.ut_staged.specs.Staged.{row_at};
 ghost use Rattle.ut_table.specs.Finds.{rows_at};
-ghost use Rattle.ut_ops.specs.Fit.{is_row, Fit, cell, values_at};
-ghost use Rattle.ut_ops.specs.Copied.{AreCopied};
-ghost use Rattle.ut_ops.specs.Index.{listed, IsIndex, AreFit, beside};
+ghost use Rattle.ut_ops.specs.Fit.{Fit, cell};
+ghost use Rattle.ut_ops.specs.Index.{listed, IsIndex, beside_each};
 
-use crate::copies::{Copies, add_row, copied_value, room_for};
+use crate::columns::{add_columns, all_places};
+use crate::gather::cells;
 use crate::ranked::Ranked;
 use std::alloc::{AllocError, Global};
 use std::collections::BTreeMap;
 use ut_plain::column_of;
+use ut_rows::Rows;
 use ut_scan::Found;
 use ut_table::Table;
 use ut_value::{Seq, Value};
+
+/// The left and the right row of each pair.
+#[derive(Drop)]
+struct Pairs {
+    lefts: Vec<Found>,
+    rights: Vec<Found>,
+}
 
 /// The pairs of a left and a right row with equal values: by the left ones, and then by the right ones.
 pub fn join(
@@ -29,32 +36,25 @@ pub fn join(
     right: &Table,
     right_column: &[u8],
     right_hits: &[Found],
-) -> Result<Seq<Seq<Value>>, AllocError>
+) -> Result<Rows, AllocError>
     requires left_fit { Fit left.now.stages left_hits.now }
     requires right_fit { Fit right.now.stages right_hits.now }
     ensures { IfOk result (λ rows. (n m : ℕ) → rows ≡ joined left.now.stages.columns left_column.now (rows_at n left.now.stages left_hits.now) right.now.stages.columns right_column.now (rows_at m right.now.stages right_hits.now)) }
 {
     let Some(left_place) = column_of(left.columns(), left_column) else {
-        return Ok(Seq::new(alloc));
+        return Ok(Rows::of_lists(Seq::new(alloc)));
     };
     let Some(right_place) = column_of(right.columns(), right_column) else {
-        return Ok(Seq::new(alloc));
+        return Ok(Rows::of_lists(Seq::new(alloc)));
     };
     let index = index_of(alloc, right, right_place, right_hits)?;
-    let mut left_copies = room_for(alloc, left, left_hits.len())?;
-    let n = pairs_count(alloc, left, left_place, left_hits, &index, &mut left_copies)?;
-    let mut right_copies = room_for(alloc, right, n)?;
-    let mut rows = Seq::from_vec(Vec::with_capacity(alloc, n)?);
-    add_pairs(
+    let pairs = pairs_of(alloc, left, left_place, left_hits, &index)?;
+    let rows = beside_each(
         alloc,
         left,
-        left_place,
-        left_hits,
-        &mut left_copies,
+        pairs.lefts.as_slice(),
         right,
-        &index,
-        &mut right_copies,
-        &mut rows,
+        pairs.rights.as_slice(),
     )?;
     Ok(rows)
 }
@@ -70,11 +70,11 @@ fn index_of(
     requires fit { Fit table.now.stages hits.now }
     ensures { IfOk result (λ index. IsIndex table.now.stages column hits.now index) }
 {
-    let mut copies = room_for(alloc, table, hits.len())?;
+    let keys = cells(alloc, table, column, hits)?;
     let mut index = BTreeMap::new(alloc);
-    for hit in hits {
-        let value = copied_value(alloc, table, *hit, column, &mut copies)?;
-        list(alloc, &mut index, Ranked::new(value), *hit)?;
+    for row in 0..hits.len() {
+        let value = keys.value(row).copy(alloc)?;
+        list(alloc, &mut index, Ranked::new(value), hits[row])?;
     }
     Ok(index)
 }
@@ -104,89 +104,74 @@ fn partners<'a>(index: &'a BTreeMap<Ranked, Seq<Found>>, value: &Ranked) -> &'a 
     }
 }
 
-/// How many pairs there are.
-fn pairs_count(
+/// Each left row beside those that have its value.
+fn pairs_of(
     alloc: Global,
     left: &Table,
     column: usize,
     hits: &[Found],
     index: &BTreeMap<Ranked, Seq<Found>>,
-    copies: &mut Copies,
-) -> Result<usize, AllocError>
+) -> Result<Pairs, AllocError>
     requires column { column < length left.now.stages.columns }
     requires fit { Fit left.now.stages hits.now }
-    requires copied { AreCopied left.now.stages copies.old.notes.items }
-    ensures copied { OnOk result (AreCopied left.now.stages copies.new.notes.items) }
+    ensures lefts { IfOk result (λ pairs. pairs.lefts.items ≡ flat_map (λ f. map (λ g. f) (listed index.now (cell left.now.stages column f))) hits.now) }
+    ensures rights { IfOk result (λ pairs. pairs.rights.items ≡ flat_map (λ f. listed index.now (cell left.now.stages column f)) hits.now) }
 {
-    let mut n: usize = 0;
-    for hit in hits {
-        let value = Ranked::new(copied_value(alloc, left, *hit, column, copies)?);
-        n = n.saturating_add(partners(index, &value).len());
+    let keys = cells(alloc, left, column, hits)?;
+    let lefts = Vec::with_capacity(alloc, hits.len())?;
+    let rights = Vec::with_capacity(alloc, hits.len())?;
+    let mut pairs = Pairs { lefts, rights };
+    for row in 0..hits.len() {
+        pair(alloc, index, keys.value(row), hits[row], &mut pairs)?;
     }
-    Ok(n)
+    Ok(pairs)
 }
 
-/// The pairs of each left row, one left row after the other.
-fn add_pairs(
+/// A left row, which has this value, beside those that have it too.
+fn pair(
     alloc: Global,
-    left: &Table,
-    column: usize,
-    hits: &[Found],
-    left_copies: &mut Copies,
-    right: &Table,
     index: &BTreeMap<Ranked, Seq<Found>>,
-    right_copies: &mut Copies,
-    rows: &mut Seq<Seq<Value>>,
+    value: &Value,
+    hit: Found,
+    pairs: &mut Pairs,
 ) -> Result<(), AllocError>
-    requires column { column < length left.now.stages.columns }
-    requires left_fit { Fit left.now.stages hits.now }
-    requires right_fit { AreFit right.now.stages index.now }
-    requires left_copied { AreCopied left.now.stages left_copies.old.notes.items }
-    requires right_copied { AreCopied right.now.stages right_copies.old.notes.items }
-    ensures { OnOk result (rows.new ≡ rows.old ++ flat_map (λ f. beside (values_at left.now.stages f) right.now.stages (listed index.now (cell left.now.stages column f))) hits.now) }
+    ensures lefts { OnOk result (pairs.new.lefts.items ≡ pairs.old.lefts.items ++ map (λ g. hit) (listed index.now value.now)) }
+    ensures rights { OnOk result (pairs.new.rights.items ≡ pairs.old.rights.items ++ listed index.now value.now) }
 {
-    for hit in hits {
-        let value = Ranked::new(copied_value(alloc, left, *hit, column, left_copies)?);
-        let others = partners(index, &value);
-        add_beside(
-            alloc,
-            left,
-            *hit,
-            left_copies,
-            right,
-            others,
-            right_copies,
-            rows,
-        )?;
+    let value = Ranked::new(value.copy(alloc)?);
+    add_pairs(hit, partners(index, &value), pairs)
+}
+
+/// A left row beside each of these.
+fn add_pairs(hit: Found, others: &[Found], pairs: &mut Pairs) -> Result<(), AllocError>
+    ensures lefts { OnOk result (pairs.new.lefts.items ≡ pairs.old.lefts.items ++ map (λ g. hit) others.now) }
+    ensures rights { OnOk result (pairs.new.rights.items ≡ pairs.old.rights.items ++ others.now) }
+{
+    for other in others {
+        pairs.lefts.push(hit)?;
+        pairs.rights.push(*other)?;
     }
     Ok(())
 }
 
-/// A left row beside each of its partners.
-fn add_beside(
+/// Pair by pair the left row's values, and behind them those of the right one.
+fn beside_each(
     alloc: Global,
     left: &Table,
-    hit: Found,
-    left_copies: &mut Copies,
+    lefts: &[Found],
     right: &Table,
-    hits: &[Found],
-    right_copies: &mut Copies,
-    rows: &mut Seq<Seq<Value>>,
-) -> Result<(), AllocError>
-    requires left_fit { IsTrue (is_row left.now.stages.columns (row_at left.now.stages hit.place)) }
-    requires right_fit { Fit right.now.stages hits.now }
-    requires left_copied { AreCopied left.now.stages left_copies.old.notes.items }
-    requires right_copied { AreCopied right.now.stages right_copies.old.notes.items }
-    ensures rows { OnOk result (rows.new ≡ rows.old ++ beside (values_at left.now.stages hit) right.now.stages hits.now) }
-    ensures left_copied { OnOk result (AreCopied left.now.stages left_copies.new.notes.items) }
-    ensures right_copied { OnOk result (AreCopied right.now.stages right_copies.new.notes.items) }
+    rights: &[Found],
+) -> Result<Rows, AllocError>
+    requires left_fit { Fit left.now.stages lefts.now }
+    requires right_fit { Fit right.now.stages rights.now }
+    requires pairs { length rights.now ≡ length lefts.now }
+    ensures { IfOk result (λ rows. rows ≡ beside_each left.now.stages lefts.now right.now.stages rights.now) }
 {
-    let width = left.columns().len().saturating_add(right.columns().len());
-    for other in hits {
-        let mut row = Seq::from_vec(Vec::with_capacity(alloc, width)?);
-        add_row(alloc, left, hit, left_copies, &mut row)?;
-        add_row(alloc, right, *other, right_copies, &mut row)?;
-        rows.push(row)?;
-    }
-    Ok(())
+    let left_places = all_places(alloc, left.columns().len())?;
+    let right_places = all_places(alloc, right.columns().len())?;
+    let width = left_places.len().saturating_add(right_places.len());
+    let mut columns = Vec::with_capacity(alloc, width)?;
+    add_columns(alloc, left, left_places.as_slice(), lefts, &mut columns)?;
+    add_columns(alloc, right, right_places.as_slice(), rights, &mut columns)?;
+    Ok(Rows::of_columns(lefts.len(), columns))
 }

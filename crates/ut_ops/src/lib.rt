@@ -4,7 +4,7 @@
 mod best;
 mod cell;
 mod columns;
-mod copies;
+mod gather;
 mod groups;
 mod joins;
 mod numbers;

@@ -71,7 +71,7 @@ fn add_body(out: &mut Vec<u8>, reply: &Reply)
         Reply::Done => add(out, b"ok"),
         Reply::Committed(number) => add_named(out, b"ok commit ", *number),
         Reply::Changed { rows, commit } => add_changed(out, *rows, *commit),
-        Reply::Rows(tuples) => add_rows(out, tuples.as_slice()),
+        Reply::Rows(tuples) => add_rows(out, tuples),
         Reply::Groups(groups) => add_groups(out, groups.as_slice()),
         Reply::Count(number) => add_named(out, b"count ", *number),
         Reply::Sum(number) => {

@@ -1,9 +1,10 @@
 //! How many bytes the text of a reply may have.
-ghost use Rattle.std.specs.Prelude.{◌≡◌, ◌<◌, ◌+◌, ◌*◌, ◌^◌, SomeIff, length, sum_by};
+ghost use Rattle.std.specs.Prelude.{◌≡◌, ◌<◌, ◌+◌, ◌*◌, ◌^◌, [], SomeIff, length, get_or, sum_by};
 ghost use Rattle.ut_reply.specs.Texts.{reply_room, items_room, value_room, tuple_room, value_or_none_room};
 
 use ut_plain::{Group, Reply};
-use ut_value::{Seq, Value};
+use ut_rows::Rows;
+use ut_value::Value;
 
 /// The bytes of a reply without rows, groups, values and parts.
 const SMALL: usize = 96;
@@ -20,7 +21,7 @@ fn items_room(reply: &Reply) -> Option<usize>
     ensures { SomeIff result (items_room reply.now < 2 ^ 64) (items_room reply.now) }
 {
     match reply {
-        Reply::Rows(tuples) => tuples_room(tuples.as_slice()),
+        Reply::Rows(tuples) => tuples_room(tuples),
         Reply::Groups(groups) => groups_room(groups.as_slice()),
         Reply::Min(value) => value_or_none_room(value),
         Reply::Max(value) => value_or_none_room(value),
@@ -29,25 +30,28 @@ fn items_room(reply: &Reply) -> Option<usize>
     }
 }
 
-fn tuples_room(tuples: &[Seq<Value>]) -> Option<usize>
+fn tuples_room(rows: &Rows) -> Option<usize>
     ensures { SomeIff result
-        (sum_by (λ t. tuple_room t + 1) tuples.now < 2 ^ 64)
-        (sum_by (λ t. tuple_room t + 1) tuples.now) }
+        (sum_by (λ t. tuple_room t + 1) rows.now < 2 ^ 64)
+        (sum_by (λ t. tuple_room t + 1) rows.now) }
 {
     let mut room = 0usize;
-    for tuple in tuples {
-        let more = tuple_room(tuple.as_slice())?.checked_add(1)?;
+    for row in 0..rows.len() {
+        let more = tuple_room(rows, row)?.checked_add(1)?;
         room = room.checked_add(more)?;
     }
     Some(room)
 }
 
-fn tuple_room(values: &[Value]) -> Option<usize>
-    ensures { SomeIff result (tuple_room values.now < 2 ^ 64) (tuple_room values.now) }
+fn tuple_room(rows: &Rows, row: usize) -> Option<usize>
+    requires { row < length rows.now }
+    ensures { SomeIff result
+        (tuple_room (get_or rows.now row []) < 2 ^ 64)
+        (tuple_room (get_or rows.now row [])) }
 {
     let mut room = 0usize;
-    for value in values {
-        let more = value_room(value) + 1;
+    for column in 0..rows.width(row) {
+        let more = value_room(rows.value(row, column)) + 1;
         room = room.checked_add(more)?;
     }
     Some(room)

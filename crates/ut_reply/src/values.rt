@@ -1,23 +1,24 @@
 //! The texts of values, rows and groups, put where there is room for them.
-ghost use Rattle.std.specs.Prelude.{◌≡◌, ◌≤◌, ◌+◌, ◌*◌, ◌++◌, ◌∷◌, length, vec_len, vec_capacity, flat_map, sum_by, decimal};
-ghost use Rattle.ut_reply.specs.Texts.{quoted, value_text, more_text, tuple_text, rows_text, group_text, groups_text, value_room, tuple_room};
+ghost use Rattle.std.specs.Prelude.{◌≡◌, ◌<◌, ◌≤◌, ◌+◌, ◌*◌, ◌++◌, ◌∷◌, [], length, get_or, vec_len, vec_capacity, flat_map, sum_by, decimal};
+ghost use Rattle.ut_reply.specs.Texts.{quoted, value_text, tuple_text, rows_text, group_text, groups_text, value_room, tuple_room};
 
 use crate::numbers::{add, add_number};
 use ut_plain::Group;
-use ut_value::{Seq, Value};
+use ut_rows::Rows;
+use ut_value::Value;
 
 const QUOTE: u8 = b'\'';
 
 /// The number of rows, and each row on a line of its own.
-pub fn add_rows(out: &mut Vec<u8>, tuples: &[Seq<Value>])
-    requires room { vec_len out.old + (sum_by (λ t. tuple_room t + 1) tuples.now + 25) ≤ vec_capacity out.old }
-    ensures text { out.new.items ≡ out.old.items ++ rows_text tuples.now }
-    ensures len { vec_len out.new ≤ vec_len out.old + (sum_by (λ t. tuple_room t + 1) tuples.now + 25) }
+pub fn add_rows(out: &mut Vec<u8>, rows: &Rows)
+    requires room { vec_len out.old + (sum_by (λ t. tuple_room t + 1) rows.now + 25) ≤ vec_capacity out.old }
+    ensures text { out.new.items ≡ out.old.items ++ rows_text rows.now }
+    ensures len { vec_len out.new ≤ vec_len out.old + (sum_by (λ t. tuple_room t + 1) rows.now + 25) }
     ensures capacity { vec_capacity out.old ≤ vec_capacity out.new }
 {
     add(out, b"rows ");
-    add_number(out, tuples.len());
-    add_tuples(out, tuples);
+    add_number(out, rows.len());
+    add_tuples(out, rows);
 }
 
 /// The number of groups, and each group on a line of its own.
@@ -32,15 +33,15 @@ pub fn add_groups(out: &mut Vec<u8>, groups: &[Group])
     add_each_group(out, groups);
 }
 
-fn add_tuples(out: &mut Vec<u8>, tuples: &[Seq<Value>])
-    requires room { vec_len out.old + sum_by (λ t. tuple_room t + 1) tuples.now ≤ vec_capacity out.old }
-    ensures text { out.new.items ≡ out.old.items ++ flat_map (λ t. 10 ∷ tuple_text t) tuples.now }
-    ensures len { vec_len out.new ≤ vec_len out.old + sum_by (λ t. tuple_room t + 1) tuples.now }
+fn add_tuples(out: &mut Vec<u8>, rows: &Rows)
+    requires room { vec_len out.old + sum_by (λ t. tuple_room t + 1) rows.now ≤ vec_capacity out.old }
+    ensures text { out.new.items ≡ out.old.items ++ flat_map (λ t. 10 ∷ tuple_text t) rows.now }
+    ensures len { vec_len out.new ≤ vec_len out.old + sum_by (λ t. tuple_room t + 1) rows.now }
     ensures capacity { vec_capacity out.old ≤ vec_capacity out.new }
 {
-    for tuple in tuples {
+    for row in 0..rows.len() {
         add(out, b"\n");
-        add_tuple(out, tuple.as_slice());
+        add_tuple(out, rows, row);
     }
 }
 
@@ -67,31 +68,22 @@ fn add_group(out: &mut Vec<u8>, group: &Group)
     add_number(out, group.sum);
 }
 
-fn add_tuple(out: &mut Vec<u8>, values: &[Value])
-    requires room { vec_len out.old + tuple_room values.now ≤ vec_capacity out.old }
-    ensures text { out.new.items ≡ out.old.items ++ tuple_text values.now }
-    ensures len { vec_len out.new ≤ vec_len out.old + tuple_room values.now }
+/// The values of a row, those behind the first each behind a space.
+fn add_tuple(out: &mut Vec<u8>, rows: &Rows, row: usize)
+    requires within { row < length rows.now }
+    requires room { vec_len out.old + tuple_room (get_or rows.now row []) ≤ vec_capacity out.old }
+    ensures text { out.new.items ≡ out.old.items ++ tuple_text (get_or rows.now row []) }
+    ensures len { vec_len out.new ≤ vec_len out.old + tuple_room (get_or rows.now row []) }
     ensures capacity { vec_capacity out.old ≤ vec_capacity out.new }
 {
-    match values {
-        [] => {}
-        [first, others @ ..] => {
-            add_value(out, first);
-            add_more(out, others);
-        }
+    let width = rows.width(row);
+    if width == 0 {
+        return;
     }
-}
-
-/// The values behind the first, each behind a space.
-fn add_more(out: &mut Vec<u8>, values: &[Value])
-    requires room { vec_len out.old + tuple_room values.now ≤ vec_capacity out.old }
-    ensures text { out.new.items ≡ out.old.items ++ more_text values.now }
-    ensures len { vec_len out.new ≤ vec_len out.old + tuple_room values.now }
-    ensures capacity { vec_capacity out.old ≤ vec_capacity out.new }
-{
-    for value in values {
+    add_value(out, rows.value(row, 0));
+    for column in 1..width {
         add(out, b" ");
-        add_value(out, value);
+        add_value(out, rows.value(row, column));
     }
 }
 

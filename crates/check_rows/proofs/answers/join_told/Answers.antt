@@ -11,4 +11,4 @@ returns c =
     let right = c.columns_in-right_columns.ensures ∙ ap (columns_in c.args.tables.now) c.as_slice-2.ensures.bytes in
     let lefts = c.as_slice-6.ensures.value ∙ (c.in_ok-lefts.ensures ∙ ap (λ n. found c.args.tables.now c.args.rows.now n []) c.as_slice-3.ensures.bytes) in
     let rights = c.as_slice-8.ensures.value ∙ (c.in_ok-rights.ensures ∙ ap (λ n. found c.args.tables.now c.args.rows.now n []) c.as_slice-4.ensures.bytes) in
-    ap replies.Rows (c.in_ok-tuples.ensures ∙ (λ i. joined (left i) (c.as_slice-5.ensures.bytes i) (lefts i) (right i) (c.as_slice-7.ensures.bytes i) (rights i)))
+    ap replies.Rows (c.of_lists.ensures ∙ c.in_ok-tuples.ensures ∙ (λ i. joined (left i) (c.as_slice-5.ensures.bytes i) (lefts i) (right i) (c.as_slice-7.ensures.bytes i) (rights i)))

@@ -6,7 +6,7 @@ use Rattle.ut_reply.proofs.room.tuples_room.Goals as goal
 
 pub returns : goal.returns
 returns c =
-    let xs = c.args.tuples.now in
-    let fits : c.loop-tuple.room < 2 ^ 64 = c.loop-tuple.invariant.fits in
-    let is : c.loop-tuple.room ≡ sum_by (λ t. tuple_room t + 1) xs = sum_whole (λ t. tuple_room t + 1) xs c.loop-tuple.tuple-index c.loop-tuple.room (omega arith) c.loop-tuple.invariant.sum in
+    let xs = c.args.rows.now in
+    let fits : c.loop-row.room < 2 ^ 64 = c.loop-row.invariant.fits in
+    let is : c.loop-row.room ≡ sum_by (λ t. tuple_room t + 1) xs = sum_whole (λ t. tuple_room t + 1) xs c.loop-row.row c.loop-row.room (omega arith) c.loop-row.invariant.sum in
     (subst (λ (n : ℕ). n < 2 ^ 64) is fits, is)

@@ -1,0 +1,10 @@
+//! The rows of an answer, which may share the values of a column.
+#![tactic(auto)]
+
+mod cells;
+mod rows;
+#[cfg(test)]
+mod tests;
+
+pub use cells::Cells;
+pub use rows::Rows;
