@@ -9,23 +9,23 @@ ghost use Rattle.ut_capture.specs.Live.{live_parts};
 use std::alloc::{AllocError, Global};
 use std::sync::Arc;
 use ut_savepoint::CapturedPart;
-use ut_scan::Stages;
-use ut_stamps::{Fates, Stamp, sees};
+use ut_scan::{PartStamps, Stages};
+use ut_stamps::{Fates, sees};
 use ut_table::Table;
 use ut_value::Seq;
 
-/// Which of these rows are live.
+/// Which rows of a part are live.
 fn live_marks(
     alloc: Global,
     fates: &Fates,
     entries: u32,
-    stamps: &[Stamp],
+    stamps: &PartStamps,
 ) -> Result<Seq<bool>, AllocError>
     ensures { IfOk result (λ marks. marks ≡ map (sees fates.now entries None) stamps.now) }
 {
     let mut marks = Vec::with_capacity(alloc, stamps.len())?;
-    for stamp in stamps {
-        marks.push(sees(fates, stamp, entries, None))?;
+    for i in 0..stamps.len() {
+        marks.push(sees(fates, &stamps.get(i), entries, None))?;
     }
     Ok(Seq::from_vec(marks))
 }

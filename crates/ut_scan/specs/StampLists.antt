@@ -1,5 +1,5 @@
 -- The stamps of a table's rows: for each stage a list, with a stamp at the place of each row.
-use Rattle.std.specs.Prelude.{◌≡◌, ℕ, ◌+◌, ◌<◌, ◌≤◌, List, [], ◌∷◌, ◌++◌, length, take, drop, get_or, slice_set, Option, None, option_map, unwrap_or}
+use Rattle.std.specs.Prelude.{◌≡◌, ℕ, ◌+◌, ◌<◌, ◌≤◌, List, [], ◌∷◌, ◌++◌, length, take, drop, replicate, get_or, slice_set, Option, Some, None, option_map, unwrap_or}
 use Rattle.ut_stamps.specs.declared.visibility.Stamp.{Stamp}
 use Rattle.ut_stamps.specs.declared.place.Place.{Place}
 use Rattle.ut_stamps.specs.declared.place.Place.TheVariants.{L1, L2, Closed, Main}
@@ -65,3 +65,13 @@ pub record Moves (old new : StampLists) (n : ℕ) : Type 0 where
   pub l2 : new.l2.items ≡ old.l2.items ++ take n old.l1.items
   pub l1_room : old.l1.room ≤ new.l1.room
   pub l2_room : new.l2.room + n ≡ old.l2.room
+
+-- the stamps of so many rows that are held: one for all of them, or a list
+abbrev pub held_stamps : Option Stamp → ℕ → List Stamp → List Stamp
+held_stamps (Some stamp) n list = replicate n stamp
+held_stamps None n list = list
+
+-- where one stamp is held for all rows, no list is written, and there is room for it
+abbrev pub IsHeld : Option Stamp → ℕ → List Stamp → ℕ → Type 0
+IsHeld (Some stamp) n list room = (list ≡ []) × (n ≤ room)
+IsHeld None n list room = length list ≡ n

@@ -16,6 +16,7 @@ mod stamp_table;
 mod table;
 
 pub use counting::count;
+pub use part_stamps::PartStamps;
 pub use place::{ColumnPred, Found, Place};
 pub use stages::Stages;
 pub use stamp_table::StampTable;

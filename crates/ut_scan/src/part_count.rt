@@ -40,7 +40,7 @@ pub fn count_parts<L: Ledger>(
     let mut count: u64 = 0;
     for number in 0..main.parts() {
         let part = main.part(number);
-        let stamps = stamps.part_stamps(number);
+        let stamps = stamps.part(number);
         let more = count_part(alloc, viewer, coded.as_slice(), number, part, stamps)?;
         count += u64::from(more);
     }

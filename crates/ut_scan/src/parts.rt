@@ -55,7 +55,7 @@ pub fn scan_parts<L: Ledger>(
     let coded = coded_preds(alloc, main, preds, steps)?;
     for number in 0..main.parts() {
         let part = main.part(number);
-        let stamps = stamps.part_stamps(number);
+        let stamps = stamps.part(number);
         scan_part(alloc, viewer, coded.as_slice(), number, part, stamps, out)?;
     }
     Ok(())
@@ -195,7 +195,7 @@ impl PartProbe<'_> {
     {
         match self.seen {
             Some(seen) => seen,
-            None => self.viewer.sees(&self.stamps.as_slice()[i as usize]),
+            None => self.viewer.sees(&self.stamps.get(i as usize)),
         }
     }
 

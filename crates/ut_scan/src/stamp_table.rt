@@ -105,7 +105,7 @@ impl StampTable {
         self.closed = Some(mem::replace(&mut self.l2, Queue::new(alloc)));
     }
 
-    /// Adds the stamps of a part behind the others. Takes no memory.
+    /// Adds the stamps of a part behind the others. Needs no memory.
     pub fn push_part(&mut self, stamps: Vec<Stamp>)
         requires { length self.old.parts < 8 }
         ensures { self.new ≡ record self.old { parts = self.old.parts ++ stamps.items ∷ [] } }
@@ -114,7 +114,7 @@ impl StampTable {
     }
 
     /// Ends a merge: the first parts stay, and the stamps of a part stand in place of the others
-    /// and of the closed stage. Takes no memory.
+    /// and of the closed stage. Needs no memory.
     pub fn switch(&mut self, stay: u8, stamps: Vec<Stamp>)
         requires there { stay ≤ length self.old.parts }
         requires fewer { stay < 8 }
@@ -134,7 +134,7 @@ impl StampTable {
             Place::L1(i) => self.l1.as_slice()[i as usize],
             Place::L2(i) => self.l2.as_slice()[i as usize],
             Place::Closed(i) => in_closed(&self.closed)[i as usize],
-            Place::Main(p, i) => self.part(p)[i as usize],
+            Place::Main(p, i) => self.part(p).get(i as usize),
         }
     }
 
@@ -198,15 +198,7 @@ impl StampTable {
     }
 
     /// The stamps of a part.
-    pub fn part(&self, p: u8) -> &[Stamp]
-        requires { p < length self.now.parts }
-        ensures { result.now ≡ get_or self.now.parts p [] }
-    {
-        self.part_stamps(p).as_slice()
-    }
-
-    /// The same, with the stamp that all of them are, where they agree.
-    pub(crate) fn part_stamps(&self, p: u8) -> &PartStamps
+    pub fn part(&self, p: u8) -> &PartStamps
         requires { p < length self.now.parts }
         ensures { result.now ≡ get_or self.now.parts p [] }
     {

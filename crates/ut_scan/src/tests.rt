@@ -3,7 +3,7 @@ ghost use Rattle.std.specs.Prelude.{◌≡◌, ◌+◌, ◌<◌, ◌++◌, [], �
 ghost use Rattle.ut_main.specs.Parts.{dicts_behind};
 ghost use Rattle.ut_scan.specs.StageRows.{AreStamped};
 
-use crate::{ColumnPred, Found, Stages, StampTable, count, scan};
+use crate::{ColumnPred, Found, Place, Stages, StampTable, count, scan};
 use std::alloc::{AllocError, Global};
 use std::marker::Brand;
 use std::process::Abort;
@@ -219,6 +219,34 @@ fn rows_are_found_in_all_places(rt: HostRuntime) -> Result<(), Fail> {
         assert_eq!(rt; count, ids.len() as u64);
         for i in 0..ids.len() {
             assert_eq!(rt; found[i].id, ids[i]);
+        }
+    }
+    Ok(())
+}
+
+/// A part that has as many rows as this, of which one ends.
+fn part_of(rt: &impl Abort, alloc: Global, n: u32, ended: u32) -> Result<StampTable, AllocError>
+    requires { ended < n }
+{
+    let mut table = StampTable::new(alloc)?;
+    table.push_part(stamps(alloc, n)?);
+    assert!(rt; table.part(0).joint() == Some(OLD));
+    table.set_end(Place::Main(0, ended), 5);
+    Ok(table)
+}
+
+/// A list of few stamps is emptied in place, one of many makes room for new.
+#[test]
+fn one_row_ends_where_all_stamps_agreed(rt: HostRuntime) -> Result<(), Fail> {
+    let alloc = rt.alloc();
+    for (n, ended) in [(3, 0), (3, 2), (3000, 0), (3000, 1500), (3000, 2999)] {
+        let table = part_of(&rt, alloc, n, ended)?;
+        let stamps = table.part(0);
+        assert!(rt; stamps.joint().is_none());
+        assert_eq!(rt; stamps.len(), n as usize);
+        for i in 0..stamps.len() {
+            let end = if i == ended as usize { Some(5) } else { None };
+            assert_eq!(rt; stamps.get(i), Stamp { begin: 0, end });
         }
     }
     Ok(())

@@ -5,7 +5,7 @@ ghost use Rattle.ut_stamps.specs.Kept.{stamp_keeps};
 ghost use Rattle.ut_table.specs.Flags.{flags_behind};
 
 use std::alloc::{AllocError, Global};
-use ut_scan::StampTable;
+use ut_scan::{PartStamps, StampTable};
 use ut_stamps::{Fates, Stamp, keeps};
 use ut_value::MergeKind;
 
@@ -27,19 +27,35 @@ fn is_kept(fates: &Fates, snapshots: &[u32], stays: bool, stamp: &Stamp) -> bool
     stays || keeps(fates, stamp, snapshots)
 }
 
-/// The flags of one list of places, all true where it stays.
-fn list_flags(
+/// The flags of a part's places, all true where it stays.
+fn part_flags(
     alloc: Global,
     fates: &Fates,
     snapshots: &[u32],
     stays: bool,
-    stamps: &[Stamp],
+    stamps: &PartStamps,
 ) -> Result<Vec<bool>, AllocError>
     ensures { IfOk result (λ flags. flags.items ≡ map (λ stamp. stays || stamp_keeps fates.now snapshots.now stamp) stamps.now) }
 {
     let mut flags = Vec::with_capacity(alloc, stamps.len())?;
+    for i in 0..stamps.len() {
+        flags.push(is_kept(fates, snapshots, stays, &stamps.get(i)))?;
+    }
+    Ok(flags)
+}
+
+/// The flags of a list of places.
+fn list_flags(
+    alloc: Global,
+    fates: &Fates,
+    snapshots: &[u32],
+    stamps: &[Stamp],
+) -> Result<Vec<bool>, AllocError>
+    ensures { IfOk result (λ flags. flags.items ≡ map (stamp_keeps fates.now snapshots.now) stamps.now) }
+{
+    let mut flags = Vec::with_capacity(alloc, stamps.len())?;
     for stamp in stamps {
-        flags.push(is_kept(fates, snapshots, stays, stamp))?;
+        flags.push(keeps(fates, stamp, snapshots))?;
     }
     Ok(flags)
 }
@@ -59,10 +75,10 @@ pub(crate) fn flags_of(
     let mut lists = Vec::with_capacity(alloc, usize::from(parts) + 1)?;
     for p in 0..parts {
         let stays = p < stay;
-        let flags = list_flags(alloc, fates, snapshots, stays, stamps.part(p))?;
+        let flags = part_flags(alloc, fates, snapshots, stays, stamps.part(p))?;
         lists.push(flags)?;
     }
-    let flags = list_flags(alloc, fates, snapshots, false, stamps.l2())?;
+    let flags = list_flags(alloc, fates, snapshots, stamps.l2())?;
     lists.push(flags)?;
     Ok(lists)
 }

@@ -15,7 +15,7 @@ count_part-requires-clause-stamped g c =
     let p = c.loop-number.number in
     let there : c.loop-number.number < length main.parts = omega (arith, c.loop-number-test.true, c.parts-number-end.ensures.count) in
     let at = part-of main p c.part-part.result.now c.deref.result.now there c.deref.ensures c.part-part.ensures.rows c.part-part.ensures.before in
-    ap (λ (l : List Stamp). length l) c.part_stamps-stamps.ensures ∙ (stamps-at main.parts c.args.stamps.now.parts p c.requires.stamped there).1 ∙ sym (ap (λ (l : List KeyRow). length l) at.rows)
+    ap (λ (l : List Stamp). length l) c.part-stamps.ensures ∙ (stamps-at main.parts c.args.stamps.now.parts p c.requires.stamped there).1 ∙ sym (ap (λ (l : List KeyRow). length l) at.rows)
 
 pub count_part-requires-clause-columns : goal.count_part-requires-clause-columns
 count_part-requires-clause-columns g c =
@@ -43,8 +43,8 @@ loop-number-preserved g c =
     let same : c.from-count.result ≡ c.in_ok-more.more = grind arith in
     let one : c.in_ok-more.more ≡ length (found p) =
     c.in_ok-more.ensures ∙ ap length (
-    ap (λ (cs : List CodedPred). seen_at viewer p part.rows c.part_stamps-stamps.result.now (held_places cs part)) c.as_slice.ensures.value
-    ∙ ap (λ (l : List Stamp). seen_at viewer p part.rows l (held_places coded part)) c.part_stamps-stamps.ensures
+    ap (λ (cs : List CodedPred). seen_at viewer p part.rows c.part-stamps.result.now (held_places cs part)) c.as_slice.ensures.value
+    ∙ ap (λ (l : List Stamp). seen_at viewer p part.rows l (held_places coded part)) c.part-stamps.ensures
     ∙ part-found main preds coded p part viewer.fates.now viewer.snapshot viewer.own (get_or stamps p []) c.in_ok-coded.ensures.coded c.requires.columns at) in
     record {
       counted = parts-counted found c.loop-number.count more (c.loop-number.count + more) p c.loop-number.invariant.counted (same ∙ one) refl;

@@ -14,7 +14,7 @@ scan_part-requires-clause-stamped g c =
     let p = c.loop-number.number in
     let there : c.loop-number.number < length main.parts = omega (arith, c.loop-number-test.true, c.parts-number-end.ensures.count) in
     let at = part-of main p c.part-part.result.now c.deref.result.now there c.deref.ensures c.part-part.ensures.rows c.part-part.ensures.before in
-    ap (λ (l : List Stamp). length l) c.part_stamps-stamps.ensures ∙ (stamps-at main.parts c.args.stamps.now.parts p c.requires.stamped there).1 ∙ sym (ap (λ (l : List KeyRow). length l) at.rows)
+    ap (λ (l : List Stamp). length l) c.part-stamps.ensures ∙ (stamps-at main.parts c.args.stamps.now.parts p c.requires.stamped there).1 ∙ sym (ap (λ (l : List KeyRow). length l) at.rows)
 
 pub scan_part-requires-clause-columns : goal.scan_part-requires-clause-columns
 scan_part-requires-clause-columns g c =
@@ -40,6 +40,6 @@ loop-number-preserved g c =
     let found = found_in_part viewer.fates.now viewer.snapshot viewer.own preds main.parts stamps in
     parts-more found c.args.out.now.items c.loop-number.out.items c.scan_part.new.out.items p c.loop-number.invariant
     (c.in_ok-scan_part.ensures ∙ ap (λ l. c.loop-number.out.items ++ l) (
-    ap (λ (cs : List CodedPred). seen_at viewer p part.rows c.part_stamps-stamps.result.now (held_places cs part)) c.as_slice.ensures.value
-    ∙ ap (λ (l : List Stamp). seen_at viewer p part.rows l (held_places coded part)) c.part_stamps-stamps.ensures
+    ap (λ (cs : List CodedPred). seen_at viewer p part.rows c.part-stamps.result.now (held_places cs part)) c.as_slice.ensures.value
+    ∙ ap (λ (l : List Stamp). seen_at viewer p part.rows l (held_places coded part)) c.part-stamps.ensures
     ∙ part-found main preds coded p part viewer.fates.now viewer.snapshot viewer.own (get_or stamps p []) c.in_ok-coded.ensures.coded c.requires.columns at))
