@@ -4,4 +4,12 @@
 #[cfg(test)]
 mod crowds;
 #[cfg(test)]
+mod faults;
+#[cfg(test)]
+mod histories;
+#[cfg(test)]
+mod stops;
+#[cfg(test)]
+mod streams;
+#[cfg(test)]
 mod watch;

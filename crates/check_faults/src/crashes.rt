@@ -11,7 +11,7 @@ use ut_app::Status;
 use ut_outside::{Ack, Disk, MemDisk, Tear};
 
 /// How many entries the journal had at the last reply that was given where so many calls of the disk had returned.
-fn told_by(acks: &[Ack], moment: u64) -> u64 {
+pub(crate) fn told_by(acks: &[Ack], moment: u64) -> u64 {
     let mut told = 0;
     for ack in acks {
         if ack.moment <= moment {

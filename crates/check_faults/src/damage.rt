@@ -232,3 +232,17 @@ fn a_damaged_store_is_not_made_again(rt: HostRuntime) -> Result<(), Fail> {
     assert_eq!(rt; disk.bytes(Which::Redo).len(), 0);
     Ok(())
 }
+
+/// An entry of another operation, one of a table that isn't there, one of more operations than it has, and one that isn't known.
+#[test]
+fn an_entry_that_cannot_be_applied_is_damage(rt: HostRuntime) -> Result<(), Fail> {
+    let alloc = rt.alloc();
+    let disk = script_disk(&rt, alloc)?;
+    let redo = disk.bytes(Which::Redo);
+    for (place, byte) in [(25, 3), (26, 1), (21, 2), (20, 9)] {
+        let bytes = changed(&rt, alloc, redo, place, byte)?;
+        let status = opened(&rt, alloc, &bytes, &[], disk.bytes(Which::Pages))?;
+        assert_eq!(rt; status, Status::Damaged, "with {byte} at {place}");
+    }
+    Ok(())
+}

@@ -229,3 +229,63 @@ fn two_faults_of_the_disk_lose_nothing(rt: HostRuntime) -> Result<(), Fail> {
     }
     Ok(())
 }
+
+/// Calls of these numbers fail, the second where the store is opened again. A crash then leaves what was told.
+fn check_two_faults(
+    rt: &(impl Abort + Threads + Wait + Sync),
+    alloc: Global,
+    saved: Saved,
+    calls: &[u64],
+) -> Result<(), AllocError> {
+    let (all, _whole) = made(rt, alloc, saved)?;
+    let (ran, mut disk) = run_failing(rt, alloc, saved, calls)?;
+    assert_eq!(rt; ran.status, Status::DiskFault);
+    assert!(rt; are_front(&all.replies, &ran.replies));
+    let _opened = run_on(rt, alloc, RUN, b"1 count T\n", &mut disk)?;
+    check_failed(rt, alloc, saved, &ran, &disk)
+}
+
+#[test]
+fn faults_far_apart_lose_nothing(rt: HostRuntime) -> Result<(), Fail> {
+    let alloc = rt.alloc();
+    for saved in [PARTS, TRANSACTION, CLOSED] {
+        check_two_faults(&rt, alloc, saved, &[20, 40])?;
+    }
+    Ok(())
+}
+
+/// How many calls of the disk it takes to make a store.
+fn calls_of_making(rt: &(impl Threads + Wait + Sync), alloc: Global) -> Result<u64, AllocError> {
+    let mut disk = new_disk(alloc)?;
+    let _ran = run_on(rt, alloc, RUN_NEW, b"", &mut disk)?;
+    Ok(disk.calls())
+}
+
+/// From the end of its making on each crash leaves a store.
+#[test]
+fn a_store_that_is_made_stays_made(rt: HostRuntime) -> Result<(), Fail> {
+    let alloc = rt.alloc();
+    let making = calls_of_making(&rt, alloc)?;
+    for saved in SAVED {
+        let (_, disk) = made(&rt, alloc, saved)?;
+        for moment in making..=disk.calls() {
+            check_is_store(&rt, alloc, &disk, moment)?;
+        }
+    }
+    Ok(())
+}
+
+fn check_is_store(
+    rt: &(impl Abort + Threads + Wait + Sync),
+    alloc: Global,
+    disk: &MemDisk,
+    moment: u64,
+) -> Result<(), AllocError> {
+    for tear in TEARS {
+        assert!(rt; moment <= disk.calls());
+        let mut image = disk.image(moment, tear)?;
+        let ran = run_on(rt, alloc, RUN, b"", &mut image)?;
+        assert_eq!(rt; ran.status, Status::Done, "after {moment} with {tear:?}");
+    }
+    Ok(())
+}

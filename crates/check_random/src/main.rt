@@ -1,8 +1,8 @@
 //! Compares the program with the slow store of `check_oracle`.
 //!
 //! `check_random first count` runs so many random scripts, from that seed on, on both, each with a crash. `check_random refuse number` runs a worked
-//! script, and judges the run even if an allocation was refused in it. Without words it runs few random scripts and each
-//! worked one.
+//! script, and judges the run even if an allocation was refused in it; `check_random crowd` does so with a crowd of sessions on
+//! threads. Without words it runs few random scripts, each worked one, and a crowd.
 #![tactic(auto)]
 
 mod apart;
@@ -27,6 +27,7 @@ enum Task {
     Few,
     Compare { first: u64, count: u64 },
     Refuse { number: usize },
+    Crowd,
 }
 
 /// So many random scripts are few.
@@ -35,9 +36,12 @@ const FEW: u64 = 20;
 fn main(rt: HostRuntime) -> Result<ExitCode> {
     let alloc = rt.alloc();
     let is_right = match task_of(&rt)? {
-        Task::Few => compare_all(&rt, alloc, 1, FEW)? && judge_all(&rt, alloc)?,
+        Task::Few => {
+            compare_all(&rt, alloc, 1, FEW)? && judge_all(&rt, alloc)? && judge_crowd(&rt, alloc)?
+        }
         Task::Compare { first, count } => compare_all(&rt, alloc, first, count)?,
         Task::Refuse { number } => judge_one(&rt, alloc, number)?,
+        Task::Crowd => judge_crowd(&rt, alloc)?,
     };
     Ok(if is_right {
         ExitCode::SUCCESS
@@ -52,6 +56,9 @@ fn task_of(rt: &HostRuntime) -> Result<Task> {
     let Some(first) = words.next() else {
         return Ok(Task::Few);
     };
+    if first.as_str() == "crowd" {
+        return Ok(Task::Crowd);
+    }
     let second = words.next().context("two words are wanted")?;
     if first.as_str() == "refuse" {
         let number = second.as_str().parse::<usize>()?;
@@ -102,6 +109,13 @@ fn judge_one(
     ensure!(number < worked::COUNT, "there is no such script");
     let verdict = judge::verdict_on(rt, alloc, number)?;
     println!(rt; "script {number}: {verdict}")?;
+    Ok(verdict.is_right())
+}
+
+/// Judges a crowd, and says what it came to.
+fn judge_crowd(rt: &(impl Print + Threads + Wait + Sync), alloc: Global) -> Result<bool> {
+    let verdict = check_books::judge::verdict_on(rt, alloc)?;
+    println!(rt; "crowd: {verdict}")?;
     Ok(verdict.is_right())
 }
 

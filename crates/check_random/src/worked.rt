@@ -33,8 +33,23 @@ const A_LOAD_IN_A_TRANSACTION: Lines = &[
     "2 select T *",
 ];
 
+/// A merge that is ended twice. Where the first end finds no memory for what it builds, all stages are as before it, and the second
+/// ends the same merge.
+const A_MERGE_ENDED_TWICE: Lines = &[
+    "1 create T k:int",
+    "1 bulk T 1 2 3",
+    "0 merge begin T classic",
+    "1 bulk T 4",
+    "0 shape T",
+    "0 merge end",
+    "0 shape T",
+    "0 merge end",
+    "0 shape T",
+    "1 select T *",
+];
+
 /// So many scripts there are.
-pub const COUNT: usize = 15;
+pub const COUNT: usize = 16;
 
 /// The tables of rows that are run, and then the scripts without replies.
 const TABLES: [&[Row]; 13] = [
@@ -59,6 +74,7 @@ pub fn lines_of(alloc: Global, number: usize) -> Result<Vec<&'static str>, Alloc
     match number {
         0 => lines.extend_from_slice(REFUSED_ROWS)?,
         1 => lines.extend_from_slice(A_LOAD_IN_A_TRANSACTION)?,
+        15 => lines.extend_from_slice(A_MERGE_ENDED_TWICE)?,
         _ => {
             for (line, _) in TABLES.get(number - 2).copied().unwrap_or(&[]) {
                 lines.push(*line)?;

@@ -1,0 +1,79 @@
+//! Runs of crowds over a disk and streams in memory, and what they leave.
+use check_run::run::{RUN, run_on};
+use check_run::saved::QUESTION;
+use std::alloc::{AllocError, Global};
+use std::sync::Wait;
+use std::thread::Threads;
+use ut_app::{Status, top};
+use ut_outside::{AckList, MemDisk, MemSink, MemSource, NoHook};
+
+/// The words that answer a crowd with merges of few rows, in a store that is there and in one that is made.
+pub const CROWD: &[&str] = &["ut", "crowd", "--l1", "2"];
+
+pub const CROWD_NEW: &[&str] = &["ut", "crowd", "--new", "--l1", "2"];
+
+/// The bytes that a source gives in one call.
+const PIECE: usize = 4096;
+
+/// How a crowd ended, its book, its acknowledgements, and how many entries its journal had.
+#[derive(Drop)]
+pub struct Came {
+    pub status: Status,
+    pub book: Vec<u8>,
+    pub acks: AckList,
+    pub journal: u64,
+}
+
+pub fn run_crowd(
+    rt: &(impl Threads + Wait + Sync),
+    alloc: Global,
+    words: &[&str],
+    lines: &[u8],
+    disk: &mut MemDisk,
+) -> Result<Came, AllocError> {
+    let mut source = MemSource::new(alloc, lines, PIECE, None)?;
+    let mut sink = MemSink::new(alloc, None);
+    let report = top(rt, alloc, words, &mut source, &mut sink, disk, &NoHook);
+    Ok(Came {
+        status: report.status,
+        book: Vec::from_slice(alloc, sink.bytes())?,
+        acks: report.acks,
+        journal: report.journal,
+    })
+}
+
+/// What a disk has.
+#[derive(Debug, Drop)]
+pub enum Left {
+    NoStore,
+    /// A store that answers the question so.
+    Answers(Vec<u8>),
+    Else,
+}
+
+/// Opens a store, and asks for its rows, its stages, and the numbers of its merges and its commits.
+pub fn left_on(
+    rt: &(impl Threads + Wait + Sync),
+    alloc: Global,
+    disk: &mut MemDisk,
+) -> Result<Left, AllocError> {
+    let ran = run_on(rt, alloc, RUN, QUESTION, disk)?;
+    Ok(match ran.status {
+        Status::NoStore => Left::NoStore,
+        Status::Done => Left::Answers(ran.replies),
+        _ => Left::Else,
+    })
+}
+
+/// Opens a store and asks it nothing: how many entries its journal has, if it is a store.
+pub fn journal_on(
+    rt: &(impl Threads + Wait + Sync),
+    alloc: Global,
+    disk: &mut MemDisk,
+) -> Result<Option<u64>, AllocError> {
+    let came = run_crowd(rt, alloc, RUN, b"", disk)?;
+    Ok(match came.status {
+        Status::Done => Some(came.journal),
+        _ => None,
+    })
+}

@@ -1,0 +1,178 @@
+//! Books of crowds: each is one history, which the slow store tells the same.
+use check_books::books::{Share, outcome_of, share_of};
+use check_books::runs::{CROWD, CROWD_NEW, Came, journal_on, left_on, run_crowd};
+use check_books::scripts::{LINES_OF_THREE, OF_THREE};
+use crate::watch::Watch;
+use check_scripts::{LINES, StoreLines, script_line};
+use std::alloc::{AllocError, Global};
+use std::process::Abort;
+use std::sync::Wait;
+use std::sync::atomic::Ordering::SeqCst;
+use std::test::Fail;
+use std::thread::Threads;
+use ut_app::{Status, top};
+use ut_outside::{MemDisk, MemSink, MemSource};
+
+/// The books of a script differ from run to run, so it is run so often.
+const ROUNDS: u32 = 10;
+
+/// Runs a crowd on a new store. All lines have their turns, the book is one history, and the store that is opened again is the one
+/// behind it.
+fn check_history(
+    rt: &(impl Abort + Threads + Wait + Sync),
+    alloc: Global,
+    lines: &[u8],
+    strangers: usize,
+) -> Result<(), AllocError> {
+    let mut disk = MemDisk::of(alloc, &[], &[], &[])?;
+    let came = run_crowd(rt, alloc, CROWD_NEW, lines, &mut disk)?;
+    assert_eq!(rt; came.status, Status::Done);
+    assert_eq!(rt; share_of(alloc, lines, &came.book)?, Share::All);
+    check_book(rt, alloc, &came, strangers, &mut disk)
+}
+
+fn check_book(
+    rt: &(impl Abort + Threads + Wait + Sync),
+    alloc: Global,
+    came: &Came,
+    strangers: usize,
+    disk: &mut MemDisk,
+) -> Result<(), AllocError> {
+    let Some(outcome) = outcome_of(alloc, &came.book, strangers)? else {
+        panic!(rt; "a turn isn't told as the slow store tells it")
+    };
+    assert_eq!(rt; outcome.turns, came.acks.len());
+    assert!(rt; outcome.refused == 0 && !outcome.is_open());
+    let left = left_on(rt, alloc, disk)?;
+    assert!(rt; outcome.is_left(&left), "{left:?}");
+    Ok(())
+}
+
+#[test]
+fn a_book_is_one_history(rt: HostRuntime) -> Result<(), Fail> {
+    let alloc = rt.alloc();
+    for _ in 0..ROUNDS {
+        check_history(&rt, alloc, OF_THREE, 0)?;
+    }
+    Ok(())
+}
+
+/// The lines of the random script of a seed that are a session's.
+fn random_lines(alloc: Global, seed: u64) -> Result<Vec<u8>, AllocError> {
+    let mut lines = Vec::new(alloc);
+    for number in 0..LINES {
+        let mut line = Vec::new(alloc);
+        script_line(StoreLines::OfDelta, seed, number, &mut line)?;
+        if !line.as_slice().starts_with(b"0 ") {
+            lines.extend_from_slice(&line)?;
+            lines.push(b'\n')?;
+        }
+    }
+    Ok(lines)
+}
+
+#[test]
+fn books_of_random_lines_are_histories(rt: HostRuntime) -> Result<(), Fail> {
+    let alloc = rt.alloc();
+    for seed in 1..20 {
+        let lines = random_lines(alloc, seed)?;
+        check_history(&rt, alloc, &lines, 0)?;
+    }
+    Ok(())
+}
+
+/// Lines outside the grammar: of sessions, and of nobody.
+const BAD: &[u8] = b"1 insert T\n3 merge end\n0 save begin\n0 count T\n17 begin\n";
+
+/// So many of them have no session that can be read.
+const STRANGERS: usize = 3;
+
+/// The lines of three sessions, with the bad ones at a place.
+fn with_bad_lines(alloc: Global, place: usize) -> Result<Vec<u8>, AllocError> {
+    let mut lines = Vec::new(alloc);
+    for (number, line) in OF_THREE.split(|byte| *byte == b'\n').enumerate() {
+        if number == place {
+            lines.extend_from_slice(BAD)?;
+        }
+        if !line.is_empty() {
+            lines.extend_from_slice(line)?;
+            lines.push(b'\n')?;
+        }
+    }
+    Ok(lines)
+}
+
+#[test]
+fn bad_lines_are_refused_in_each_place(rt: HostRuntime) -> Result<(), Fail> {
+    let alloc = rt.alloc();
+    for place in 0..=LINES_OF_THREE {
+        let lines = with_bad_lines(alloc, place)?;
+        check_history(&rt, alloc, &lines, STRANGERS)?;
+    }
+    Ok(())
+}
+
+/// One session makes a table and fills it, another fills it too, and a line tries to be the store.
+fn of_hundred(alloc: Global) -> Result<Vec<u8>, AllocError> {
+    let mut lines = Vec::from_slice(alloc, b"0 merge end\n1 create T k:int\n")?;
+    for _ in 0..49 {
+        lines.extend_from_slice(b"1 insert T 7\n")?;
+    }
+    for _ in 0..50 {
+        lines.extend_from_slice(b"2 insert T 7\n")?;
+    }
+    Ok(lines)
+}
+
+/// The program's own words, with a hook that holds a session until a merge is built, and that build until three more lines are
+/// answered.
+#[test]
+fn the_program_answers_lines_while_a_merge_is_built(rt: HostRuntime) -> Result<(), Fail> {
+    let alloc = rt.alloc();
+    let lines = of_hundred(alloc)?;
+    let watch = Watch::new();
+    let mut disk = MemDisk::of(alloc, &[], &[], &[])?;
+    let came = watched(&rt, alloc, &lines, &watch, &mut disk)?;
+    assert_eq!(rt; came.status, Status::Done);
+    assert_eq!(rt; share_of(alloc, &lines, &came.book)?, Share::All);
+    check_book(&rt, alloc, &came, 1, &mut disk)?;
+    assert_eq!(rt; watch.lines.load(SeqCst), 100);
+    assert!(rt; watch.builds.load(SeqCst) >= 1);
+    assert_eq!(rt; watch.missed.load(SeqCst), 0);
+    Ok(())
+}
+
+fn watched(
+    rt: &(impl Threads + Wait + Sync),
+    alloc: Global,
+    lines: &[u8],
+    watch: &Watch,
+    disk: &mut MemDisk,
+) -> Result<Came, AllocError> {
+    let mut source = MemSource::new(alloc, lines, 4096, None)?;
+    let mut sink = MemSink::new(alloc, None);
+    let words = &["ut", "crowd", "--new", "--l1", "8"];
+    let report = top(rt, alloc, words, &mut source, &mut sink, disk, watch);
+    Ok(Came {
+        status: report.status,
+        book: Vec::from_slice(alloc, sink.bytes())?,
+        acks: report.acks,
+        journal: report.journal,
+    })
+}
+
+/// A crowd in a store that is there goes on where it stands.
+#[test]
+fn a_second_crowd_goes_on_behind_the_first(rt: HostRuntime) -> Result<(), Fail> {
+    let alloc = rt.alloc();
+    let mut disk = MemDisk::of(alloc, &[], &[], &[])?;
+    let first = run_crowd(&rt, alloc, CROWD_NEW, OF_THREE, &mut disk)?;
+    let second = run_crowd(&rt, alloc, CROWD, OF_THREE, &mut disk)?;
+    assert_eq!(rt; first.status, Status::Done);
+    assert_eq!(rt; second.status, Status::Done);
+    assert_eq!(rt; share_of(alloc, OF_THREE, &second.book)?, Share::All);
+    assert!(rt; first.journal < second.journal);
+    let there = journal_on(&rt, alloc, &mut disk)?;
+    assert_eq!(rt; there, Some(second.journal));
+    Ok(())
+}

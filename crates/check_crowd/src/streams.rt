@@ -1,0 +1,208 @@
+//! Sources and sinks that fail, and input past the limits.
+use check_books::books::is_front;
+use check_books::runs::{CROWD_NEW, Came, journal_on};
+use check_books::scripts::OF_TWO;
+use std::alloc::{AllocError, Global};
+use std::process::Abort;
+use std::sync::Wait;
+use std::test::Fail;
+use std::thread::Threads;
+use ut_app::{Status, top};
+use ut_outside::{Disk, Failed, MemDisk, MemSink, MemSource, NoHook, Sink, Taken};
+
+/// The longest line that is read.
+const LINE_LIMIT: usize = 65536;
+
+/// No book of two sessions is so long.
+const MOST: u64 = 10_000;
+
+/// A sink that takes one byte a call, and fails once it took so many.
+#[derive(Drop)]
+struct Narrow {
+    bytes: Vec<u8>,
+    left: u64,
+    faults: u64,
+}
+
+impl Taken for Narrow {
+    ghost use Rattle.std.specs.Prelude.{None};
+
+    ghost held = { λ _. None };
+
+    fn taken(&self) -> u64 {
+        self.bytes.len() as u64
+    }
+}
+
+impl<D: Disk> Sink<D> for Narrow {
+    ghost use Rattle.std.specs.Prelude.{[], ℕ, List, Option, MatchOption};
+    ghost use Rattle.std.proofs.Common.{subst};
+
+    ghost moments = { λ _. [] };
+
+    ghost faults = { λ s. s.faults };
+
+    fn give(&mut self, _: &D, bytes: &[u8]) -> Result<usize, Failed> {
+        if self.left == 0 || self.bytes.push(bytes[0]).is_err() {
+            self.faults = self.faults.saturating_add(1);
+            return Err(Failed);
+        }
+        self.left = self.left.saturating_sub(1);
+        Ok(1)
+    }
+
+    ghost one_each = { λ _ bytes is. absurd (subst (λ (held : Option (List ℕ)). MatchOption held (Unit {0}) (λ _. ⊥)) is tt) };
+}
+
+/// Runs the crowd of two sessions into a sink that takes so many bytes.
+fn run_narrow(
+    rt: &(impl Threads + Wait + Sync),
+    alloc: Global,
+    bytes: u64,
+    disk: &mut MemDisk,
+) -> Result<Came, AllocError> {
+    let mut source = MemSource::new(alloc, OF_TWO, 7, None)?;
+    let mut sink = Narrow {
+        bytes: Vec::new(alloc),
+        left: bytes,
+        faults: 0,
+    };
+    let report = top(rt, alloc, CROWD_NEW, &mut source, &mut sink, disk, &NoHook);
+    let Narrow {
+        bytes: book,
+        left: _,
+        faults: _,
+    } = sink;
+    Ok(Came {
+        status: report.status,
+        book,
+        acks: report.acks,
+        journal: report.journal,
+    })
+}
+
+/// All lines were answered, and are there again.
+fn check_answered(
+    rt: &(impl Abort + Threads + Wait + Sync),
+    alloc: Global,
+    came: &Came,
+    disk: &mut MemDisk,
+) -> Result<(), AllocError> {
+    assert!(rt; came.acks.len() >= 8);
+    let there = journal_on(rt, alloc, disk)?;
+    assert_eq!(rt; there, Some(came.journal));
+    let last = came.acks.as_slice().last().map_or(0, |ack| ack.journal);
+    assert_eq!(rt; last, came.journal);
+    Ok(())
+}
+
+#[test]
+fn a_fault_of_the_sink_at_each_byte_cuts_the_book(rt: HostRuntime) -> Result<(), Fail> {
+    let alloc = rt.alloc();
+    for bytes in 0..MOST {
+        let mut disk = MemDisk::of(alloc, &[], &[], &[])?;
+        let came = run_narrow(&rt, alloc, bytes, &mut disk)?;
+        check_answered(&rt, alloc, &came, &mut disk)?;
+        assert!(rt; is_front(alloc, &came.book, 1)?, "at {bytes}");
+        if came.status == Status::Done {
+            assert!(rt; came.book.len() as u64 <= bytes);
+            return Ok(());
+        }
+        assert_eq!(rt; came.status, Status::WriteFault, "at {bytes}");
+        assert_eq!(rt; came.book.len() as u64, bytes);
+    }
+    panic!(rt; "no book of eight lines is so long")
+}
+
+/// Runs a crowd over a source, and looks that no line is answered.
+fn check_nothing_run(
+    rt: &(impl Abort + Threads + Wait + Sync),
+    alloc: Global,
+    words: &[&str],
+    mut source: MemSource,
+    status: Status,
+) -> Result<(), AllocError> {
+    let mut disk = MemDisk::of(alloc, &[], &[], &[])?;
+    let mut sink = MemSink::new(alloc, None);
+    let report = top(rt, alloc, words, &mut source, &mut sink, &mut disk, &NoHook);
+    assert_eq!(rt; report.status, status);
+    assert!(rt; sink.bytes().is_empty() && report.acks.len() == 0);
+    assert!(rt; report.lines == 0 && report.journal == 0);
+    assert_eq!(rt; journal_on(rt, alloc, &mut disk)?, Some(0));
+    Ok(())
+}
+
+#[test]
+fn a_fault_of_the_source_at_each_call_runs_nothing(rt: HostRuntime) -> Result<(), Fail> {
+    let alloc = rt.alloc();
+    for call in 0..=OF_TWO.len() as u64 {
+        let source = MemSource::new(alloc, OF_TWO, 1, Some(call))?;
+        check_nothing_run(&rt, alloc, CROWD_NEW, source, Status::ReadFault)?;
+    }
+    Ok(())
+}
+
+/// The lines of two sessions, with a comment of so many bytes at a place.
+fn with_comment(alloc: Global, place: usize, len: usize) -> Result<Vec<u8>, AllocError> {
+    let mut lines = Vec::new(alloc);
+    for (number, line) in OF_TWO.split(|byte| *byte == b'\n').enumerate() {
+        if number == place {
+            let end = lines.len().saturating_add(len);
+            lines.resize(end, b'#')?;
+            lines.push(b'\n')?;
+        }
+        if !line.is_empty() {
+            lines.extend_from_slice(line)?;
+            lines.push(b'\n')?;
+        }
+    }
+    Ok(lines)
+}
+
+#[test]
+fn a_line_that_is_too_long_runs_nothing(rt: HostRuntime) -> Result<(), Fail> {
+    let alloc = rt.alloc();
+    for place in 0..=8 {
+        let lines = with_comment(alloc, place, LINE_LIMIT + 1)?;
+        let source = MemSource::new(alloc, &lines, 4096, None)?;
+        check_nothing_run(&rt, alloc, CROWD_NEW, source, Status::TooLong)?;
+    }
+    Ok(())
+}
+
+#[test]
+fn more_lines_than_the_limit_run_nothing(rt: HostRuntime) -> Result<(), Fail> {
+    let alloc = rt.alloc();
+    for limit in ["1", "2", "3", "4", "5", "6", "7"] {
+        let words = &["ut", "crowd", "--new", "--lines", limit];
+        let source = MemSource::new(alloc, OF_TWO, 4096, None)?;
+        check_nothing_run(&rt, alloc, words, source, Status::TooLong)?;
+    }
+    Ok(())
+}
+
+/// A line at the limit, and as many lines as there may be.
+#[test]
+fn input_at_the_limits_is_answered(rt: HostRuntime) -> Result<(), Fail> {
+    let alloc = rt.alloc();
+    for (len, limit) in [(LINE_LIMIT, "9"), (1, "9")] {
+        let lines = with_comment(alloc, 4, len)?;
+        let words = &["ut", "crowd", "--new", "--lines", limit];
+        let mut source = MemSource::new(alloc, &lines, 4096, None)?;
+        let mut sink = MemSink::new(alloc, None);
+        let mut disk = MemDisk::of(alloc, &[], &[], &[])?;
+        let report = top(
+            &rt,
+            alloc,
+            words,
+            &mut source,
+            &mut sink,
+            &mut disk,
+            &NoHook,
+        );
+        assert_eq!(rt; report.status, Status::Done);
+        assert_eq!(rt; report.lines, 9);
+        assert!(rt; is_front(alloc, sink.bytes(), 1)?);
+    }
+    Ok(())
+}
