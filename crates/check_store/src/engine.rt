@@ -77,16 +77,34 @@ fn made_and_left<D: Disk>(alloc: Global, disk: &mut D) -> Result<(), OpenError>
 
 // Calls of a store that is up, which promise nothing here: what they answer is tried, and the tests' own proofs stay short.
 
-fn answered(
+// Whether a statement is answered by this commit.
+fn commits(
     rt: &impl Abort,
     alloc: Global,
     engine: &mut Engine<'_, MemDisk>,
-    statement: &Statement,
-) -> Reply
-    requires { IsTrue (is_spelled statement.now) }
+    statement: Statement,
+    number: u32,
+) -> bool
+    requires { IsTrue (is_spelled statement) }
 {
     assert!(rt; !engine.down());
-    engine.statement(alloc, 1, statement)
+    matches!(engine.statement(alloc, 1, &statement), Reply::Committed(n) if n == number)
+}
+
+// Whether a statement is answered as a change of one row.
+fn changes_one(
+    rt: &impl Abort,
+    alloc: Global,
+    engine: &mut Engine<'_, MemDisk>,
+    statement: Statement,
+) -> bool
+    requires { IsTrue (is_spelled statement) }
+{
+    assert!(rt; !engine.down());
+    matches!(
+        engine.statement(alloc, 1, &statement),
+        Reply::Changed { rows: 1, .. }
+    )
 }
 
 fn moved(
@@ -170,17 +188,19 @@ fn phase(rt: &impl Abort, engine: &Engine<'_, MemDisk>) -> Progress {
 /// Makes the table, with two rows.
 fn fill(rt: &impl Abort, alloc: Global, engine: &mut Engine<'_, MemDisk>) -> Result<(), Fail> {
     let statement = create(rt, alloc)?;
-    let reply = answered(rt, alloc, engine, &statement);
-    assert!(rt; matches!(reply, Reply::Committed(1)));
-    for number in [3, 4] {
-        let statement = insert(rt, alloc, number)?;
-        let reply = answered(rt, alloc, engine, &statement);
-        assert!(rt; matches!(reply, Reply::Changed { rows: 1, .. }));
-    }
+    assert!(rt; commits(rt, alloc, engine, statement, 1));
+    let statement = insert(rt, alloc, 3)?;
+    assert!(rt; changes_one(rt, alloc, engine, statement));
+    let statement = insert(rt, alloc, 4)?;
+    assert!(rt; changes_one(rt, alloc, engine, statement));
+    counts(rt, engine);
+    Ok(())
+}
+
+fn counts(rt: &impl Abort, engine: &Engine<'_, MemDisk>) {
     assert_eq!(rt; engine.commits(), 3);
     assert_eq!(rt; engine.journal_len(), 3);
     assert_eq!(rt; engine.moment(), engine.disk().calls());
-    Ok(())
 }
 
 /// The rows of the table, and how many stand in each stage.
