@@ -225,9 +225,8 @@ fn rows_are_found_in_all_places(rt: HostRuntime) -> Result<(), Fail> {
 }
 
 /// A part that has as many rows as this, of which one ends.
-fn part_of(rt: &impl Abort, alloc: Global, n: u32, ended: u32) -> Result<StampTable, AllocError>
-    requires { ended < n }
-{
+fn part_of(rt: &impl Abort, alloc: Global, n: u32, ended: u32) -> Result<StampTable, AllocError> {
+    assert!(rt; ended < n);
     let mut table = StampTable::new(alloc)?;
     table.push_part(stamps(alloc, n)?);
     assert!(rt; table.part(0).joint() == Some(OLD));
@@ -241,6 +240,7 @@ fn one_row_ends_where_all_stamps_agreed(rt: HostRuntime) -> Result<(), Fail> {
     let alloc = rt.alloc();
     for (n, ended) in [(3, 0), (3, 2), (3000, 0), (3000, 1500), (3000, 2999)] {
         let table = part_of(&rt, alloc, n, ended)?;
+        assert!(rt; table.parts() == 1);
         let stamps = table.part(0);
         assert!(rt; stamps.joint().is_none());
         assert_eq!(rt; stamps.len(), n as usize);
