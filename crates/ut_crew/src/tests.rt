@@ -164,14 +164,13 @@ impl<'a> Build<Sum> for Note<'a> {
 
     ghost ready = { λ _. Unit {0} };
 
-    /// Waits for three turns.
+    /// The first build lets go who waits for it, and waits for three turns.
     fn build(&self, job: &u64) -> Option<Noted> {
         let watch = self.watch;
-        if watch.builds.load(SeqCst) == 0 {
-            let turns = watch.turns.load(SeqCst);
+        let turns = watch.turns.load(SeqCst);
+        if watch.builds.fetch_add(1, SeqCst) == 0 {
             watch.until(&watch.turns, turns.saturating_add(3));
         }
-        watch.builds.fetch_add(1, SeqCst);
         Some(Noted { ones: *job })
     }
 }
