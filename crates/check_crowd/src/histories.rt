@@ -1,8 +1,8 @@
 //! Books of crowds: each is one history, which the slow store tells the same.
+use crate::watch::Watch;
 use check_books::books::{Share, outcome_of, share_of};
 use check_books::runs::{CROWD, CROWD_NEW, Came, journal_on, left_on, run_crowd};
 use check_books::scripts::{LINES_OF_THREE, OF_THREE};
-use crate::watch::Watch;
 use check_scripts::{LINES, StoreLines, script_line};
 use std::alloc::{AllocError, Global};
 use std::process::Abort;
