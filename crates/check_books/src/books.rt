@@ -64,18 +64,90 @@ impl<'a> Follower<'a> {
 
     /// Follows the answer to a line.
     fn answer(&mut self, alloc: Global, line: &[u8]) -> Result<Turn, AllocError> {
-        let refused = reply_to(alloc, line, b" refused memory\n")?;
-        if self.rest.starts_with(&refused) {
-            return Ok(self.pass(&refused, lacking(line)));
+        if self.goes_on(alloc, line, b" refused memory\n")? {
+            let turn = lacking(line);
+            return self.leave(alloc, line, b" refused memory\n", turn);
         }
-        let fault = reply_to(alloc, line, b" fault disk\n")?;
-        if self.rest.starts_with(&fault) {
-            self.before = Some(self.store.reopened(alloc, AMPLE)?);
-            let told = self.told(alloc, line)?;
-            return Ok(self.pass(&fault, failed(alloc, line, &told)?));
+        if self.goes_on(alloc, line, b" fault disk\n")? {
+            self.keep_before(alloc)?;
+            let turn = self.fault(alloc, line)?;
+            return self.leave(alloc, line, b" fault disk\n", turn);
         }
         let told = self.told(alloc, line)?;
         Ok(self.pass(&told, Turn::Told))
+    }
+
+    /// Whether the book goes on with such a reply to a line.
+    fn goes_on(&self, alloc: Global, line: &[u8], text: &[u8]) -> Result<bool, AllocError> {
+        let reply = reply_to(alloc, line, text)?;
+        Ok(self.rest.starts_with(&reply))
+    }
+
+    /// Goes on behind such a reply.
+    fn leave(
+        &mut self,
+        alloc: Global,
+        line: &[u8],
+        text: &[u8],
+        turn: Turn,
+    ) -> Result<Turn, AllocError> {
+        let reply = reply_to(alloc, line, text)?;
+        Ok(self.pass(&reply, turn))
+    }
+
+    /// Keeps the store as it is, before a turn in which the disk fails.
+    fn keep_before(&mut self, alloc: Global) -> Result<(), AllocError> {
+        let before = self.store.reopened(alloc, AMPLE)?;
+        self.before = Some(before);
+        Ok(())
+    }
+
+    /// A turn in which the disk failed. A line that is refused calls no disk.
+    fn fault(&mut self, alloc: Global, line: &[u8]) -> Result<Turn, AllocError> {
+        let told = self.told(alloc, line)?;
+        failed(alloc, line, &told)
+    }
+
+    /// Follows all turns: how many they are, and how many of them were refused, if the book is told to its end.
+    fn follow_all(&mut self, alloc: Global) -> Result<Option<(usize, usize)>, AllocError> {
+        let mut turns: usize = 0;
+        let mut refused: usize = 0;
+        for _ in 0..=self.rest.len() {
+            match self.follow(alloc)? {
+                Turn::End => return Ok(Some((turns, refused))),
+                Turn::Told => {}
+                Turn::Refused => refused = refused.saturating_add(1),
+                Turn::Fault if self.rest.is_empty() => {}
+                Turn::Fault | Turn::Cut | Turn::Wrong => return Ok(None),
+            }
+            turns = turns.saturating_add(1);
+        }
+        Ok(None)
+    }
+
+    /// Whether all turns are told, but for the last, which may be cut.
+    fn is_front(&mut self, alloc: Global) -> Result<bool, AllocError> {
+        for _ in 0..=self.rest.len() {
+            match self.follow(alloc)? {
+                Turn::Told => {}
+                Turn::End | Turn::Cut => return Ok(true),
+                Turn::Refused | Turn::Fault | Turn::Wrong => return Ok(false),
+            }
+        }
+        Ok(false)
+    }
+
+    /// What the store answers to the question behind none, one, two and all turns, if each is told.
+    fn lefts(&mut self, alloc: Global, lefts: &mut Vec<Vec<u8>>) -> Result<bool, AllocError> {
+        for _ in 0..=self.rest.len() {
+            lefts.push(left_of(alloc, &self.store)?)?;
+            match self.follow(alloc)? {
+                Turn::Told => {}
+                Turn::End => return Ok(true),
+                _ => return Ok(false),
+            }
+        }
+        Ok(false)
     }
 
     /// What the slow store answers.
@@ -190,25 +262,10 @@ pub fn outcome_of(
     strangers: usize,
 ) -> Result<Option<Outcome>, AllocError> {
     let mut follower = Follower::new(alloc, book, strangers)?;
-    let mut turns: usize = 0;
-    let mut refused: usize = 0;
-    for _ in 0..=book.len() {
-        let turn = follower.follow(alloc)?;
-        if turn == Turn::End {
-            return ended(alloc, &follower, turns, refused);
-        }
-        if turn == Turn::Wrong || turn == Turn::Cut {
-            return Ok(None);
-        }
-        if turn == Turn::Fault && !follower.rest.is_empty() {
-            return Ok(None);
-        }
-        turns = turns.saturating_add(1);
-        if turn == Turn::Refused {
-            refused = refused.saturating_add(1);
-        }
+    match follower.follow_all(alloc)? {
+        Some((turns, refused)) => ended(alloc, &follower, turns, refused),
+        None => Ok(None),
     }
-    Ok(None)
 }
 
 fn ended(
@@ -245,28 +302,14 @@ fn failed(alloc: Global, line: &[u8], told: &[u8]) -> Result<Turn, AllocError> {
 pub fn lefts_of(alloc: Global, book: &[u8]) -> Result<Option<Vec<Vec<u8>>>, AllocError> {
     let mut follower = Follower::new(alloc, book, 0)?;
     let mut lefts = Vec::new(alloc);
-    for _ in 0..=book.len() {
-        lefts.push(left_of(alloc, &follower.store)?)?;
-        match follower.follow(alloc)? {
-            Turn::Told => {}
-            Turn::End => return Ok(Some(lefts)),
-            _ => return Ok(None),
-        }
-    }
-    Ok(None)
+    let is_told = follower.lefts(alloc, &mut lefts)?;
+    Ok(if is_told { Some(lefts) } else { None })
 }
 
 /// Whether these are the bytes of a book up to some byte.
 pub fn is_front(alloc: Global, book: &[u8], strangers: usize) -> Result<bool, AllocError> {
     let mut follower = Follower::new(alloc, book, strangers)?;
-    for _ in 0..=book.len() {
-        match follower.follow(alloc)? {
-            Turn::Told => {}
-            Turn::End | Turn::Cut => return Ok(true),
-            _ => return Ok(false),
-        }
-    }
-    Ok(false)
+    follower.is_front(alloc)
 }
 
 /// The lines of a text that begin so, without the mark that they begin with.

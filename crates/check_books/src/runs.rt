@@ -5,7 +5,7 @@ use std::alloc::{AllocError, Global};
 use std::sync::Wait;
 use std::thread::Threads;
 use ut_app::{Status, top};
-use ut_outside::{AckList, MemDisk, MemSink, MemSource, NoHook};
+use ut_outside::{AckList, MemDisk, MemSink, MemSource, NoHook, Which};
 
 /// The words that answer a crowd with merges of few rows, in a store that is there and in one that is made.
 pub const CROWD: &[&str] = &["ut", "crowd", "--l1", "2"];
@@ -51,18 +51,29 @@ pub enum Left {
     Else,
 }
 
-/// Opens a store, and asks for its rows, its stages, and the numbers of its merges and its commits.
+/// Opens a store, and asks for its rows, its stages, and the numbers of its merges and its commits. It is asked on a copy of the disk,
+/// since the answer to a question that begins a merge and makes a table is another one the second time.
 pub fn left_on(
     rt: &(impl Threads + Wait + Sync),
     alloc: Global,
-    disk: &mut MemDisk,
+    disk: &MemDisk,
 ) -> Result<Left, AllocError> {
-    let ran = run_on(rt, alloc, RUN, QUESTION, disk)?;
+    let mut copy = copy_of(alloc, disk)?;
+    let ran = run_on(rt, alloc, RUN, QUESTION, &mut copy)?;
     Ok(match ran.status {
         Status::NoStore => Left::NoStore,
         Status::Done => Left::Answers(ran.replies),
         _ => Left::Else,
     })
+}
+
+fn copy_of(alloc: Global, disk: &MemDisk) -> Result<MemDisk, AllocError> {
+    MemDisk::of(
+        alloc,
+        disk.bytes(Which::Redo),
+        disk.bytes(Which::Redo2),
+        disk.bytes(Which::Pages),
+    )
 }
 
 /// Opens a store and asks it nothing: how many entries its journal has, if it is a store.

@@ -64,10 +64,3 @@ needed-more j t old new then own th ow n id =
     let a : has (ids_of then) ≡ is_some (finmap.get (state_at j t.snapshot).rows id) = ap (λ rows. has (ids_of rows)) th ∙ there-entries (state_at j t.snapshot).rows id in
     let b : has (ids_of own) ≡ is_some (ops_at id t.ops None) = ap (λ rows. has (ids_of rows)) ow ∙ there-own t.ops id in
     ap has n ∙ list_any-append (nat_eq id) (old ++ ids_of then) (ids_of own) ∙ ap (λ x. x || has (ids_of own)) (list_any-append (nat_eq id) old (ids_of then)) ∙ or_or (has old) (has (ids_of then)) (has (ids_of own)) ∙ (λ i. has old || (a i || b i))
-
--- one session more was looked at
-pub needed-next : (now before more next : Bool) (here : Bool) → here ≡ (now || before) → next ≡ (before || more) → (here || more) ≡ (now || next)
-needed-next now before more next here h n = ap (λ x. x || more) h ∙ or_or now before more ∙ ap (λ x. now || x) (sym n)
-
-pub needed-none : (now before next : Bool) (here : Bool) → here ≡ (now || before) → next ≡ (before || false) → here ≡ (now || next)
-needed-none now before next here h n = h ∙ ap (λ x. now || x) (sym (n ∙ or_false before))

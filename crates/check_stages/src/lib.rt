@@ -15,6 +15,3 @@ pub use merges::{closing, has_part_room, has_places, switched};
 pub use replay::replayed;
 pub use shape::{has_at_most, shape_of};
 pub use stages::{move_l1, no_stages, place_all, stages_copied};
-
-#[cfg(test)]
-mod tests;

@@ -4,10 +4,6 @@ use Rattle.std.proofs.lemmas.List.{replicate-append-replicate, take-append-drop,
 use Rattle.ut_outside.specs.Streams.{GivesBytes, NotesMoments}
 use Rattle.ut_app.specs.Writing.{Writes, WritesRest, IsWriting}
 
-pub writing-start : (held : Option (List ℕ)) (marks text : List ℕ) (m : ℕ) → IsWriting held marks text text m held marks
-writing-start None marks text m = tt
-writing-start (Some before) marks text m = record { front = []; parts = refl; wrote = record { bytes = ap (λ xs. Some xs) (sym (append-nil before)); moments = sym (append-nil marks) } }
-
 more_by : (E : Type 0) (before marks text rest front now : List ℕ) (m count : ℕ) (held : Option (List ℕ)) (then : List ℕ) → text ≡ front ++ rest → now ≡ marks ++ replicate (length front) m → count ≤ length rest
     → GivesBytes {E = E} (Some (before ++ front)) held (Ok count) rest → NotesMoments {E = E} (Some (before ++ front)) now then (Ok count) m → WritesRest before marks text (drop count rest) m held then
 more_by E before marks text rest front now m count held then parts was few given noted = record {
@@ -28,17 +24,3 @@ writing-more E (Some before) marks text rest m now marks_now count then marks_th
     more_by E before marks text rest w.front marks_now m count then marks_then w.parts w.wrote.moments few
     (subst (λ (o : Option (List ℕ)). GivesBytes {E = E} o then (Ok count) rest) w.wrote.bytes given)
     (subst (λ (o : Option (List ℕ)). NotesMoments {E = E} o marks_now marks_then (Ok count) m) w.wrote.bytes noted)
-
-pub writes-all : (T E : Type 0) (held : Option (List ℕ)) (marks text rest : List ℕ) (m : ℕ) (now : Option (List ℕ)) (marks_now : List ℕ) (x : T) → rest ≡ [] → IsWriting held marks text rest m now marks_now → Writes {T = T} {E = E} held marks text m (Ok x) now marks_now
-writes-all T E None marks text rest m now marks_now x none w = tt
-writes-all T E (Some before) marks text rest m now marks_now x none w =
-    let all : text ≡ w.front = w.parts ∙ ap (λ xs. w.front ++ xs) none ∙ append-nil w.front in
-    record { bytes = w.wrote.bytes ∙ ap (λ xs. Some (before ++ xs)) (sym all); moments = w.wrote.moments ∙ ap (λ (xs : List ℕ). marks ++ replicate (length xs) m) (sym all) }
-
-pub writes-some : (T E F : Type 0) (held : Option (List ℕ)) (marks text rest : List ℕ) (m : ℕ) (now : Option (List ℕ)) (marks_now : List ℕ) (then : Option (List ℕ)) (marks_then : List ℕ) (e : E) (f : F) → IsWriting held marks text rest m now marks_now
-    → GivesBytes {E = E} now then (Err e) rest → NotesMoments {E = E} now marks_now marks_then (Err e) m → Writes {T = T} {E = F} held marks text m (Err f) then marks_then
-writes-some T E F None marks text rest m now marks_now then marks_then e f w given noted = tt
-writes-some T E F (Some before) marks text rest m now marks_now then marks_then e f w given noted =
-    let same = subst (λ (o : Option (List ℕ)). GivesBytes {E = E} o then (Err e) rest) w.wrote.bytes given in
-    let marked = subst (λ (o : Option (List ℕ)). NotesMoments {E = E} o marks_now marks_then (Err e) m) w.wrote.bytes noted in
-    record { front = w.front; rest = rest; parts = w.parts; wrote = record { bytes = same; moments = marked ∙ w.wrote.moments } }

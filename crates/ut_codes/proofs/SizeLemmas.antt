@@ -29,9 +29,6 @@ width-is n least fits none = sym (first-width n 0 n least (omega arith) (few lea
     few zero none = omega arith
     few (suc v) none = omega (arith, none v (omega arith), power-grows v)
 
-pub width-least : (n least : ℕ) → n ≤ 2 ^ least → ((v : ℕ) → v < least → 2 ^ v < n) → IsWidth n least
-width-least n least fits none = (fits, λ v h. elim (cases_lt v least) [ inl less ↦ absurd (omega (arith, none v less, h)) | inr more ↦ more ])
-
 -- how many neighbours differ
 abbrev pub changes : List ℕ → ℕ
 changes [] = 0

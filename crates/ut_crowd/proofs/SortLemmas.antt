@@ -57,9 +57,6 @@ of_strangers Stranger n h = cc
 of_strangers (Bad m) n h = refl
 of_strangers (Good m st) n h = refl
 
-eq_self : (n : ℕ) → nat_eq n n ≡ true
-eq_self n = grind (arith, common_steps)
-
 pub lacking : (l : Parsed) (n : ℕ) → MayLackMemory n l → whoses.Of n ≡ whose_of l
 lacking Comment n h = absurd h
 lacking Stranger n h = absurd h

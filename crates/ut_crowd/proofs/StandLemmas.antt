@@ -172,16 +172,6 @@ stands_jobless g queues book name name' was now old new job before st reply t e 
     stands_merged g queues book name name' was now old new job st t of spelled (turn_is 0 (Store st) before reply t old new now e f)
     (subst (λ (r : Reply). Comes old was (Good 0 st) (Some 0) r new now) (sym (reply_is 0 (Store st) before reply t new now e)) comes) same up only counts s
 
--- a job that is that of the pending merge
-pub stands_with : (g : Ground) (queues : List (List (List ℕ))) (book : List Turn) (name : GName) (now : View) (store : Logged) (job : JobValue) → pending_job store.store ≡ Some job → StandsOn g queues book name now store None → StandsOn g queues book name now store (Some job)
-stands_with g queues book name now store job is s = record {
-  weaves = s.weaves;
-  some = s.some;
-  course = s.course;
-  told = s.told;
-  faults = s.faults;
-  loan = s.loan;
-  held = λ up. is;
 }
 
 -- there was no line to take

@@ -80,10 +80,6 @@ else_none : (b : Bool) (why : Why) → cond b None (Some why) ≡ None → b ≡
 else_none true why is = refl
 else_none false why is = cc
 
-then_none : (b : Bool) (why : Why) → cond b (Some why) None ≡ None → b ≡ false
-then_none true why is = cc
-then_none false why is = refl
-
 module _ (j : Journal) (f : Files) (selected : Root) (disk : View) where
   pub writing_now : (n : ℕ) (saving : Option Saving) (phase : Phase) → IsSaving j f selected disk saving phase → save_why phase (statements.SaveStep n) ≡ None → IsWritingNow saving phase
   writing_now n None Idle is none = cc

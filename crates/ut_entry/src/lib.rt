@@ -6,8 +6,6 @@ mod laws;
 mod length;
 mod parts;
 mod read;
-#[cfg(test)]
-mod tests;
 mod txn;
 mod write;
 

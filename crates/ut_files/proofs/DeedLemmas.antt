@@ -11,9 +11,6 @@ use Rattle.ut_files.specs.Deeds.{Done, behind, Adds, Since, Any, AreFilled, IsHe
 
 -- ---- joining
 
-behind_nothing : (o : Done) → behind o [] [] ≡ o
-behind_nothing o = rw (append-nil o.deeds, append-nil o.bytes) refl
-
 behind_behind : (o : Done) (first second : List Deed) (xs ys : List ℕ) → behind (behind o first xs) second ys ≡ behind o (first ++ second) (xs ++ ys)
 behind_behind o first second xs ys = rw (append_assoc o.deeds first second, append_assoc o.bytes xs ys) refl
 
@@ -71,10 +68,6 @@ missing_kept file None b deed bytes adds keeps missing = subst (IsMissing file) 
 missing_kept file (Some o) b deed bytes adds keeps missing = subst (IsMissing file) (sym adds) (since_one (KeepsName file) (deeds.Missing file) o.deeds deed missing keeps)
 
 -- ---- how a run of calls goes on
-
-pub grows_same : (P : Deed → Type 0) (a : Option Done) → Grows P a a
-grows_same P None = refl
-grows_same P (Some o) = ([], All-nil P, ap Some (sym (behind_nothing o)))
 
 -- what is allowed, and then what is allowed
 pub grows_on : (P : Deed → Type 0) (a b c : Option Done) → Grows P a b → Grows P b c → Grows P a c

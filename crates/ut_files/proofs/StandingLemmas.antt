@@ -79,13 +79,6 @@ stands_named a b file hold named after adds with other stands = record {
 
 -- ---- the page file
 
--- while it isn't held it isn't noted as open
-pub pages_out : (d : Option Done) (hold : Hold) (named : FileSet) → hold ≢ holds.Held → Stands (files d hold named) → is_in Pages named ≡ false
-pages_out d holds.Unsought named isnt stands = stands.store
-pages_out d holds.Missing named isnt stands = stands.store.2
-pages_out d holds.Held named isnt stands = absurd (isnt refl)
-pages_out d holds.Lost named isnt stands = stands.store
-
 -- what is noted of a store that stands so
 pub re_hold : (d : Option Done) (old new : Hold) (named : FileSet) → old ≡ new → Stands (files d old named) → Stands (files d new named)
 re_hold d old new named same stands = subst (λ hold. Stands (files d hold named)) same stands

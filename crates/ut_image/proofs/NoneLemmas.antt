@@ -33,14 +33,6 @@ no_columns name rest bytes is none t x h =
 
 -- ---- values and rows
 
-pub no_int : (bytes : List ℕ) → length bytes < 8 → BeginsNone cell_bytes (is_cell kinds.Int) bytes
-no_int bytes short (values.Int n) x h = omega (arith, ap length h.1, length-append (int_key n) x)
-no_int bytes short (values.Text t) x h = true≢false (sym h.0)
-
-pub no_text : (bytes : List ℕ) → BeginsNone text_spelling is_text bytes → BeginsNone cell_bytes (is_cell kinds.Text) bytes
-no_text bytes none (values.Int n) x h = true≢false (sym h.0)
-no_text bytes none (values.Text t) x h = none t x h
-
 pub no_cells : (columns : List Column) (id : ℕ) (rest bytes : List ℕ) → id < 2 ^ 32 → bytes ≡ to_le_bytes w32 id ++ rest → BeginsNone (flat_map cell_bytes) (are_cells columns) rest → BeginsNone row_bytes (is_row columns) bytes
 no_cells columns id rest bytes fits is none r x h =
     let rule = row_rule columns r h.0 in
@@ -62,9 +54,6 @@ pub record AreRead (columns left : List Column) (bytes : List ℕ) (items : List
   pub back : (more : List Value) → IsTrue (are_cells left more) → IsTrue (are_cells columns (items ++ more))
   pub goes_on : (vs : List Value) (x : List ℕ) → IsTrue (are_cells columns vs) → bytes ≡ flat_map cell_bytes vs ++ x
       → (more : List Value) × (vs ≡ items ++ more) × IsTrue (are_cells left more) × (rest ≡ flat_map cell_bytes more ++ x)
-
-pub none_read : (columns : List Column) (bytes : List ℕ) → AreRead columns columns bytes [] bytes
-none_read columns bytes = record { front = refl; back = λ more h. h; goes_on = λ vs x h is. (vs, refl, h, is) }
 
 -- values for a column and others begin with one for it
 next_cell : (c : Column) (cs : List Column) (more : List Value) (x rest : List ℕ) → IsTrue (are_cells (c ∷ cs) more) → rest ≡ flat_map cell_bytes more ++ x
@@ -101,28 +90,12 @@ all_read columns bytes items rest so_far = (ap (are_cells columns) (sym (append-
 
 -- ---- parts
 
-pub no_span : (bytes : List ℕ) → length bytes < 16 → BeginsNone part_bytes is_part bytes
-no_span bytes short p x h = omega (arith, ap length (part_parts p x bytes h.1))
-
-pub no_live : (f l r : ℕ) (rest bytes : List ℕ) → f < 2 ^ 32 → l < 2 ^ 64 → r < 2 ^ 32 → bytes ≡ to_le_bytes w32 f ++ (to_le_bytes w64 l ++ (to_le_bytes w32 r ++ rest))
-    → ((marks : List Bool) (x : List ℕ) → length marks ≡ r → rest ≡ mark_bytes marks ++ x → ⊥) → BeginsNone part_bytes is_part bytes
-no_live f l r rest bytes hf hl hr is none p x h =
-    let rule = part_rule p h.0 in
-    let one = one_span f l r p.first p.length p.rows rest (mark_bytes p.live ++ x) hf hl hr rule.0 rule.1 rule.2 (sym is ∙ part_parts p x bytes h.1) in
-    none p.live x (rule.3 ∙ sym one.2) one.3
-
-pub many_parts : (count : ℕ) (rest bytes : List ℕ) → bytes ≡ count ∷ rest → 8 < count → BeginsNone parts_bytes are_parts bytes
-many_parts count rest bytes is many ps x h = omega (arith, ap first (sym is ∙ h.1), (parts_rule ps h.0).0)
-
 pub no_parts : (count : ℕ) (rest bytes : List ℕ) → bytes ≡ count ∷ rest
     → ((ps : List PartRef) (x : List ℕ) → length ps ≡ count → IsTrue (list_all is_part ps) → rest ≡ flat_map part_bytes ps ++ x → ⊥) → BeginsNone parts_bytes are_parts bytes
 no_parts count rest bytes is none ps x h =
     let same = sym is ∙ h.1 in none ps x (sym (ap first same)) (parts_rule ps h.0).1 (ap others same)
 
 -- ---- tables
-
-pub no_head : (bytes : List ℕ) → BeginsNone head_bytes is_head bytes → BeginsNone drawn_bytes is_drawn bytes
-no_head bytes none d x h = let s = split d x bytes h in none d.table _ (s.head, s.is)
 
 pub parts_fail : (t : Table) (rest bytes : List ℕ) → Begins head_bytes is_head bytes t rest → BeginsNone parts_bytes are_parts rest → BeginsNone drawn_bytes is_drawn bytes
 parts_fail t rest bytes head none d x h =

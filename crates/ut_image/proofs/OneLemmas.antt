@@ -33,9 +33,6 @@ one_u64 m n x y hm hn same =
 
 -- ---- values and rows
 
-wrong_kind : {A : Type 0} (b : Bool) → IsTrue (false && b) → A
-wrong_kind b h = absurd (true≢false (sym h))
-
 pub one_cell : (kind : Kind) → BeginsOnce cell_bytes (is_cell kind)
 one_cell kinds.Int (values.Int m) (values.Int n) x y bytes h g =
     let parts = same_front (int_key m) (int_key n) x y refl (sym h.1 ∙ g.1) in

@@ -10,8 +10,6 @@ mod marks;
 mod put;
 mod read;
 mod tables;
-#[cfg(test)]
-mod tests;
 mod write;
 
 pub use drawn::{Drawn, PartRef};

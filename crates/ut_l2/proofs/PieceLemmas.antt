@@ -38,7 +38,3 @@ cut-back n now old new rest rows f e long same cut = cut ∙ sym (take-append-le
 -- columns that are the same one by one
 pub same-columns : (old new : List (List (List ℕ))) → length new ≡ length old → ((j : ℕ) → j < length old → get_or new j [] ≡ get_or old j []) → new ≡ old
 same-columns old new n each = ext_get_or [] new old n (λ j lt. each j (omega (arith, lt, n)))
-
--- nothing is to come
-pub all-there : {R : Type 0} (now goal : List (List ℕ)) (rest : List R) (f : R → List ℕ) → length rest ≡ 0 → now ++ map f rest ≡ goal → now ≡ goal
-all-there now goal rest f none e = sym (append-nil now) ∙ ap (λ l. now ++ map f l) (sym (nil-length rest none)) ∙ e

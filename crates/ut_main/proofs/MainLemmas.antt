@@ -134,15 +134,6 @@ module _ (main : MainValue) (j n : ℕ) (chain : Chain) (wide : j < main.width) 
         omega (arith, size, sum, rows, few, more-rows);
   }
 
-pub dicts-all : (main : MainValue) (j n : ℕ) (chain : Chain) → length main.parts ≤ n → AreDicts main j n chain → AreDicts main j (length main.parts) chain
-dicts-all main j n chain le h =
-    let parts : take n main.parts ≡ take (length main.parts) main.parts = take_all n main.parts le ∙ sym (take_all (length main.parts) main.parts (omega arith)) in
-    record {
-      is = h.is ∙ ap (λ (l : List (List KeyRow)). get_or (dicts_of (replicate main.width []) l) j []) parts;
-      distinct = h.distinct;
-      few = subst (λ (l : List (List KeyRow)). length (end_to_end chain) ≤ rows_in (record { width = main.width; parts = l })) parts h.few;
-    }
-
 pub first-all : (main : MainValue) (n : ℕ) → length main.parts ≤ n → first_parts n main ≡ main
 first-all main n le = λ i. record { width = main.width; parts = take_all n main.parts le i }
 

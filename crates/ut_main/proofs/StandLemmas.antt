@@ -27,12 +27,6 @@ pub record IsReadTo (columns : List Column) (main : MainValue) (rows : ℕ) (byt
   pub spelled : bytes ≡ flat_map column_bytes read ++ rest
   pub agrees : (cs : List ColumnValue) → MayBeColumns columns main rows cs → bytes ≡ flat_map column_bytes cs → rest ≡ flat_map column_bytes (drop j cs)
 
-pub read-none : (columns : List Column) (main : MainValue) (rows : ℕ) (bytes : List ℕ) (read : List ColumnValue) → read ≡ [] → IsReadTo columns main rows bytes 0 read bytes
-read-none columns main rows bytes read e = record {
-  count = ap length e;
-  each = λ k lt. absurd (omega (arith, lt));
-  spelled = ap (λ (l : List ColumnValue). flat_map column_bytes l ++ bytes) (sym e);
-  agrees = λ cs may is. is;
 }
 
 module _ (columns : List Column) (main : MainValue) (rows : ℕ) (bytes : List ℕ) (j : ℕ) (read : List ColumnValue) (rest : List ℕ) (wide : length columns ≡ main.width) (h : IsReadTo columns main rows bytes j read rest) where

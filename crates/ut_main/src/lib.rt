@@ -16,6 +16,3 @@ pub use column::CodedColumn;
 pub use laws::part_laws;
 pub use part::Part;
 pub use parts::Main;
-
-#[cfg(test)]
-mod tests;

@@ -22,6 +22,3 @@ pub use built::{Built, Parts};
 pub use job::Job;
 pub use keep::Keep;
 pub use old::Old;
-
-#[cfg(test)]
-mod tests;

@@ -33,10 +33,6 @@ fit_first s f fs fit = let some : 0 < length (f ∷ fs) = omega arith in fit.eac
 pub fit_rest : (s : Staged) (f : Found) (fs : List Found) → Fit s (f ∷ fs) → Fit s fs
 fit_rest s f fs fit = record { each = λ k d h. let more : suc k < length (f ∷ fs) = omega arith in fit.each (suc k) d more }
 
--- the row at a place of the list
-pub fit_at : (s : Staged) (fs : List Found) (k : ℕ) (f : Found) → Fit s fs → k < length fs → IsTrue (is_row s.columns (row_at s (get_or fs k f).place))
-fit_at s fs k f fit h = fit.each k f h
-
 -- ---- whole rows
 
 fits-length : (columns : List Column) (values : List Value) → IsTrue (fits_columns columns values) → length values ≡ length columns

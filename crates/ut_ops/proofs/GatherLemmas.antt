@@ -139,9 +139,6 @@ within-weaker m n g le h = record { low = lower m n g.sum le h.low; high = highe
 pub few-weaker : (m n : ℕ) (gs : List group.Group) → m ≤ n → AreFew m gs → AreFew n gs
 few-weaker m n gs le h = record { count = omega (arith, le, h.count); small = All-weaker (IsWithin m) (IsWithin n) (λ g. within-weaker m n g le) gs h.small }
 
-pub few-none : AreFew 0 []
-few-none = record { count = omega arith; small = All-nil (IsWithin 0) }
-
 -- a number of 64 bits
 pub record IsNumber (x : ℤ) : Type 0 where
   pub low : neg_ℤ (pos 9223372036854775808) ≤ℤ x

@@ -110,21 +110,6 @@ own_dict-is dict earlier cells up to from =
     (λ k h. union-in k (news earlier cells) [] (inl (to k h)))
     (λ k h. elim (in-union k (news earlier cells) [] h) [ inl a ↦ from k a | inr b ↦ absurd b ])
 
--- So the used keys of two ascending dictionaries, united, are the own dictionary where those are just the new keys.
-pub merged-own : (a b earlier cells : List (List ℕ)) (ua ub : List Bool) → Ascends (used b ub) → ((k : List ℕ) → In k (used a ua) ⊎ In k (used b ub) → In k (news earlier cells))
-    → ((k : List ℕ) → In k (news earlier cells) → In k (used a ua) ⊎ In k (used b ub)) → union (used a ua) (used b ub) ≡ own_dict earlier cells
-merged-own a b earlier cells ua ub up to from =
-    own_dict-is (union (used a ua) (used b ub)) earlier cells (Ascends-union (used a ua) (used b ub) up)
-    (λ k h. to k (in-union k (used a ua) (used b ub) h))
-    (λ k h. union-in k (used a ua) (used b ub) (from k h))
-
--- the order of the rows doesn't matter for it
-pub own_dict-order : (earlier cells others : List (List ℕ)) → ((k : List ℕ) → In k (news earlier cells) → In k (news earlier others)) → ((k : List ℕ) → In k (news earlier others) → In k (news earlier cells)) → own_dict earlier cells ≡ own_dict earlier others
-own_dict-order earlier cells others to from =
-    own_dict-is (own_dict earlier cells) earlier others (Ascends-union (news earlier cells) [] tt)
-    (λ k h. elim (in-union k (news earlier cells) [] h) [ inl a ↦ to k a | inr b ↦ absurd b ])
-    (λ k h. union-in k (news earlier cells) [] (inl (from k h)))
-
 -- ---- codes
 
 -- Codes by a map that keeps the keys of the codes that stand there mean the same.

@@ -239,9 +239,6 @@ pub absent-more : (chain : List (List (List ℕ))) (i : ℕ) (key : List ℕ) �
 absent-more chain i key lt front next h =
     elim (Contains-append_cases (end_to_end (take i chain)) (get_or chain i []) key (subst (λ l. Contains l key) (end_to_end-more chain i lt) h)) [ inl in_front ↦ front in_front | inr in_next ↦ next in_next ]
 
-pub absent-all : (chain : List (List (List ℕ))) (i : ℕ) (key : List ℕ) → length chain ≤ i → (Contains (end_to_end (take i chain)) key → ⊥) → Contains (end_to_end chain) key → ⊥
-absent-all chain i key le front h = front (subst (λ l. Contains (end_to_end l) key) (sym (take_all i chain le)) h)
-
 -- a key that a dictionary holds, among all
 pub slice_get-end_to_end : (chain : List (List (List ℕ))) (i place : ℕ) (key : List ℕ) → i < length chain → slice_get (get_or chain i []) place ≡ Some key → slice_get (end_to_end chain) (length (end_to_end (take i chain)) + place) ≡ Some key
 slice_get-end_to_end chain i place key lt found =

@@ -68,18 +68,6 @@ equal_less e = cc
 pub greater_less : Greater ≡ Less → ⊥
 greater_less e = cc
 
--- no key from an equal one on is below it
-pub not_less_from : (keys : List (List ℕ)) (key : List ℕ) (place i : ℕ) → IsAscending keys → get_or keys place [] ≡ key → place ≤ i → i < length keys → key_cmp (get_or keys i []) key ≡ Less → ⊥
-not_less_from keys key place i up same le within less =
-    elim (cases_lt place i) [
-      | inl lt ↦
-          let above : key_cmp (get_or keys i []) (get_or keys place []) ≡ Greater = turned (get_or keys place []) (get_or keys i []) (up place i lt within) in
-          greater_less (sym above ∙ ap (λ (l : List ℕ). key_cmp (get_or keys i []) l) same ∙ less)
-      | inr ge ↦
-          let e : place ≡ i = omega arith in
-          equal_less (sym (tied_itself nat_list_cmp_total key) ∙ ap (λ (l : List ℕ). key_cmp l key) (sym same) ∙ ap (λ (k : ℕ). key_cmp (get_or keys k []) key) e ∙ less)
-    ]
-
 -- what holds of either answer
 pub either : {P : Type 0} (b : Bool) → (b ≡ true → P) → (b ≡ false → P) → P
 either true f g = f refl

@@ -137,16 +137,6 @@ pub length-starts_of : (m at : ℕ) (keys : List (List ℕ)) → length (starts_
 length-starts_of zero at keys = refl
 length-starts_of (suc m) at keys = ap suc (length-starts_of m (at + length (block_bytes (take 16 keys))) (drop 16 keys))
 
--- one more byte that two keys share, or none
-pub shared-same : (xs ys : List ℕ) (i : ℕ) → i < length xs → i < length ys → get_or xs i 0 ≡ get_or ys i 0 → shared (drop i xs) (drop i ys) ≡ suc (shared (drop (i + 1) xs) (drop (i + 1) ys))
-shared-same xs ys i p q e =
-    rw (drop-cons xs i 0 p, drop-cons ys i 0 q, eq-eqb (get_or xs i 0) (get_or ys i 0) e, add-one i) refl
-
-pub shared-other : (xs ys : List ℕ) (i : ℕ) → i < length xs → i < length ys → (get_or xs i 0 ≡ get_or ys i 0 → ⊥) → shared (drop i xs) (drop i ys) ≡ 0
-shared-other xs ys i p q e =
-    rw (drop-cons xs i 0 p, drop-cons ys i 0 q)
-    (either (nat_eq (get_or xs i 0) (get_or ys i 0)) (λ yes. absurd (e (eqb-true (get_or xs i 0) (get_or ys i 0) yes))) (λ other. rw other refl))
-
 pub shared-end : (xs ys : List ℕ) (i : ℕ) → min (length xs) (length ys) ≤ i → shared (drop i xs) (drop i ys) ≡ 0
 shared-end xs ys i le =
     let rest = shared_le (drop i xs) (drop i ys) in

@@ -53,6 +53,3 @@ module _ (starts : List ℕ) (i left start : ℕ) (bytes : List ℕ) (done all :
             (λ j. k j ++ keys_of (drop (i + 1) starts) (less j) bytes) ∙ append_assoc done (block_keys (min 16 left) (drop start bytes)) (keys_of (drop (i + 1) starts) (left - 16) bytes)
             ∙ ap (λ l. done ++ keys_of l left bytes) (sym here) ∙ h.rest;
       }
-
-pub walk-end : (starts : List ℕ) (i left : ℕ) (bytes : List ℕ) (done all : List (List ℕ)) → length starts ≤ i → IsWalked starts i left bytes done all → done ≡ all
-walk-end starts i left bytes done all le h = sym (append-nil done) ∙ ap (λ l. done ++ keys_of l left bytes) (sym (drop_all i starts le)) ∙ h.rest

@@ -213,17 +213,6 @@ module _ (t : Drawn) (part : PartRef) (others : List PartRef) (main : MainValue)
             );
       }
 
-pub main_done : (t : Drawn) (main : MainValue) (old new : Reader) (v0 v1 : View) → MainSoFar t [] main old new v0 v1 → FoundMain t main old new v0
-main_done t main old new v0 v1 so =
-    let all : t.parts ≡ so.done = so.split ∙ append-nil so.done in
-    record {
-      reaches = so.reaches;
-      stands = λ told. record { width = so.width; parts = subst (λ (l : List PartRef). StandParts t.table.columns (no_parts (length t.table.columns)) l main.parts new.pages.reached v0.seen.pages) (sym all) (so.stand told) };
-      fits = record { width = so.width; parts = subst (λ (l : List PartRef). PartsFit IsAnywhere t.table.columns (no_parts (length t.table.columns)) l main.parts) (sym all) so.fits };
-      count = λ told. so.count told ∙ ap (λ (l : List PartRef). length old.pages.reached + part_pages l) (sym all);
-      live = so.live ∙ ap (λ (l : List PartRef). old.live.items ++ live_in_parts l main.parts) (sym all);
-    }
-
 -- ---- the parts of all tables so far
 
 zip_push : (Stands : Chain → Type 0) (ts : List Drawn) (ms : List MainValue) (t : Drawn) (m : MainValue) → AllZip (MainFits Stands) ts ms → MainFits Stands t m → AllZip (MainFits Stands) (ts ++ t ∷ []) (ms ++ m ∷ [])
@@ -318,17 +307,6 @@ module _ (tables : List Drawn) (t : Drawn) (others : List Drawn) (mains : List M
             let same : n.0 ≡ main = one_main t n.0 main reached new'.pages.reached v0.seen.pages n.3 (stands told) in
             (n.1, n.2 ∙ ap (λ (m : MainValue). mains ++ m ∷ n.1) same ∙ sym (append_assoc mains (main ∷ []) n.1), n.4);
       }
-
-pub mains_done : (tables : List Drawn) (mains : List MainValue) (old new : Reader) (v0 v1 : View) → MainsSoFar tables [] mains old new v0 v1 → FoundMains tables mains old new v0
-mains_done tables mains old new v0 v1 so =
-    let all : tables ≡ so.done = so.split ∙ append-nil so.done in
-    record {
-      reaches = so.reaches;
-      stands = λ told. subst (λ (l : List Drawn). AllZip (StandsMain new.pages.reached v0.seen.pages) l mains) (sym all) (so.stand told);
-      fits = subst (λ (l : List Drawn). AllZip (MainFits IsAnywhere) l mains) (sym all) so.fits;
-      count = λ told. so.count told ∙ ap (λ (l : List Drawn). length old.pages.reached + all_part_pages l) (sym all);
-      live = so.live ∙ ap (λ (l : List Drawn). old.live.items ++ live_in_mains l mains) (sym all);
-    }
 
 -- ---- the ids of live rows
 

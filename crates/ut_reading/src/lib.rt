@@ -5,8 +5,6 @@ mod ids;
 mod image;
 mod laws;
 mod parts;
-#[cfg(test)]
-mod tests;
 
 pub use image::{Image, read_image};
 pub use laws::reading_laws;

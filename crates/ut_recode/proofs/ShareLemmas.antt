@@ -10,9 +10,6 @@ use Rattle.ut_recode.specs.Recode.{with_staying, HaveEntries, IsBelow}
 use Rattle.ut_own.specs.Own.{recoded}
 use Rattle.ut_recode.specs.Spans.{span}
 
-pub span-none : {X : Type 0} (from : ℕ) (xs : List X) → span from from xs ≡ []
-span-none from xs = let e : from - from ≡ 0 = omega arith in ap (λ (k : ℕ). take k (drop from xs)) e
-
 pub span-all : {X : Type 0} (to : ℕ) (xs : List X) → to ≡ length xs → span 0 to xs ≡ xs
 span-all to xs e = take_all (to - 0) xs (omega (arith, e))
 
@@ -57,11 +54,6 @@ share_more entries codes out next part k p pos h q e =
     e ∙ ap (λ l. l ++ part) h ∙ ap (λ l. recoded entries (span 0 (k * length codes / p) codes) ++ l) q
     ∙ sym (map-append (λ x. unwrap_or (get_or entries x None) 0) (span 0 (k * length codes / p) codes) (span (k * length codes / p) ((k + 1) * length codes / p) codes))
     ∙ ap (λ l. recoded entries l) (span-append 0 (k * length codes / p) ((k + 1) * length codes / p) codes (omega arith) (share_up k (length codes) p pos))
-
-pub no_shares : (entries : List (Option ℕ)) (codes out : List ℕ) (p : ℕ) → out ≡ [] → out ≡ recoded entries (span 0 (0 * length codes / p) codes)
-no_shares entries codes out p e =
-    let n : 0 * length codes / p ≡ 0 = ap (λ (k : ℕ). k / p) (zero-mul (length codes)) ∙ zero-div p in
-    e ∙ ap (λ l. recoded entries l) (sym (ap (λ (k : ℕ). span 0 k codes) n ∙ span-none 0 codes))
 
 pub all_shares : (entries : List (Option ℕ)) (codes out : List ℕ) (k p : ℕ) → 0 < p → k ≡ p → out ≡ recoded entries (span 0 (k * length codes / p) codes) → out ≡ recoded entries codes
 all_shares entries codes out k p pos e h =

@@ -60,9 +60,6 @@ digits_cmp p c d u v hu hv = nat_cmp_is (c * p + u) (d * p + v) _ (by (nat_cmp c
     by Equal Equal h g = omega (arith, ap (λ n. n * p) h)
     by Equal Greater h g = omega (arith, ap (λ n. n * p) h)
 
-pub packed-none : (keys : List ℕ) → ((i : ℕ) → get_or keys i 0 ≡ 0) → ArePacked [] keys
-packed-none keys none a b la lb = λ i. nat_cmp (none a i) (none b i)
-
 pub packed-more : (lists : List (List ℕ)) (codes old new : List ℕ) (radix : ℕ) → ((i : ℕ) → get_or codes i 0 < radix) → length new ≡ length old
     → ((i : ℕ) → i < length old → get_or new i 0 ≡ get_or old i 0 * radix + get_or codes i 0) → ArePacked lists old → ArePacked (lists ++ codes ∷ []) new
 packed-more lists codes old new radix small long each h a b la lb =

@@ -6,8 +6,6 @@ mod cut;
 mod directory;
 mod planning;
 mod savepoint;
-#[cfg(test)]
-mod tests;
 
 pub use captured::{CapturedPart, CapturedTable};
 pub use cut::PageWrite;

@@ -14,11 +14,6 @@ use Rattle.ut_scan.specs.Probes.{is_seen, AreSeenAs}
 use Rattle.ut_scan.specs.StampLists.{no_stamp}
 use Rattle.ut_scan.proofs.RangeLemmas.{filter-both, filter-none}
 
--- where all stamps agree a row is seen as one of them is
-pub seen-as : (v : Viewer) (stamps : List Stamp) (stamp : Stamp) (seen : Bool) → stamps ≡ replicate (length stamps) stamp → seen ≡ sees v.fates.now v.snapshot v.own stamp → AreSeenAs v stamps seen
-seen-as v stamps stamp seen agree is = λ i lt.
-    ap (λ (s : Stamp). sees v.fates.now v.snapshot v.own s) (ap (λ (l : List Stamp). get_or l i no_stamp) agree ∙ get_or-replicate (length stamps) i stamp no_stamp lt) ∙ sym is
-
 pub both-false : (b c : Bool) → c ≡ false → (b && c) ≡ false
 both-false true c e = e
 both-false false c e = refl

@@ -64,10 +64,6 @@ range-within a (suc n) =
     All-cons (λ i. i < a + suc n) a (range_with_len (a + 1) n) (omega arith)
     (All-weaker (λ i. i < a + 1 + n) (λ i. i < a + suc n) (λ i lt. omega (arith, lt)) (range_with_len (a + 1) n) (range-within (a + 1) n))
 
--- places that pass a test are places
-pub filter-within : (t : ℕ → Bool) (n : ℕ) → All (λ i. i < n) (filter t (range_with_len 0 n))
-filter-within t n = All-filter t (λ i. i < n) (range_with_len 0 n) (All-weaker (λ i. i < 0 + n) (λ i. i < n) (λ i lt. omega (arith, lt)) (range_with_len 0 n) (range-within 0 n))
-
 -- ---- the code of a key
 
 or-false : (t : Bool) → (t || false) ≡ t

@@ -31,29 +31,7 @@ ended-append (b ∷ xs) ys = more_by (nat_eq b 10) (ended_lines (xs ++ ys)) (end
 
 -- ---- asking
 
-pub asks_none : (old : Reading) (before taken : Option (List ℕ)) (asks : Option (List Ask)) → AsksFew old before taken asks asks
-asks_none old None taken asks = tt
-asks_none old (Some before) None asks = tt
-asks_none old (Some before) (Some taken) None = tt
-asks_none old (Some before) (Some taken) (Some asks) = record { more = []; is = ap (λ (xs : List Ask). Some xs) (sym (append-nil asks)); needed = tt }
-
--- the source is asked once, where nothing is held
-pub asks_once : (E : Type 0) (old : Reading) (before taken : Option (List ℕ)) (asks : Option (List Ask)) (count : ℕ) (now : Option (List Ask)) → old.held ≡ [] → NotesAsk {E = E} before taken asks (Ok count) now → AsksFew old before taken asks now
-asks_once E old None taken asks count now none notes = tt
-asks_once E old (Some before) None asks count now none notes = tt
-asks_once E old (Some before) (Some taken) None count now none notes = tt
-asks_once E old (Some before) (Some taken) (Some asks) count now none notes = record {
-  more = record { left = length before; taken = length taken } ∷ [];
-  is = notes;
-  needed = (record { took = []; after = before; parts = refl; left = refl; at_sink = refl; no_line = ap has_no_feed (ap (λ (xs : List ℕ). xs ++ []) none) }, tt);
 }
-
--- it fails, and that isn't noted
-pub asks_failed : (E : Type 0) (old : Reading) (before taken : Option (List ℕ)) (asks : Option (List Ask)) (e : E) (now : Option (List Ask)) → NotesAsk {E = E} before taken asks (Err e) now → AsksFew old before taken asks now
-asks_failed E old None taken asks e now notes = tt
-asks_failed E old (Some before) None asks e now notes = tt
-asks_failed E old (Some before) (Some taken) None e now notes = tt
-asks_failed E old (Some before) (Some taken) (Some asks) e now notes = record { more = []; is = notes ∙ ap (λ (xs : List Ask). Some xs) (sym (append-nil asks)); needed = tt }
 
 -- ---- what is held then
 
@@ -151,8 +129,3 @@ steps_last E r0 (Some before) old mid filled now left part fills is_held =
       parts = part.parts ∙ ap (λ (xs : List ℕ). old.line ++ xs) f.same ∙ ap (λ (xs : List ℕ). old.line ++ (xs ++ f.after)) (sym is_held);
       one = omega (arith, none_ends old.line part.no_feed);
     }
-
--- a reader that fills, where no line may be handed out
-pub steps_none : (E : Type 0) (some : Bool) (old : Reading) (start : Option (List ℕ)) (new : Reading) (left : Option (List ℕ)) → Fills {E = E} old start (Ok some) new left → StepsLine old start new left
-steps_none E some old None new left fills = tt
-steps_none E some old (Some before) new left fills = record { piece = []; after = fills.after; is_left = fills.is_left; parts = fills.same; one = omega arith }

@@ -10,13 +10,6 @@ use Rattle.ut_value.specs.declared.value.Value.{Value}
 use Rattle.ut_script.specs.Literals.{name_of, value_of}
 use Rattle.ut_script.specs.Conditions.{operator_of, comparison_of, comparison_with, comparisons_of, conditions_of, onto_comparisons}
 
--- fewer than three words are no comparison
-pub comparisons-few : (words : List (List ℕ)) → length words < 3 → comparisons_of words ≡ None
-comparisons-few [] h = refl
-comparisons-few (a ∷ []) h = refl
-comparisons-few (a ∷ b ∷ []) h = refl
-comparisons-few (a ∷ b ∷ c ∷ words) h = absurd (omega arith)
-
 onto_some : (p : Option Pred) (ps : Option (List Pred)) → is_some p ≡ true → is_some (onto_comparisons p ps) ≡ is_some ps
 onto_some None ps h = cc
 onto_some (Some p) None h = refl
@@ -26,22 +19,9 @@ onto_none : (p : Option Pred) (ps : Option (List Pred)) → is_some p ≡ false 
 onto_none None ps h = refl
 onto_none (Some p) ps h = cc
 
--- the last comparison
-pub comparisons-last : (c op v : List ℕ) → is_some (comparison_of c op v) ≡ true → is_some (comparisons_of (c ∷ op ∷ v ∷ [])) ≡ true
-comparisons-last c op v h = onto_some (comparison_of c op v) (Some []) h
-
 stopped : (t : Bool) (p : Option Pred) (ps : Option (List Pred)) → is_some p ≡ false → is_some (cond t (onto_comparisons p ps) None) ≡ false
 stopped true p ps h = onto_none p ps h
 stopped false p ps h = refl
-
--- three words that are no comparison
-pub comparisons-stop : (c op v : List ℕ) (words : List (List ℕ)) → is_some (comparison_of c op v) ≡ false → is_some (comparisons_of (c ∷ op ∷ v ∷ words)) ≡ false
-comparisons-stop c op v [] h = onto_none (comparison_of c op v) (Some []) h
-comparisons-stop c op v (joint ∷ words) h = stopped (same_bytes joint (codes "and")) (comparison_of c op v) (comparisons_of words) h
-
--- a word that isn't `and`
-pub comparisons-joint : (c op v joint : List ℕ) (words : List (List ℕ)) → same_bytes joint (codes "and") ≡ false → is_some (comparisons_of (c ∷ op ∷ v ∷ joint ∷ words)) ≡ false
-comparisons-joint c op v joint words h = ap (λ (t : Bool). is_some (cond t (onto_comparisons (comparison_of c op v) (comparisons_of words)) None)) h
 
 -- one more comparison
 pub comparisons-next : (c op v joint : List ℕ) (words : List (List ℕ)) → is_some (comparison_of c op v) ≡ true → same_bytes joint (codes "and") ≡ true
@@ -52,22 +32,6 @@ comparisons-next c op v joint words h k =
 first_some : (front : List Pred) (p : Option Pred) (ps : Option (List Pred)) → is_some (option_map (λ l. front ++ l) (onto_comparisons p ps)) ≡ true → is_some p ≡ true
 first_some front None ps h = cc
 first_some front (Some p) ps h = refl
-
-first_by : (front : List Pred) (t : Bool) (p : Option Pred) (ps : Option (List Pred)) → is_some (option_map (λ l. front ++ l) (cond t (onto_comparisons p ps) None)) ≡ true → is_some p ≡ true
-first_by front true p ps h = first_some front p ps h
-first_by front false p ps h = cc
-
--- where the whole is there, so is its first part
-pub preds-first : (front : List Pred) (c op v : List ℕ) (words : List (List ℕ)) (whole : Option (List Pred)) → is_some whole ≡ true
-    → option_map (λ l. front ++ l) (comparisons_of (c ∷ op ∷ v ∷ words)) ≡ whole → is_some (comparison_of c op v) ≡ true
-preds-first front c op v [] whole h e = first_some front (comparison_of c op v) (Some []) (ap (λ (o : Option (List Pred)). is_some o) e ∙ h)
-preds-first front c op v (joint ∷ words) whole h e =
-    first_by front (same_bytes joint (codes "and")) (comparison_of c op v) (comparisons_of words) (ap (λ (o : Option (List Pred)). is_some o) e ∙ h)
-
--- the last comparison ends the whole
-pub preds-last : (front : List Pred) (c op v : List ℕ) (p : Pred) (whole : Option (List Pred)) → comparison_of c op v ≡ Some p
-    → option_map (λ l. front ++ l) (comparisons_of (c ∷ op ∷ v ∷ [])) ≡ whole → whole ≡ Some (front ++ p ∷ [])
-preds-last front c op v p whole h e = sym e ∙ ap (λ (o : Option Pred). option_map (λ l. front ++ l) (onto_comparisons o (Some []))) h
 
 moved : (front : List Pred) (p : Pred) (o : Option (List Pred)) → option_map (λ l. (front ++ p ∷ []) ++ l) o ≡ option_map (λ l. front ++ l) (option_map (λ l. p ∷ l) o)
 moved front p None = refl
@@ -84,13 +48,6 @@ pub preds-next : (front : List Pred) (c op v joint : List ℕ) (words : List (Li
 preds-next front c op v joint words p whole some h e =
     next_by front (same_bytes joint (codes "and")) p (comparisons_of words) whole some
     (ap (λ (o : Option Pred). option_map (λ l. front ++ l) (cond (same_bytes joint (codes "and")) (onto_comparisons o (comparisons_of words)) None)) (sym h) ∙ e)
-
--- where fewer than three words are left, the whole isn't there
-pub preds-few : (front : List Pred) (words : List (List ℕ)) (whole : Option (List Pred)) → is_some whole ≡ true → length words < 3 → option_map (λ l. front ++ l) (comparisons_of words) ≡ whole → ⊥
-preds-few front words whole some h e =
-    let none = ap (λ (o : Option (List Pred)). is_some (option_map (λ l. front ++ l) o)) (comparisons-few words h) in
-    let is = ap (λ (o : Option (List Pred)). is_some o) e in
-    cc
 
 named : (t : Bool) (front name : List ℕ) (op : Cmp) (value : Value) → cond t (Some front) None ≡ Some name
     → let P = λ (n : List ℕ). (let p : Pred = record { column = n; op = op; value = value } in p) in cond t (Some (P front)) None ≡ Some (P name)

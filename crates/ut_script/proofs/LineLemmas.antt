@@ -95,11 +95,6 @@ past_limit E old (Some before) new left e fills h =
       taken = ap (λ (t : Bool). (t && has_line (lines_of (old.held ++ before))) || is_long (lines_of (old.held ++ before))) le ∙ ap (λ (t : Bool). t || is_long (lines_of (old.held ++ before))) has;
     }
 
--- no line is left where no more may be handed out
-pub past_end : (E : Type 0) (old : Reading) (start : Option (List ℕ)) (new : Reading) (left : Option (List ℕ)) → Fills {E = E} old start (Ok false) new left → NextLine old start (Ok false) new left
-past_end E old None new left fills = tt
-past_end E old (Some before) new left fills = record { after = fills.after; is_left = fills.is_left; taken = record { none = ap lines_of fills.none.0; end = fills.none.1 } }
-
 -- the source failed
 pub unread : {E : Type 0} (r0 : Reading) (start : Option (List ℕ)) (old : Reading) (mid : Option (List ℕ)) (e : E) (new now : Reading) (left : Option (List ℕ)) → ReadsLine r0 start old mid → Fills old mid (Err e) new left → NextLine r0 start (Err Read) now left
 unread r0 None old mid e new now left part fills = tt

@@ -55,12 +55,6 @@ pub fits-doubled : (n b : ℕ) (rest : List ℕ) (pending : Bool) → pending �
 fits-doubled n b rest false p h = cc
 fits-doubled n b rest true p h = fits_all n 39 (unquoted false rest) refl ∙ ap (λ (m : ℕ). option_map (fits n) (unquoted true (m ∷ rest))) (sym h)
 
--- the first quote of two, or the last
-pub fits-opened : (n b : ℕ) (rest : List ℕ) (pending : Bool) → pending ≡ false → b ≡ 39
-    → option_map (fits n) (unquoted true rest) ≡ option_map (fits n) (unquoted pending (b ∷ rest))
-fits-opened n b rest true p h = cc
-fits-opened n b rest false p h = ap (λ (m : ℕ). option_map (fits n) (unquoted false (m ∷ rest))) (sym h)
-
 -- a byte behind the last quote
 pub fits-behind : (n b : ℕ) (rest : List ℕ) (pending : Bool) → pending ≡ true → nat_eq b 39 ≡ false
     → unwrap_or (option_map (fits n) (unquoted pending (b ∷ rest))) false ≡ false
@@ -102,11 +96,6 @@ pub unquoted-opened : (front : List ℕ) (b : ℕ) (rest : List ℕ) (pending : 
     → option_map (λ t. front ++ t) (unquoted true rest) ≡ option_map (λ t. front ++ t) (unquoted pending (b ∷ rest))
 unquoted-opened front b rest true p h = cc
 unquoted-opened front b rest false p h = ap (λ (n : ℕ). option_map (λ x. front ++ x) (unquoted false (n ∷ rest))) (sym h)
-
--- the end of the bytes
-pub unquoted-end : (front : List ℕ) (pending : Bool) (whole : Option (List ℕ)) → is_some whole ≡ true → option_map (λ t. front ++ t) (unquoted pending []) ≡ whole → whole ≡ Some front
-unquoted-end front true whole some e = sym e ∙ ap (λ t. Some t) (append-nil front)
-unquoted-end front false whole some e = let none = ap is_some e in cc
 
 -- a text literal has bytes
 pub unquoted-text : (bytes : List ℕ) → is_some (text_of bytes) ≡ true → is_some (unquoted false bytes) ≡ true

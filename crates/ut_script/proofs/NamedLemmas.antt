@@ -131,11 +131,6 @@ merge_named : (words : List (List ℕ)) → Named (grammar.merge_of words)
 merge_named [] = named_none
 merge_named (verb ∷ words) = named_cond (same_bytes verb (codes "l1")) _ _ (merge_l1_named words) (named_cond (same_bytes verb (codes "begin")) _ _ (merge_begin_named words) named_none)
 
-shape_named : (words : List (List ℕ)) → Named (grammar.shape_of words)
-shape_named [] = named_none
-shape_named (a ∷ []) = named_cond (is_name a) _ _ (named_some (statements.Shape a) refl) named_none
-shape_named (a ∷ b ∷ words) = named_none
-
 stated : {E : Type 0} (r : Result (Option Statement) E) (o : Option Statement) → Named o → Reads r o → ReadsStatement r o
 stated (Ok read) o named h = h
 stated (Err e) o named h = named h
@@ -146,9 +141,6 @@ stated-table r verb words h = stated r (grammar.table_statement_of verb words) (
 
 pub stated-merge : {E : Type 0} (r : Result (Option Statement) E) (words : List (List ℕ)) → Reads r (grammar.merge_of words) → ReadsStatement r (grammar.merge_of words)
 stated-merge r words h = stated r (grammar.merge_of words) (merge_named words) h
-
-pub stated-shape : {E : Type 0} (r : Result (Option Statement) E) (words : List (List ℕ)) → Reads r (grammar.shape_of words) → ReadsStatement r (grammar.shape_of words)
-stated-shape r words h = stated r (grammar.shape_of words) (shape_named words) h
 
 -- a line of a session may lack memory where its statement needs it
 pub lacks_memory : (session : ℕ) (o : Option Statement) → needs_memory o ≡ true → MayLackMemory session (said_by session o)

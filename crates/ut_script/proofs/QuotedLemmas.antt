@@ -41,23 +41,3 @@ pub unquoted-rest : (xs : List ℕ) → IsFirstByte (is_byte 39) xs None → pie
 unquoted-rest xs h =
     let p : length xs ≡ length xs + 0 = omega arith in
     no-quote xs (λ k lt e. h k (omega arith) lt e) ∙ p ∙ ap (λ (ys : List ℕ). length xs + piece_len false ys) (sym (drop_all (length xs) xs (omega arith)))
-
--- outside of quotes
-other-step : (b : ℕ) (xs : List ℕ) → nat_eq b 32 ≡ false → nat_eq b 39 ≡ false → piece_len false (b ∷ xs) ≡ suc (piece_len false xs)
-other-step b xs h g = by (nat_eq b 32) (nat_eq b 39) h g
-  where
-    by : (t q : Bool) → t ≡ false → q ≡ false → cond (t && not false) 0 (suc (piece_len (cond q (not false) false) xs)) ≡ suc (piece_len false xs)
-    by true q h g = cc
-    by false true h g = cc
-    by false false h g = refl
-
--- a space ends the piece
-pub at-space : (bytes : List ℕ) (at b : ℕ) → at < length bytes → b ≡ get_or bytes at 0 → b ≡ 32 → piece_len false (drop at bytes) ≡ 0
-at-space bytes at b lt is e = ap (λ (xs : List ℕ). piece_len false xs) (next_byte bytes at lt) ∙ ap (λ (x : ℕ). piece_len false (x ∷ drop (at + 1) bytes)) (sym is ∙ e)
-
-pub at-other : (bytes : List ℕ) (at b : ℕ) → at < length bytes → b ≡ get_or bytes at 0 → nat_eq b 32 ≡ false → nat_eq b 39 ≡ false → piece_len false (drop at bytes) ≡ suc (piece_len false (drop (at + 1) bytes))
-at-other bytes at b lt is h g =
-    ap (λ (xs : List ℕ). piece_len false xs) (next_byte bytes at lt) ∙ ap (λ (x : ℕ). piece_len false (x ∷ drop (at + 1) bytes)) (sym is) ∙ other-step b (drop (at + 1) bytes) h g
-
-pub at-quote : (bytes : List ℕ) (at b : ℕ) → at < length bytes → b ≡ get_or bytes at 0 → b ≡ 39 → piece_len false (drop at bytes) ≡ suc (piece_len true (drop (at + 1) bytes))
-at-quote bytes at b lt is e = ap (λ (xs : List ℕ). piece_len false xs) (next_byte bytes at lt) ∙ ap (λ (x : ℕ). piece_len false (x ∷ drop (at + 1) bytes)) (sym is ∙ e)

@@ -10,38 +10,13 @@ use Rattle.ut_value.specs.declared.value.Column.{Column}
 use Rattle.ut_script.specs.Words.{all_of}
 use Rattle.ut_script.specs.Literals.{name_of, kind_of, colon_at, column_of, column_with}
 
-counted_with : {A : Type 0} (n : ℕ) (x : Option A) (xs : Option (List A)) → is_some x ≡ true
-    → option_map (λ m. n + 1 + m) (option_map length xs) ≡ option_map (λ m. n + m) (option_map length (option_and_then (λ y. option_map (λ ys. y ∷ ys) xs) x))
-counted_with n None xs h = cc
-counted_with n (Some x) None h = refl
-counted_with n (Some x) (Some xs) h = ap (λ (m : ℕ). Some m) (more n (length xs))
-  where
-    more : (n m : ℕ) → n + 1 + m ≡ n + suc m
-    more n m = omega arith
-
--- one more word
-pub count-next : {A : Type 0} (read : List ℕ → Option A) (n : ℕ) (word : List ℕ) (words : List (List ℕ)) → is_some (read word) ≡ true
-    → option_map (λ m. n + 1 + m) (option_map length (all_of read words)) ≡ option_map (λ m. n + m) (option_map length (all_of read (word ∷ words)))
-count-next read n word words h = counted_with n (read word) (all_of read words) h
-
 stopped : {A B : Type 0} (n : ℕ) (x : Option A) (f : A → Option (List B)) → is_some x ≡ false → option_map (λ m. n + m) (option_map length (option_and_then f x)) ≡ None
 stopped n None f h = refl
 stopped n (Some x) f h = cc
 
--- a word that spells nothing
-pub count-stop : {A : Type 0} (read : List ℕ → Option A) (n : ℕ) (word : List ℕ) (words : List (List ℕ)) → is_some (read word) ≡ false
-    → option_map (λ m. n + m) (option_map length (all_of read (word ∷ words))) ≡ None
-count-stop read n word words h = stopped n (read word) (λ y. option_map (λ ys. y ∷ ys) (all_of read words)) h
-
 moved : {A : Type 0} (front : List A) (v : A) (o : Option (List A)) → option_map (λ vs. (front ++ v ∷ []) ++ vs) o ≡ option_map (λ vs. front ++ vs) (option_map (λ vs. v ∷ vs) o)
 moved front v None = refl
 moved front v (Some vs) = ap (λ l. Some l) (append_assoc front (v ∷ []) vs)
-
--- one more thing
-pub items-next : {A : Type 0} (read : List ℕ → Option A) (front : List A) (word : List ℕ) (words : List (List ℕ)) (v : A) → read word ≡ Some v
-    → option_map (λ vs. (front ++ v ∷ []) ++ vs) (all_of read words) ≡ option_map (λ vs. front ++ vs) (all_of read (word ∷ words))
-items-next {A} read front word words v h =
-    moved front v (all_of read words) ∙ ap (λ (o : Option A). option_map (λ vs. front ++ vs) (option_and_then (λ x. option_map (λ vs. x ∷ vs) (all_of read words)) o)) (sym h)
 
 first_some : {A : Type 0} (front : List A) (x : Option A) (f : A → Option (List A)) → is_some (option_map (λ vs. front ++ vs) (option_and_then f x)) ≡ true → is_some x ≡ true
 first_some front None f h = cc
@@ -51,21 +26,10 @@ is_some-mapped : {A B : Type 0} (f : A → B) (o : Option A) → is_some (option
 is_some-mapped f None = refl
 is_some-mapped f (Some x) = refl
 
--- where the whole is there, so is its first part
-pub items-first : {A : Type 0} (read : List ℕ → Option A) (front : List A) (word : List ℕ) (words : List (List ℕ)) (whole : Option (List A)) (count : ℕ) → option_map length whole ≡ Some count
-    → option_map (λ vs. front ++ vs) (all_of read (word ∷ words)) ≡ whole → is_some (read word) ≡ true
-items-first {A} read front word words whole count h e =
-    first_some front (read word) (λ x. option_map (λ vs. x ∷ vs) (all_of read words)) (ap (λ (o : Option (List A)). is_some o) e ∙ sym (is_some-mapped length whole) ∙ ap (λ (o : Option ℕ). is_some o) h)
-
 room_by : {A : Type 0} (front : List A) (x : Option A) (xs : Option (List A)) (count : ℕ) → option_map length (option_map (λ vs. front ++ vs) (option_and_then (λ y. option_map (λ ys. y ∷ ys) xs) x)) ≡ Some count → length front + 1 ≤ count
 room_by front None xs count h = cc
 room_by front (Some x) None count h = cc
 room_by front (Some x) (Some xs) count h = let e : length (front ++ x ∷ xs) ≡ count = cc in omega (arith, length-append front (x ∷ xs), e)
-
--- there is room for one more
-pub items-room : {A : Type 0} (read : List ℕ → Option A) (front : List A) (word : List ℕ) (words : List (List ℕ)) (whole : Option (List A)) (count : ℕ) → option_map length whole ≡ Some count
-    → option_map (λ vs. front ++ vs) (all_of read (word ∷ words)) ≡ whole → length front + 1 ≤ count
-items-room {A} read front word words whole count h e = room_by front (read word) (all_of read words) count (ap (λ (o : Option (List A)). option_map length o) e ∙ h)
 
 named : (t : Bool) (front name : List ℕ) (kind : Kind) → cond t (Some front) None ≡ Some name → let R = λ (n : List ℕ). (let c : Column = record { name = n; kind = kind } in c) in cond t (Some (R front)) None ≡ Some (R name)
 named true front name kind h = ap (λ (o : Option (List ℕ)). option_map (λ n. (let c : Column = record { name = n; kind = kind } in c)) o) h

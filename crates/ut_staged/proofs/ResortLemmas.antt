@@ -63,7 +63,3 @@ HaveOwnIds (p ∷ ps) = ((q : Placed) → In q ps → p.id ≢ q.id) × HaveOwnI
 differ : (columns : List ℕ) (places : List Placed) → HaveOwnIds places → Differ (λ a b. is_lt (place_cmp columns a b)) places
 differ columns [] h = tt
 differ columns (p ∷ ps) h = ((λ q there. one_first columns p q (h.0 q there)), differ columns ps h.1)
-
-pub resorted-is : (places ys : List Placed) → HaveOwnIds places → AreInOrder (λ a b. is_lt (place_cmp (column_order places) a b)) ys → ((x : Placed) → In x ys → In x places) → ((x : Placed) → In x places → In x ys) → ys ≡ resorted places
-resorted-is places ys own ordered to from =
-    in_order-is (λ a b. is_lt (place_cmp (column_order places) a b)) (never (column_order places)) (trans (column_order places)) places ys (differ (column_order places) places own) ordered to from

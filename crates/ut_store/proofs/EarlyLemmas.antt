@@ -66,11 +66,6 @@ full e session st small served none h = record {
       refusal-is e p session st small served s ∙ (λ i. or_else (none i) (or_else (unless (h p s i) refusals.Full) (option_map refusals.Conflict (conflict (view p session) st))));
 }
 
-pub conflicting : (e : Held) (session : ℕ) (st : Statement) (id : ℕ) → session < 17 → is_save st ≡ false → early_refusal e session st ≡ None → ((p : Plain) → StandsFor e p → has_room (view p session) st ≡ true)
-    → ((p : Plain) → StandsFor e p → conflict (view p session) st ≡ Some id) → IsRefused e session st (Some (refusals.Conflict id))
-conflicting e session st id small served none room h = record {
-  is = λ p s.
-      refusal-is e p session st small served s ∙ (λ i. or_else (none i) (or_else (unless (room p s i) refusals.Full) (option_map refusals.Conflict (h p s i))));
 }
 
 pub allowed : (e : Held) (session : ℕ) (st : Statement) → session < 17 → is_save st ≡ false → early_refusal e session st ≡ None → ((p : Plain) → StandsFor e p → has_room (view p session) st ≡ true)

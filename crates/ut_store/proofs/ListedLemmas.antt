@@ -93,9 +93,6 @@ lists_some e name n s rows st at is h = record { each = λ p stands. by p stands
         (λ i. Some (rows_same e n s rows is i)) ∙ (λ i. Some (map row_of (sym is_found i))) ∙ (λ i. Some (map row_of (all i)))
         ∙ ap (option_map (λ (k : ℕ). map row_of (table_rows k (finmap.entries (current p.journal).rows)))) (sym placed)
 
-pub lists_none : (e : Held) (name : List ℕ) → place_of e.tables name ≡ None → Lists e name None
-lists_none e name at = record { each = λ p s. ap (option_map (λ n. map row_of (table_rows n (finmap.entries (current p.journal).rows)))) (sym (ap (λ (ts : List Table). place_of ts name) (sym s.counts.tables) ∙ at)) }
-
 pub lists_rows : (e : Held) (name : List ℕ) (n : ℕ) (s : Staged) (found : List Found) (rows : List Row) → Stands e → place_of e.tables name ≡ Some n → slice_get e.staged n ≡ Some s
     → Hits e 0 (place_in e.tables name) (meets (columns_in e.tables name) []) (hits_of found) → rows ≡ map (row_in s) found → Lists e name (Some rows)
 lists_rows e name n s found rows st at is h are = subst (λ (x : List Row). Lists e name (Some x)) (sym are) (lists_some e name n s found st at is h)

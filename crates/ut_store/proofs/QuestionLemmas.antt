@@ -110,11 +110,6 @@ asked_right e session left c right d scanned looked s hits items small st h one 
     shows_here e session right scanned looked [] s hits items small st
     (known_there e.tables (λ cs. has_column cs d) right (and_right (known (λ cs. has_column cs c) (columns_of e.tables left)) (known (λ cs. has_column cs d) (columns_of e.tables right)) (named e session (Ask (Join left c right d)) h))) one two are is found
 
-pub right_there : (e : Held) (session : ℕ) (left c right d looked : List ℕ) → early_refusal e session (Ask (Join left c right d)) ≡ None → looked ≡ right → IsTrue (has_table e.tables looked)
-right_there e session left c right d looked h is =
-    subst (λ x. IsTrue (has_table e.tables x)) (sym is)
-    (known_there e.tables (λ cs. has_column cs d) right (and_right (known (λ cs. has_column cs c) (columns_of e.tables left)) (known (λ cs. has_column cs d) (columns_of e.tables right)) (named e session (Ask (Join left c right d)) h)))
-
 -- numbers are summed
 pub summed : (e : Held) (session : ℕ) (name column : List ℕ) (preds : List Pred) (s : Staged) (hits : List Found) (asked : List ℕ) → early_refusal e session (Ask (Sum name column preds)) ≡ None → Shows e session name preds s hits → asked ≡ column
     → IsTrue (is_int (kind_in s.columns asked))

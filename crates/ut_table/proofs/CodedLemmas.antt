@@ -86,13 +86,6 @@ no-keys zero j = refl
 no-keys (suc width) zero = refl
 no-keys (suc width) (suc j) = no-keys width j
 
-pub no-codes : (main : MainValue) (j : ℕ) → length main.parts ≡ 0 → 0 ≡ length (keys_in main j)
-no-codes main j e = by main.parts e
-  where
-    by : (parts : List (List KeyRow)) → length parts ≡ 0 → 0 ≡ length (end_to_end (get_or (dicts_of (replicate main.width []) parts) j []))
-    by [] e = sym (ap (λ (c : Chain). length (end_to_end c)) (no-keys main.width j))
-    by (r ∷ rs) e = absurd (omega (arith, e))
-
 -- the keys of no parts, and of one part more
 pub keys-none : (main : MainValue) (j : ℕ) → [] ≡ keys_first main j 0
 keys-none main j = sym (ap (λ (c : Chain). end_to_end c) (no-keys main.width j))
@@ -107,10 +100,6 @@ keys-next main p j part old own new there wide rows before_is so_far own_is is =
 
 pub keys-all : (main : MainValue) (p j : ℕ) → length main.parts ≤ p → keys_first main j p ≡ keys_in main j
 keys-all main p j le = ap (λ (m : MainValue). keys_in m j) (first-all main p le)
-
--- the keys of the last part are those of main
-pub last-codes : (main : MainValue) (p j : ℕ) → p + 1 ≡ length main.parts → keys_in (first_parts (p + 1) main) j ≡ keys_in main j
-last-codes main p j e = ap (λ (m : MainValue). keys_in m j) (first-all main (p + 1) (omega (arith, e)))
 
 -- ---- lists end to end
 

@@ -27,18 +27,6 @@ use Rattle.ut_table.specs.Finds.{SeenOnce}
 use Rattle.ut_table.specs.Numbered.{AreNumbered, IsAtRest}
 use Rattle.ut_table.specs.Pending.{key_row, job_of}
 
-pub seen-once : (next : ℕ) (s : Staged) → AreNumbered next s → (fates : List Fate) (snapshot : ℕ) (own : Option ℕ) → SeenOnce s fates snapshot own
-seen-once next s h fates snapshot own = record { each = λ p q a b at_p at_q seen_a seen_b same. h.once p q a b at_p at_q same }
-
-pub rest-new : (next : ℕ) (columns : List Column) (s : Staged) → s ≡ no_rows columns → 0 < next → IsAtRest next s
-rest-new next columns s is lt = subst (IsAtRest next) (sym is) (record { numbered = record { below = λ p row e. absurd (none p row e); once = λ p q a b e f same. absurd (none p a e); few = omega (arith, lt) }; idle = refl; unclosed = refl })
-  where
-    none : (p : Place) (row : StagedRow) → row_at (no_rows columns) p ≡ Some row → ⊥
-    none (L1 i) row e = none-some row e
-    none (L2 i) row e = none-some row e
-    none (Closed i) row e = none-some row e
-    none (Main p i) row e = none-some row e
-
 -- one row more, under the next id
 module _ (row : StagedRow) (s new : Staged) (p : Place) (pushed : Pushed (place_at (s ∷ [])) (place_at (new ∷ [])) 0 p row) (h : AreNumbered row.id s) (count : count_of new ≡ count_of s + 1) where
   numbered-pushed : AreNumbered (row.id + 1) new

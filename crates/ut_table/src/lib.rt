@@ -16,6 +16,3 @@ mod standing;
 mod table;
 
 pub use table::Table;
-
-#[cfg(test)]
-mod tests;

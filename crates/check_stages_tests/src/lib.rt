@@ -1,0 +1,5 @@
+//! Checks of where rows stand behind merges, by worked examples.
+#![tactic(auto)]
+
+#[cfg(test)]
+mod merges;
