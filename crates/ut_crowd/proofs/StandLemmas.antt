@@ -172,8 +172,6 @@ stands_jobless g queues book name name' was now old new job before st reply t e 
     stands_merged g queues book name name' was now old new job st t of spelled (turn_is 0 (Store st) before reply t old new now e f)
     (subst (λ (r : Reply). Comes old was (Good 0 st) (Some 0) r new now) (sym (reply_is 0 (Store st) before reply t new now e)) comes) same up only counts s
 
-}
-
 -- there was no line to take
 pub stands_same : (g : Ground) (queues left : List (List (List ℕ))) (book : List Turn) (name : GName) (now : View) (store : Logged) (job : Option JobValue) (session : ℕ) → TakesNone queues session left → StandsOn g queues book name now store job → StandsOn g left book name now store job
 stands_same g queues left book name now store job session none s = record {

@@ -27,8 +27,6 @@ pub record IsReadTo (columns : List Column) (main : MainValue) (rows : ℕ) (byt
   pub spelled : bytes ≡ flat_map column_bytes read ++ rest
   pub agrees : (cs : List ColumnValue) → MayBeColumns columns main rows cs → bytes ≡ flat_map column_bytes cs → rest ≡ flat_map column_bytes (drop j cs)
 
-}
-
 module _ (columns : List Column) (main : MainValue) (rows : ℕ) (bytes : List ℕ) (j : ℕ) (read : List ColumnValue) (rest : List ℕ) (wide : length columns ≡ main.width) (h : IsReadTo columns main rows bytes j read rest) where
   -- the next column of whatever columns the bytes spell
   pub read-next : (cs : List ColumnValue) → j < main.width → MayBeColumns columns main rows cs → bytes ≡ flat_map column_bytes cs → rest ≡ column_bytes (get_or cs j no_column) ++ flat_map column_bytes (drop (j + 1) cs)

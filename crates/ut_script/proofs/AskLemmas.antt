@@ -29,10 +29,6 @@ pub ended-append : (xs ys : List ℕ) → ended_lines (xs ++ ys) ≡ ended_lines
 ended-append [] ys = omega arith
 ended-append (b ∷ xs) ys = more_by (nat_eq b 10) (ended_lines (xs ++ ys)) (ended_lines xs) (ended_lines ys) (ended-append xs ys)
 
--- ---- asking
-
-}
-
 -- ---- what is held then
 
 pub drop_none : (xs : List ℕ) → drop 0 xs ≡ xs

@@ -66,8 +66,6 @@ full e session st small served none h = record {
       refusal-is e p session st small served s ∙ (λ i. or_else (none i) (or_else (unless (h p s i) refusals.Full) (option_map refusals.Conflict (conflict (view p session) st))));
 }
 
-}
-
 pub allowed : (e : Held) (session : ℕ) (st : Statement) → session < 17 → is_save st ≡ false → early_refusal e session st ≡ None → ((p : Plain) → StandsFor e p → has_room (view p session) st ≡ true)
     → ((p : Plain) → StandsFor e p → conflict (view p session) st ≡ None) → IsRefused e session st None
 allowed e session st small served none room h = record {
