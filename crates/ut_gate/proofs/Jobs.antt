@@ -1,5 +1,5 @@
 -- What acts keep of a job, for those who write acts.
-use Rattle.std.proofs.Common.{◌≡◌, refl, sym, Some, None}
+use Rattle.std.proofs.Common.{refl, sym, Some, None}
 use Rattle.std.specs.Prelude.{Option}
 use Rattle.ut_gate.specs.Turns.{MeetsJob, KeepsJob}
 

@@ -5,6 +5,7 @@ ghost use Rattle.ut_gate.specs.Tells.{newcomer};
 ghost use Rattle.ut_gate.specs.Steps.{IsAt};
 ghost use Rattle.ut_gate.specs.Passes.{Turn, Apart, fresh, slip_of};
 
+use crate::bells::Bells;
 use crate::held::{Act, Held};
 use crate::pass::{Pass, PassList};
 use crate::rule::{Line, One, Place, Room};
@@ -19,6 +20,7 @@ use std::sync::Wait;
 #[derive(Drop)]
 pub struct Gate<E: Held> {
     table: Room<E>,
+    bells: Bells,
 }
 
 impl<E: Held> Model for Gate<E> {
@@ -55,11 +57,14 @@ impl<E: Held> Gate<E> {
         let Ok(mut slots) = Vec::with_capacity(alloc, 1) else {
             return Err(Back { value });
         };
+        let Ok(bells) = Bells::new(alloc) else {
+            return Err(Back { value });
+        };
         slots.push_reserved(Some(Home { value, turns: 0 }));
         match Room::<E>::new(alloc, &[0, 0], slots, &()) {
             Ok((table, seat)) => {
                 let passes = deal(&table.shared, seat, passes, seats);
-                Ok((Gate { table }, PassList::of(passes)))
+                Ok((Gate { table, bells }, PassList::of(passes)))
             }
             Err(refused) => {
                 let Refused { mut slots } = refused;
@@ -81,10 +86,10 @@ impl<E: Held> Gate<E> {
     {
         let line = &self.table.shared;
         let Pass { seat, slip } = pass;
-        enter(line, rt, seat);
+        enter(line, &self.bells, rt, seat);
         let mut home = take(line, seat);
         let answer = act.run(&mut home.value, slip);
-        leave(line, seat, home);
+        leave(line, &self.bells, seat, home);
         answer
     }
 
@@ -96,7 +101,7 @@ impl<E: Held> Gate<E> {
         ensures seen { All (λ p. IsPrefix p.seen (E.book result)) passes }
         ensures apart { Apart passes }
     {
-        let Gate { table } = self;
+        let Gate { table, bells } = self;
         let line = &table.shared;
         let mut rest = passes;
         let Some(first) = rest.pop() else {
@@ -106,7 +111,7 @@ impl<E: Held> Gate<E> {
         while let Some(pass) = rest.pop() {
             line.join_seat::<One>(&mut seat, pass.into_seat());
         }
-        enter(line, rt, &mut seat);
+        enter(line, &bells, rt, &mut seat);
         take(line, &mut seat).value
     }
 }

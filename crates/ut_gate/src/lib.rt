@@ -1,6 +1,7 @@
 //! A ticket gate: one value that threads share, changed by one act at a time, with one history.
 #![tactic(auto)]
 
+mod bells;
 mod gate;
 mod held;
 mod pass;

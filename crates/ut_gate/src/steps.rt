@@ -5,6 +5,7 @@ ghost use Rattle.ut_gate.specs.Tells.{view_after, ticket_of, book_of, job_of};
 ghost use Rattle.ut_gate.specs.Steps.{IsAt, IsIdle, HasTurn, HasValue, HasTurnAt};
 ghost use Rattle.ut_gate.specs.Turns.{AddsOne, MayChange};
 
+use crate::bells::Bells;
 use crate::held::Held;
 use crate::rule::{Draw, Leave, Line, Look, Place};
 use crate::view::Home;
@@ -19,7 +20,7 @@ const SERVING: usize = 1;
 const LOOKS_AWAKE: u32 = 64;
 
 /// Draws a ticket, and waits for its turn.
-pub(crate) fn enter<E: Held, R: Wait>(line: &Line<E>, rt: &R, seat: &mut Place<E>)
+pub(crate) fn enter<E: Held, R: Wait>(line: &Line<E>, bells: &Bells, rt: &R, seat: &mut Place<E>)
     requires own { IsAt line.now.table_id seat.old }
     requires idle { IsIdle seat.old }
     ensures own { IsAt line.now.table_id seat.new }
@@ -29,25 +30,20 @@ pub(crate) fn enter<E: Held, R: Wait>(line: &Line<E>, rt: &R, seat: &mut Place<E
     let ticket = line.fetch_add::<Draw>(seat, TICKET, 1);
     let mut looks = 0;
     for _ in rt.forever() {
-        let serving = line.load::<Look>(seat, SERVING);
-        if serving == ticket {
+        // It hears its bell before it looks, and the bell is rung behind the end of a turn: so
+        // it either sees that turn's end, or sleeps no longer than to that ring.
+        let heard = bells.rings(ticket);
+        if line.load::<Look>(seat, SERVING) == ticket {
             return;
         }
-        pause(line, rt, looks, serving);
-        looks = LOOKS_AWAKE.min(looks + 1);
+        if looks < LOOKS_AWAKE {
+            hint::spin_loop();
+            looks += 1;
+        } else {
+            bells.sleep(rt, ticket, heard);
+        }
     }
     unreachable!()
-}
-
-// Lets some time go by. It sleeps only while the same ticket is served, and until a turn ends.
-fn pause<E: Held, R: Wait>(line: &Line<E>, rt: &R, looks: u32, serving: u64)
-    requires { line.now.table_id.words ≡ 2 }
-{
-    if looks < LOOKS_AWAKE {
-        hint::spin_loop();
-    } else {
-        line.park(rt, SERVING, (serving & 0xffff_ffff) as u32);
-    }
 }
 
 /// Takes the value out at a turn.
@@ -65,7 +61,7 @@ pub(crate) fn take<E: Held>(line: &Line<E>, seat: &mut Place<E>) -> Home<E>
 }
 
 /// Puts the value back with one turn more, and lets the next have its turn.
-pub(crate) fn leave<E: Held>(line: &Line<E>, seat: &mut Place<E>, home: Home<E>)
+pub(crate) fn leave<E: Held>(line: &Line<E>, bells: &Bells, seat: &mut Place<E>, home: Home<E>)
     requires own { IsAt line.now.table_id seat.old }
     requires turn { HasTurnAt seat.old.me }
     requires turns { home.turns ≡ word_of (ticket_of seat.old.me.0.stage) }
@@ -81,14 +77,14 @@ pub(crate) fn leave<E: Held>(line: &Line<E>, seat: &mut Place<E>, home: Home<E>)
         unreachable!()
     }
     let served = line.fetch_add::<Leave>(seat, SERVING, 1);
-    wake_next(line, served);
+    wake_next(line, bells, served.wrapping_add(1));
 }
 
-// Wakes those that sleep, if some pass is in the line.
-fn wake_next<E: Held>(line: &Line<E>, served: u64)
+// Wakes the pass with the next ticket, if that is drawn. Who draws it from here on finds that it is served.
+fn wake_next<E: Held>(line: &Line<E>, bells: &Bells, next: u64)
     requires { line.now.table_id.words ≡ 2 }
 {
-    if line.peek(TICKET) != served.wrapping_add(1) {
-        line.wake_all(SERVING);
+    if line.peek(TICKET) != next {
+        bells.ring(next);
     }
 }
