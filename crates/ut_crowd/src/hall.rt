@@ -49,6 +49,8 @@ pub(crate) struct Hall<'d, D: Disk, O: Opening> {
     pub job: Option<Job>,
     /// How many entries the journal had at the last begin of a savepoint, or at the opening.
     pub saved: u32,
+    /// Whether a savepoint waits for the end of the merge that is pending.
+    pub save_waits: bool,
     /// There was no memory for a turn.
     pub stopped: bool,
     pub of: PhantomData<O>,
@@ -95,6 +97,7 @@ pub(crate) fn hall_of<'d, D: Disk, O: Opening>(
         book,
         job: None,
         saved: journal,
+        save_waits: false,
         stopped: false,
         of: PhantomData,
     })

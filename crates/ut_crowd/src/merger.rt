@@ -101,7 +101,7 @@ enum Ripe {
 
 impl<'d, D: Disk, O: Opening> Hall<'d, D, O> {
     /// A merge of the first table that has so many rows in its first stage, or else in its second; of the latter the job is handed
-    /// out.
+    /// out. None into main begins while a savepoint waits for its turn.
     pub fn take_job(&mut self, l1: u32) -> (Kept, Option<Job>)
         requires range { (1 ≤ l1) × (l1 ≤ 1048576) }
         requires stands { StandsOn O.ground self.old.queues.items self.old.book.items self.old.engine.loan (D.view self.old.engine.disk) self.old.engine.store self.old.job }
@@ -123,6 +123,7 @@ impl<'d, D: Disk, O: Opening> Hall<'d, D, O> {
                     Err(_) => (Kept::Over, None),
                 }
             }
+            Some(Ripe::Second(_)) if self.save_waits => (Kept::Idle, None),
             Some(Ripe::Second(place)) => self.begin_merge(place),
         }
     }

@@ -189,6 +189,7 @@ fn apart<'d, D: Disk, O: Opening>(hall: Hall<'d, D, O>) -> Over<'d, D>
         book,
         job: _,
         saved: _,
+        save_waits: _,
         stopped,
         of: _,
     } = hall;
@@ -210,6 +211,7 @@ fn engine_of<'d, D: Disk, O: Opening>(hall: Hall<'d, D, O>) -> Engine<'d, D>
         book: _,
         job: _,
         saved: _,
+        save_waits: _,
         stopped: _,
         of: _,
     } = hall;

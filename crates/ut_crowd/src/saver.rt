@@ -54,11 +54,30 @@ impl<'d, D: Disk, O: Opening> Hall<'d, D, O> {
         let Some(piece) = due_piece(progress, entries, self.saved) else {
             return Kept::Idle;
         };
-        let kept = self.ask(piece);
         if progress == Progress::Idle {
-            self.saved = entries;
+            return self.begin_save(entries, piece);
         }
-        kept
+        self.ask(piece)
+    }
+
+    // Begins a savepoint of so many entries, unless a merge is pending: of its rows, which stand in the delta that it closed,
+    // a savepoint would spell each, and of the part that it makes a savepoint behind it needs only the bytes.
+    fn begin_save(&mut self, entries: u32, begin: Statement) -> Kept
+        requires up { self.old.engine.store.down ≡ false }
+        requires stores { IsTrue (is_of_store begin) }
+        requires spelled { IsTrue (is_spelled begin) }
+        requires no_merge { is_of_merge begin ≡ false }
+        requires stands { StandsOn O.ground self.old.queues.items self.old.book.items self.old.engine.loan (D.view self.old.engine.disk) self.old.engine.store self.old.job }
+        ensures stands { StandsOn O.ground self.new.queues.items self.new.book.items self.new.engine.loan (D.view self.new.engine.disk) self.new.engine.store self.new.job }
+        ensures book { AddsOne self.old.book.items self.new.book.items }
+        ensures job { self.new.job ≡ self.old.job }
+    {
+        self.save_waits = self.job.is_some();
+        if self.save_waits {
+            return Kept::Idle;
+        }
+        self.saved = entries;
+        self.ask(begin)
     }
 }
 

@@ -1,13 +1,14 @@
 //! What an image comes to, before any entry behind it.
-ghost use Rattle.std.specs.Prelude.{IfOk};
+ghost use Rattle.std.specs.Prelude.{ℕ, ◌≡◌, IfOk, None};
 ghost use Rattle.ut_plain.specs.Capture.{Directory};
 ghost use Rattle.ut_plain.specs.State.{State};
 ghost use Rattle.ut_restart.specs.Began.{BeginsWith};
 ghost use Rattle.ut_restart.specs.Replayed.{IsFirst};
+ghost use Rattle.ut_restart.specs.Rows.{position_in};
 
 use crate::filling::fill_all;
 use crate::replay::Replay;
-use crate::rows::Rows;
+use crate::rows::{Position, Rows};
 use std::alloc::{AllocError, Global};
 use std::collections::HashMap;
 use ut_image::Drawn;
@@ -25,9 +26,10 @@ pub(crate) fn first(
     requires { (d : Directory) × (s : State) × BeginsWith root.now tables mains d s }
     ensures { IfOk result (IsFirst root.now tables mains) }
 {
+    let positions = positions_of(alloc, tables.as_slice(), mains.as_slice())?;
     let mut rows = Rows {
         stages: Vec::new(alloc),
-        positions: HashMap::new(alloc),
+        positions,
         next: root.next,
         load: 0,
     };
@@ -42,4 +44,25 @@ pub(crate) fn first(
         merges: root.merges,
         entries: root.length,
     })
+}
+
+// Room for where each row of an image stands, and none there yet.
+fn positions_of(
+    alloc: Global,
+    tables: &[Drawn],
+    mains: &[Main],
+) -> Result<HashMap<u32, Position>, AllocError>
+    ensures { IfOk result (λ positions. (id : ℕ) → position_in positions id ≡ None) }
+{
+    let mut places = 0usize;
+    for drawn in tables {
+        places = places.saturating_add(drawn.l2.as_slice().len());
+        places = places.saturating_add(drawn.l1.as_slice().len());
+    }
+    for main in mains {
+        for p in 0..main.parts() {
+            places = places.saturating_add(main.part(p).len() as usize);
+        }
+    }
+    HashMap::with_capacity(alloc, places)
 }
