@@ -18,18 +18,29 @@ pub trait Answers {
 
 impl Answers for Oracle {
     fn answer(&mut self, alloc: Global, line: &[u8], out: &mut Vec<u8>) -> Result<(), AllocError> {
-        let syntax = Reply::Refused(Refusal::Syntax);
-        match parse_line(alloc, line, false) {
-            Err(_) => Err(AllocError),
-            Ok(Parsed::Comment) => Ok(()),
-            Ok(Parsed::Stranger) => put_reply(out, None, &syntax),
-            Ok(Parsed::Bad(session)) => put_reply(out, Some(session), &syntax),
-            Ok(Parsed::Good(session, st)) => {
-                let reply = reply_to(self, alloc, session, &st)?;
-                put_reply(out, Some(session), &reply)
-            }
-        }
+        let (session, reply) = match read(alloc, line)? {
+            Parsed::Comment => return Ok(()),
+            Parsed::Stranger => (None, Reply::Refused(Refusal::Syntax)),
+            Parsed::Bad(session) => (Some(session), Reply::Refused(Refusal::Syntax)),
+            Parsed::Good(session, st) => (Some(session), reply_to(self, alloc, session, &st)?),
+        };
+        put(out, session, &reply)
     }
+}
+
+// What is called here promises nothing, so that the proof of what calls it is short.
+
+/// What a line says.
+fn read(alloc: Global, line: &[u8]) -> Result<Parsed, AllocError> {
+    match parse_line(alloc, line, false) {
+        Ok(parsed) => Ok(parsed),
+        Err(_) => Err(AllocError),
+    }
+}
+
+/// Puts the text of a reply at the end.
+fn put(out: &mut Vec<u8>, session: Option<u8>, reply: &Reply) -> Result<(), AllocError> {
+    put_reply(out, session, reply)
 }
 
 /// The reply to a statement. A statement that no line can spell doesn't come, and would be refused.
