@@ -18,17 +18,12 @@ pub trait Answers {
 
 impl Answers for Oracle {
     fn answer(&mut self, alloc: Global, line: &[u8], out: &mut Vec<u8>) -> Result<(), AllocError> {
-        let (session, reply) = match read(alloc, line)? {
-            Parsed::Comment => return Ok(()),
-            Parsed::Stranger => (None, Reply::Refused(Refusal::Syntax)),
-            Parsed::Bad(session) => (Some(session), Reply::Refused(Refusal::Syntax)),
-            Parsed::Good(session, st) => (Some(session), reply_to(self, alloc, session, &st)?),
-        };
-        put(out, session, &reply)
+        let parsed = read(alloc, line)?;
+        answer_parsed(self, alloc, &parsed, out)
     }
 }
 
-// What is called here promises nothing, so that the proof of what calls it is short.
+// The calls from here on promise nothing and hold one value each, so that the proofs of what calls them are short.
 
 /// What a line says.
 fn read(alloc: Global, line: &[u8]) -> Result<Parsed, AllocError> {
@@ -36,6 +31,36 @@ fn read(alloc: Global, line: &[u8]) -> Result<Parsed, AllocError> {
         Ok(parsed) => Ok(parsed),
         Err(_) => Err(AllocError),
     }
+}
+
+/// Puts the answer to what a line says at the end.
+fn answer_parsed(
+    store: &mut Oracle,
+    alloc: Global,
+    parsed: &Parsed,
+    out: &mut Vec<u8>,
+) -> Result<(), AllocError> {
+    match parsed {
+        Parsed::Comment => Ok(()),
+        Parsed::Stranger => refuse(out, None),
+        Parsed::Bad(session) => refuse(out, Some(*session)),
+        Parsed::Good(session, st) => answer_good(store, alloc, *session, st, out),
+    }
+}
+
+fn refuse(out: &mut Vec<u8>, session: Option<u8>) -> Result<(), AllocError> {
+    put(out, session, &Reply::Refused(Refusal::Syntax))
+}
+
+fn answer_good(
+    store: &mut Oracle,
+    alloc: Global,
+    session: u8,
+    st: &Statement,
+    out: &mut Vec<u8>,
+) -> Result<(), AllocError> {
+    let reply = reply_to(store, alloc, session, st)?;
+    put(out, Some(session), &reply)
 }
 
 /// Puts the text of a reply at the end.
