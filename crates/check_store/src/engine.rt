@@ -264,6 +264,60 @@ fn begins(
     Ok(job.number())
 }
 
+/// A table that isn't there is not merged.
+fn no_other_is_merged(
+    rt: &impl Abort,
+    alloc: Global,
+    engine: &mut Engine<'_, MemDisk>,
+) -> Result<(), Fail> {
+    let other = name(rt, alloc, b"t")?;
+    assert_eq!(rt; begins(rt, alloc, engine, &other), Err(BeginError::Name));
+    Ok(())
+}
+
+/// The table's merge begins once.
+fn it_begins_once(
+    rt: &impl Abort,
+    alloc: Global,
+    engine: &mut Engine<'_, MemDisk>,
+) -> Result<(), Fail> {
+    let table = name(rt, alloc, b"T")?;
+    assert_eq!(rt; begins(rt, alloc, engine, &table), Ok(1));
+    assert_eq!(rt; begins(rt, alloc, engine, &table), Err(BeginError::Busy(1)));
+    Ok(())
+}
+
+/// Whether the job of the first merge is had again.
+fn has_job(
+    rt: &impl Abort,
+    alloc: Global,
+    engine: &Engine<'_, MemDisk>,
+) -> Result<bool, AllocError> {
+    assert!(rt; !engine.down());
+    Ok(matches!(engine.merge_again(alloc)?, Some(job) if job.number() == 1))
+}
+
+/// The first merge is pending.
+fn it_is_pending(rt: &impl Abort, engine: &Engine<'_, MemDisk>) {
+    assert!(rt; matches!(engine.pending(), Some(head) if head.number == 1 && head.table == 0));
+    assert_eq!(rt; engine.merges(), 1);
+    assert_eq!(rt; engine.journal_len(), 4);
+}
+
+fn begin_merge(
+    rt: &impl Abort,
+    alloc: Global,
+    engine: &mut Engine<'_, MemDisk>,
+) -> Result<(), Fail> {
+    no_other_is_merged(rt, alloc, engine)?;
+    assert!(rt; engine.pending().is_none());
+    it_begins_once(rt, alloc, engine)?;
+    no_other_is_merged(rt, alloc, engine)?;
+    assert!(rt; has_job(rt, alloc, engine)?);
+    it_is_pending(rt, engine);
+    Ok(())
+}
+
 #[test]
 fn a_merge_begins_and_hands_out_its_job(rt: HostRuntime) -> Result<(), Fail> {
     let alloc = rt.alloc();
@@ -271,27 +325,7 @@ fn a_merge_begins_and_hands_out_its_job(rt: HostRuntime) -> Result<(), Fail> {
     let mut engine = made(alloc, &mut disk)?;
     fill(&rt, alloc, &mut engine)?;
     merge(&rt, alloc, &mut engine)?;
-    let table = name(&rt, alloc, b"T")?;
-    let other = name(&rt, alloc, b"t")?;
-    assert_eq!(rt;
-        begins(&rt, alloc, &mut engine, &other),
-        Err(BeginError::Name)
-    );
-    assert!(rt; engine.pending().is_none());
-    assert_eq!(rt; begins(&rt, alloc, &mut engine, &table), Ok(1));
-    assert_eq!(rt;
-        begins(&rt, alloc, &mut engine, &table),
-        Err(BeginError::Busy(1))
-    );
-    assert_eq!(rt;
-        begins(&rt, alloc, &mut engine, &other),
-        Err(BeginError::Name)
-    );
-    assert!(rt; !engine.down());
-    assert!(rt; matches!(engine.merge_again(alloc)?, Some(job) if job.number() == 1));
-    assert!(rt; matches!(engine.pending(), Some(head) if head.number == 1 && head.table == 0));
-    assert_eq!(rt; engine.merges(), 1);
-    assert_eq!(rt; engine.journal_len(), 4);
+    begin_merge(&rt, alloc, &mut engine)?;
     Ok(())
 }
 
