@@ -28,7 +28,7 @@ use Rattle.ut_pages.specs.Layout.{IsRead, IsRoot}
 use Rattle.ut_durable.specs.Rules.{IsImageRow, IsDelta, IsImageTable, IsDirectory, image_ids}
 use Rattle.ut_durable.specs.Bytes.{Chain, row_in, key_rows, main_of, part_ref, part_refs, live_marks, HoldsPart, HoldParts, drawn, drawn_all, HoldTables, Describes, pages_for, no_directory}
 use Rattle.ut_durable.specs.Images.{StandsIn, IsWithin, HasImage}
-use Rattle.ut_reading.specs.Standing.{part_of, all_part_pages, IsReached, IsAnywhere, PartFits, PartsFit, MainFits, StandsMain, live_in_mains, AreDrawnIn, StandsImage}
+use Rattle.ut_reading.specs.Standing.{part_of, all_part_pages, IsReached, IsAnywhere, PartFits, PartsFit, MainFits, live_in_mains, AreDrawnIn, StandsImage}
 use Rattle.ut_reading.specs.Reading.{mains_of, Show, Begins}
 use Rattle.ut_reading.proofs.ListLemmas.{all_places, all_each, all_first, all_last, all_both, all_map}
 use Rattle.ut_reading.proofs.PartLemmas.{rows_before, one_more}

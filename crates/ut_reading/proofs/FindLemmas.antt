@@ -1,7 +1,7 @@
 -- What a reading has found so far, and what is left of every image.
 use Rattle.std.proofs.Common.{◌≡◌, ⊎_elim, ℕ, zero, suc, ◌+◌, ◌<◌, ◌≤◌, Bool, true, false, cond, List, [], ◌∷◌, ◌++◌, length, map, drop, get_or, Err, refl, sym, ◌∙◌, ap, subst, arith, append_assoc, length-append}
 use Rattle.std.specs.Prelude.{Contains}
-use Rattle.std.specs.List.{AllByRecursion, AllZip, items_where_true, sum_by}
+use Rattle.std.specs.List.{AllByRecursion, AllZip, items_where_true}
 use Rattle.std.proofs.lemmas.List.Sums.{sum_by-cons, sum_by-append}
 use Rattle.std.specs.Result.{IsErrOf}
 use Rattle.std.proofs.lemmas.List.{append-nil}
@@ -23,7 +23,7 @@ use Rattle.ut_durable.specs.Bytes.{Chain, pages_for}
 use Rattle.ut_durable.specs.Images.{IsWithin}
 use Rattle.ut_reading.specs.declared.parts.Reader.{Reader}
 use Rattle.ut_reading.specs.Standing.{part_pages, all_part_pages, IsReached, IsAnywhere, PartFits, PartsFit, MainFits, part_of, with_part, no_parts, StandsPart, StandParts, StandsMain, live_in, live_in_parts, live_in_mains, ReachMore}
-use Rattle.ut_reading.specs.Found.{MayRead, Reaches, FoundPart, FoundMain, FoundMains}
+use Rattle.ut_reading.specs.Found.{MayRead, Reaches, FoundPart, FoundMain}
 use Rattle.ut_reading.proofs.OneLemmas.{one_part, one_main}
 
 -- ---- pages

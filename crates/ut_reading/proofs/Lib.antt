@@ -9,3 +9,4 @@ pub mod BaseLemmas
 pub mod StoreLemmas
 pub mod FindLemmas
 pub mod ImageLemmas
+pub mod DifferLemmas

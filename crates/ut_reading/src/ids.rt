@@ -1,12 +1,11 @@
 //! Whether the ids of all rows of an image are given ones, and no two equal.
-ghost use Rattle.std.specs.Prelude.{◌≡◌, ◌≢◌, ◌↔◌, ◌<◌, ◌≤◌, ◌++◌, IsTrue, IfOk, OnOk, nat_eq, map};
+ghost use Rattle.std.specs.Prelude.{◌≡◌, ◌≢◌, ◌↔◌, ◌<◌, ◌≤◌, ◌++◌, IsTrue, IfOk, OnOk, map};
 ghost use Rattle.std.specs.Bool.{Decides};
 ghost use Rattle.std.specs.List.{All, AllPairs};
-ghost use Rattle.std.specs.HashSet.{IsFromIterResult};
+ghost use Rattle.std.specs.List.Sorted.{IsStrictlyIncreasing};
 ghost use Rattle.ut_image.specs.Rules.{AreOwnIds, ids_of};
 
 use std::alloc::{AllocError, Global};
-use std::collections::HashSet;
 use ut_image::Drawn;
 use ut_value::Row;
 
@@ -47,15 +46,26 @@ fn are_within(ids: &[u32], next: u32) -> bool
     ids.iter().all(|id| *id >= 1 && *id < next)
 }
 
-fn set_of(alloc: Global, ids: &[u32]) -> Result<HashSet<u32>, AllocError>
-    ensures { IfOk result (IsFromIterResult nat_eq ids.now) }
+/// Whether each is greater than the one before it.
+fn is_ascending(ids: &[u32]) -> bool
+    ensures { Decides result (IsStrictlyIncreasing ids.now) }
 {
-    ids.iter().copied().collect(alloc)
+    for i in 1..ids.len() {
+        if ids[i] <= ids[i - 1] {
+            return false;
+        }
+    }
+    true
 }
 
+/// Whether no two are equal. They are ordered first, unless they ascend as they are.
 fn do_differ(alloc: Global, ids: &[u32]) -> Result<bool, AllocError>
     ensures { IfOk result (λ b. Decides b (AllPairs (λ a b. a ≢ b) ids.now)) }
 {
-    let set = set_of(alloc, ids)?;
-    Ok(set.len() == ids.len())
+    if is_ascending(ids) {
+        return Ok(true);
+    }
+    let mut ordered = Vec::from_slice(alloc, ids)?;
+    ordered.sort_unstable();
+    Ok(is_ascending(ordered.as_slice()))
 }
