@@ -1,10 +1,10 @@
 //! A session's turn: the answer to its next line.
-ghost use Rattle.std.specs.Prelude.{◌≡◌, ◌≢◌, false, IsTrue};
-ghost use Rattle.ut_crew.specs.declared.role.Went.TheVariants as wents;
+ghost use Rattle.std.specs.Prelude.{◌≡◌, false, IsTrue};
 ghost use Rattle.ut_gate.specs.Turns.{AddsOne};
 ghost use Rattle.ut_crowd.specs.Book.{HasTurn};
 ghost use Rattle.ut_crowd.specs.Standing.{StandsOn};
 ghost use Rattle.ut_crowd.specs.Queues.{IsDone};
+ghost use Rattle.ut_crowd.specs.Going.{goes_on};
 
 use crate::book::Asked;
 use crate::hall::{Hall, Opening, turn_of};
@@ -26,12 +26,12 @@ pub(crate) struct Advance<'a, H> {
 impl<'a, 'd, D: Disk + Send, O: Opening + Send, H: Hook> Act<Hall<'d, D, O>> for Advance<'a, H> {
     ghost use Rattle.ut_crowd.specs.Book.{HasTurn};
     ghost use Rattle.ut_crowd.specs.Queues.{IsDone};
-    ghost use Rattle.ut_crew.specs.declared.role.Went.TheVariants as wents;
-    ghost use Rattle.std.specs.Prelude.{◌≡◌, ◌≢◌};
+    ghost use Rattle.ut_crowd.specs.Going.{goes_on};
+    ghost use Rattle.std.specs.Prelude.{◌≡◌, false, IsTrue};
 
     type Answer = Went;
 
-    ghost relates = { λ a _ x y _ _ answer. (answer ≡ wents.Over → IsDone a.session y.stopped y.engine.store y.queues.items) × (answer ≢ wents.Over → HasTurn a.session (λ _. Unit {0}) x.book.items y.book.items) };
+    ghost relates = { λ a _ x y _ _ answer. (goes_on answer ≡ false → IsDone a.session y.stopped y.engine.store y.queues.items) × (IsTrue (goes_on answer) → HasTurn a.session (λ _. Unit {0}) x.book.items y.book.items) };
 
     ghost asks = { λ _ _. Unit {0} };
 
