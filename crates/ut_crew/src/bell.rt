@@ -1,10 +1,11 @@
-//! How keepers hear that something was done.
+//! How keepers that sleep hear that there may be something to do.
 use crate::role::Kept;
 use std::sync::Wait;
 use std::sync::atomic::AtomicU64;
 use std::sync::atomic::Ordering::SeqCst;
 
-/// Counts what was done. A keeper that is idle sleeps until the count goes on.
+/// Counts the turns behind which a keeper may have something to do, and the sessions' last ones.
+/// A keeper that is idle sleeps until the count goes on.
 #[derive(Drop)]
 pub(crate) struct Bell {
     rings: AtomicU64,
@@ -46,7 +47,8 @@ impl Bell {
     /// before its turn.
     pub(crate) fn goes_on<R: Wait>(&self, rt: &R, kept: Kept, heard: u64) -> bool {
         match kept {
-            Kept::Did => {
+            Kept::Did => true,
+            Kept::Due => {
                 self.ring();
                 true
             }

@@ -7,7 +7,7 @@ ghost use Rattle.ut_crew.specs.declared.role.Role.TheVariants.{Session, Merger, 
 use crate::bell::Bell;
 use crate::floor::{Floor, OfFloor};
 use crate::member::{Member, work};
-use crate::role::{Between, Build, Kept, Role};
+use crate::role::{Between, Build, Kept, Role, Went};
 use std::alloc::Global;
 use std::sync::Wait;
 use std::thread;
@@ -19,7 +19,7 @@ use ut_gate::{Act, Back, Gate, Held, Pass, PassList};
 /// before it waits for the others.
 pub fn together<
     E: Held,
-    A: Act<E, Answer = bool> + Between + Send + Drop,
+    A: Act<E, Answer = Went> + Between + Send + Drop,
     M: Act<E, Answer = Kept> + Build<E> + Send + Drop,
     S: Act<E, Answer = Kept> + Send + Drop,
     R: Threads + Wait + Sync,
@@ -115,7 +115,7 @@ fn with_sessions<E: Held, A: Drop, M: Drop, S: Drop>(
 // Has each member work. All passes come back.
 fn each<
     E: Held,
-    A: Act<E, Answer = bool> + Between + Send + Drop,
+    A: Act<E, Answer = Went> + Between + Send + Drop,
     M: Act<E, Answer = Kept> + Build<E> + Send + Drop,
     S: Act<E, Answer = Kept> + Send + Drop,
     R: Threads + Wait + Sync,
@@ -148,7 +148,7 @@ fn start_and_join<
     's,
     X,
     E: Held,
-    A: Act<E, Answer = bool> + Between + Send + Drop,
+    A: Act<E, Answer = Went> + Between + Send + Drop,
     M: Act<E, Answer = Kept> + Build<E> + Send + Drop,
     S: Act<E, Answer = Kept> + Send + Drop,
     R: Threads + Wait + Sync,
@@ -185,7 +185,7 @@ fn start_all<
     's,
     X,
     E: Held,
-    A: Act<E, Answer = bool> + Between + Send + Drop,
+    A: Act<E, Answer = Went> + Between + Send + Drop,
     M: Act<E, Answer = Kept> + Build<E> + Send + Drop,
     S: Act<E, Answer = Kept> + Send + Drop,
     R: Threads + Wait + Sync,
@@ -225,7 +225,7 @@ fn start<
     's,
     X,
     E: Held,
-    A: Act<E, Answer = bool> + Between + Send + Drop,
+    A: Act<E, Answer = Went> + Between + Send + Drop,
     M: Act<E, Answer = Kept> + Build<E> + Send + Drop,
     S: Act<E, Answer = Kept> + Send + Drop,
     R: Threads + Wait + Sync,
@@ -257,7 +257,7 @@ where
 // Has all members work, one after the other, where no thread's handle can be kept.
 fn run_all<
     E: Held,
-    A: Act<E, Answer = bool> + Between + Drop,
+    A: Act<E, Answer = Went> + Between + Drop,
     M: Act<E, Answer = Kept> + Build<E> + Drop,
     S: Act<E, Answer = Kept> + Drop,
     R: Wait,

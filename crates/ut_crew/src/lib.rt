@@ -10,4 +10,4 @@ mod role;
 mod tests;
 
 pub use crew::together;
-pub use role::{Between, Build, Kept};
+pub use role::{Between, Build, Kept, Went};

@@ -4,7 +4,7 @@ ghost use Rattle.ut_gate.specs.declared.held.Slip.{Slip};
 ghost use Rattle.ut_crew.specs.Work.{CanAlways};
 
 use crate::floor::Floor;
-use crate::role::{Between, Build, Kept, Role};
+use crate::role::{Between, Build, Kept, Role, Went};
 use std::sync::Wait;
 use ut_gate::{Act, Held, Pass};
 
@@ -18,7 +18,7 @@ pub(crate) struct Member<E: Held, A: Drop, M: Drop, S: Drop> {
 /// Works until it is over, and gives its pass back.
 pub(crate) fn work<
     E: Held,
-    A: Act<E, Answer = bool> + Between + Drop,
+    A: Act<E, Answer = Went> + Between + Drop,
     M: Act<E, Answer = Kept> + Build<E> + Drop,
     S: Act<E, Answer = Kept> + Drop,
     R: Wait,
@@ -35,8 +35,8 @@ pub(crate) fn work<
     }
 }
 
-// A session: turns until one answers false.
-fn advance<E: Held, A: Act<E, Answer = bool> + Between + Drop, R: Wait>(
+// A session: turns until it is over.
+fn advance<E: Held, A: Act<E, Answer = Went> + Between + Drop, R: Wait>(
     rt: &R,
     floor: &Floor<E>,
     mut session: A,
@@ -47,11 +47,14 @@ fn advance<E: Held, A: Act<E, Answer = bool> + Between + Drop, R: Wait>(
     ensures { result.gate ≡ floor.now.gate }
 {
     for _ in rt.forever() {
-        if !floor.gate.act(rt, &mut pass, &mut session) {
-            floor.bell.leave();
-            return pass;
+        match floor.gate.act(rt, &mut pass, &mut session) {
+            Went::On => {}
+            Went::Due => floor.bell.ring(),
+            Went::Over => {
+                floor.bell.leave();
+                return pass;
+            }
         }
-        floor.bell.ring();
         session.between();
     }
     unreachable!()

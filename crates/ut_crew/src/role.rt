@@ -3,11 +3,24 @@ ghost use Rattle.std.specs.Prelude.{Some, IfSome};
 
 use ut_gate::{Act, Held};
 
+/// What a session's turn came to.
+#[derive(Clone, Copy, Debug, PartialEq, Eq)]
+pub enum Went {
+    /// There may be another turn, and no keeper that sleeps has more to do than before.
+    On,
+    /// There may be another turn, and a keeper that sleeps may have something to do.
+    Due,
+    /// There is no other turn.
+    Over,
+}
+
 /// What a keeper's turn came to.
 #[derive(Clone, Copy, Debug, PartialEq, Eq)]
 pub enum Kept {
     /// There may be more to do at once.
     Did,
+    /// So there may be for the other keeper, even if it sleeps.
+    Due,
     /// There is nothing to do until others have done something.
     Idle,
     /// There will be nothing to do.
@@ -16,7 +29,7 @@ pub enum Kept {
 
 /// What a session does outside the turns. It tells nothing.
 pub trait Between {
-    /// Called behind each turn that answered true.
+    /// Called behind each turn that there may be another one after.
     fn between(&self);
 }
 

@@ -2,7 +2,7 @@
 ghost use Rattle.std.specs.Prelude.{◌≡◌, ◌≤◌, [], Some};
 
 use crate::crew::together;
-use crate::role::{Between, Build, Kept};
+use crate::role::{Between, Build, Kept, Went};
 use std::alloc::{AllocError, Global};
 use std::process::Abort;
 use std::sync::Wait;
@@ -23,6 +23,13 @@ struct Sum {
     noted: u64,
     under_way: Option<u64>,
     looks: u64,
+}
+
+impl Sum {
+    // Whether it has grown by ten since it was noted.
+    fn is_due(&self) -> bool {
+        self.ones >= self.noted.saturating_add(10)
+    }
 }
 
 impl Held for Sum {
@@ -77,20 +84,24 @@ struct Add<'a> {
 }
 
 impl<'a> Act<Sum> for Add<'a> {
-    type Answer = bool;
+    type Answer = Went;
 
     ghost relates = { λ _ _ _ _ _ _ _. Unit {0} };
 
     ghost asks = { λ _ _. Unit {0} };
 
     #[tactic(auto, using(ut_gate::proofs::Jobs::job_stays))]
-    fn run(&mut self, value: &mut Sum, _slip: &mut Slip<u64>) -> bool {
+    fn run(&mut self, value: &mut Sum, _slip: &mut Slip<u64>) -> Went {
         if self.left == 0 {
-            return false;
+            return Went::Over;
         }
         self.left -= 1;
         value.ones = value.ones.wrapping_add(1);
-        true
+        if value.under_way.is_none() && value.is_due() {
+            Went::Due
+        } else {
+            Went::On
+        }
     }
 }
 
@@ -123,7 +134,7 @@ impl<'a> Act<Sum> for Note<'a> {
         if value.under_way.is_some() {
             return Kept::Over;
         }
-        if value.ones >= value.noted.saturating_add(10) {
+        if value.is_due() {
             value.under_way = Some(value.ones);
             slip.job = Some(value.ones);
             return Kept::Did;
@@ -201,22 +212,24 @@ fn sessions<'a>(alloc: Global, number: u64, watch: &'a Watch) -> Result<Vec<Add<
     Ok(sessions)
 }
 
-fn seven() -> Sum
+fn seven(noted: u64) -> Sum
     ensures { result.under_way ≡ None }
 {
     Sum {
         ones: 7,
-        noted: 0,
+        noted,
         under_way: None,
         looks: 0,
     }
 }
 
-// So many sessions and two keepers run. Where there was no memory, the sum is as it was.
+// So many sessions and two keepers run on a sum of seven, of which so much was noted. Where there was no memory, the sum is as it
+// was.
 fn run<R: Threads + Wait + Sync + Abort>(
     rt: &R,
     alloc: Global,
     number: u64,
+    noted: u64,
     watch: &Watch,
 ) -> Result<Option<Sum>, Fail>
     requires { number ≤ 16 }
@@ -227,11 +240,11 @@ fn run<R: Threads + Wait + Sync + Abort>(
         all: 7 + number * TURNS,
         watch,
     };
-    match together(rt, alloc, seven(), sessions, merger, Look) {
+    match together(rt, alloc, seven(noted), sessions, merger, Look) {
         Ok(sum) => Ok(Some(sum)),
         Err(back) => {
             let sum = back.value;
-            assert!(rt; sum.ones == 7 && sum.noted == 0 && sum.under_way.is_none());
+            assert!(rt; sum.ones == 7 && sum.noted == noted && sum.under_way.is_none());
             Ok(None)
         }
     }
@@ -241,7 +254,7 @@ fn run<R: Threads + Wait + Sync + Abort>(
 fn all_members_work_and_turns_go_on_while_a_job_is_built(rt: HostRuntime) -> Result<(), Fail> {
     let alloc = rt.alloc();
     let watch = Watch::new();
-    let Some(sum) = run(&rt, alloc, 16, &watch)? else {
+    let Some(sum) = run(&rt, alloc, 16, 0, &watch)? else {
         return Ok(());
     };
     assert_eq!(rt; sum.ones, 7 + 16 * TURNS);
@@ -255,9 +268,23 @@ fn all_members_work_and_turns_go_on_while_a_job_is_built(rt: HostRuntime) -> Res
 fn keepers_end_with_no_session(rt: HostRuntime) -> Result<(), Fail> {
     let alloc = rt.alloc();
     let watch = Watch::new();
-    let Some(sum) = run(&rt, alloc, 0, &watch)? else {
+    let Some(sum) = run(&rt, alloc, 0, 0, &watch)? else {
         return Ok(());
     };
     assert!(rt; sum.ones == 7 && sum.noted == 0 && sum.looks >= 1);
+    Ok(())
+}
+
+/// It looks at its start and behind sessions' last turns, and not behind each turn.
+#[test]
+fn keepers_sleep_while_nothing_is_due(rt: HostRuntime) -> Result<(), Fail> {
+    let alloc = rt.alloc();
+    let watch = Watch::new();
+    watch.turns.store(1000, SeqCst);
+    let Some(sum) = run(&rt, alloc, 8, u64::MAX, &watch)? else {
+        return Ok(());
+    };
+    assert_eq!(rt; sum.ones, 7 + 8 * TURNS);
+    assert!(rt; sum.noted == u64::MAX && sum.looks >= 1 && sum.looks <= TURNS);
     Ok(())
 }

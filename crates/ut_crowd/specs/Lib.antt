@@ -7,3 +7,4 @@ pub mod Saving
 pub mod Crowding
 pub mod Ripe
 pub mod Texts
+pub mod Going

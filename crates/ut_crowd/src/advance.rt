@@ -4,37 +4,47 @@ ghost use Rattle.ut_gate.specs.Turns.{AddsOne};
 ghost use Rattle.ut_crowd.specs.Book.{HasTurn};
 ghost use Rattle.ut_crowd.specs.Standing.{StandsOn};
 ghost use Rattle.ut_crowd.specs.Queues.{IsDone};
+ghost use Rattle.ut_crowd.specs.Going.{goes_on};
 
 use crate::book::Asked;
 use crate::hall::{Hall, Opening, turn_of};
 use crate::queues::{has_line, take_line};
 use ut_course::answer_line;
-use ut_crew::Between;
+use ut_crew::{Between, Went};
 use ut_gate::{Act, Slip};
 use ut_merge::Job;
 use ut_outside::{Disk, Hook, Point};
 
-/// Answers the next line of a session. It answers false once the hall is over, or the session has no line left.
+/// Answers the next line of a session. It is over once the hall is, or the session has no line left.
 #[derive(Drop)]
 pub(crate) struct Advance<'a, H> {
     pub session: u8,
+    pub l1: u32,
     pub hook: &'a H,
 }
 
 impl<'a, 'd, D: Disk + Send, O: Opening + Send, H: Hook> Act<Hall<'d, D, O>> for Advance<'a, H> {
     ghost use Rattle.ut_crowd.specs.Book.{HasTurn};
     ghost use Rattle.ut_crowd.specs.Queues.{IsDone};
+    ghost use Rattle.ut_crowd.specs.Going.{goes_on};
     ghost use Rattle.std.specs.Prelude.{◌≡◌, false, IsTrue};
 
-    type Answer = bool;
+    type Answer = Went;
 
-    ghost relates = { λ a _ x y _ _ answer. (answer ≡ false → IsDone a.session y.stopped y.engine.store y.queues.items) × (IsTrue answer → HasTurn a.session (λ _. Unit {0}) x.book.items y.book.items) };
+    ghost relates = { λ a _ x y _ _ answer. (goes_on answer ≡ false → IsDone a.session y.stopped y.engine.store y.queues.items) × (IsTrue (goes_on answer) → HasTurn a.session (λ _. Unit {0}) x.book.items y.book.items) };
 
     ghost asks = { λ _ _. Unit {0} };
 
     #[tactic(auto, using(ut_gate::proofs::Jobs::job_stays))]
-    fn run(&mut self, value: &mut Hall<'d, D, O>, _slip: &mut Slip<Job>) -> bool {
-        value.advance(self.session)
+    fn run(&mut self, value: &mut Hall<'d, D, O>, _slip: &mut Slip<Job>) -> Went {
+        if !value.advance(self.session) {
+            return Went::Over;
+        }
+        if value.is_due(self.l1) {
+            Went::Due
+        } else {
+            Went::On
+        }
     }
 }
 
@@ -69,5 +79,10 @@ impl<'d, D: Disk, O: Opening> Hall<'d, D, O> {
         let turn = turn_of(&self.engine, session, Asked::Line(line), before, reply);
         self.book.push_reserved(turn);
         true
+    }
+
+    /// Whether a keeper that sleeps may have something to do. It looks at the lengths of each table.
+    fn is_due(&self, l1: u32) -> bool {
+        !self.stopped && !self.engine.down() && (self.calls_saver() || self.calls_merger(l1))
     }
 }

@@ -49,6 +49,8 @@ pub(crate) struct Hall<'d, D: Disk, O: Opening> {
     pub job: Option<Job>,
     /// How many entries the journal had at the last begin of a savepoint, or at the opening.
     pub saved: u32,
+    /// How many pages the last savepoint of this run had, 0 before the first.
+    pub pages: u32,
     /// Whether a savepoint waits for the end of the merge that is pending.
     pub save_waits: bool,
     /// There was no memory for a turn.
@@ -97,6 +99,7 @@ pub(crate) fn hall_of<'d, D: Disk, O: Opening>(
         book,
         job: None,
         saved: journal,
+        pages: 0,
         save_waits: false,
         stopped: false,
         of: PhantomData,
@@ -164,5 +167,13 @@ pub(crate) fn kept_of(reply: &Reply) -> Kept {
         Reply::Refused(_) => Kept::Over,
         Reply::DiskFault => Kept::Over,
         _ => Kept::Did,
+    }
+}
+
+/// What was done lets the other keeper go on, which may have waited for it.
+pub(crate) fn due(kept: Kept) -> Kept {
+    match kept {
+        Kept::Did => Kept::Due,
+        _ => kept,
     }
 }

@@ -11,7 +11,7 @@ ghost use Rattle.ut_crowd.specs.Ripe.{place_of};
 ghost use Rattle.ut_crowd.specs.Standing.{StandsOn};
 
 use crate::book::Asked;
-use crate::hall::{Hall, Opening, kept_of, turn_of};
+use crate::hall::{Hall, Opening, due, kept_of, turn_of};
 use std::alloc::{AllocError, Global};
 use ut_course::end_merge;
 use ut_crew::{Build as Builds, Kept};
@@ -128,6 +128,20 @@ impl<'d, D: Disk, O: Opening> Hall<'d, D, O> {
         }
     }
 
+    /// Whether a merger that sleeps would do something at its turn.
+    pub fn calls_merger(&self, l1: u32) -> bool
+        requires up { self.now.engine.store.down ≡ false }
+    {
+        if self.job.is_some() {
+            return false;
+        }
+        match first_ripe(&self.engine, l1) {
+            None => false,
+            Some(Ripe::First(_)) => true,
+            Some(Ripe::Second(_)) => !self.save_waits,
+        }
+    }
+
     // Begins a merge of the table at a place, and hands out its job.
     fn begin_merge(&mut self, place: usize) -> (Kept, Option<Job>)
         requires there { place < length self.old.engine.store.store.tables }
@@ -190,7 +204,7 @@ impl<'d, D: Disk, O: Opening> Hall<'d, D, O> {
         }
         let before = self.engine.journal_len();
         let reply = end_merge(&mut self.engine, built);
-        let kept = kept_of(&reply);
+        let kept = due(kept_of(&reply));
         let turn = turn_of(
             &self.engine,
             0,

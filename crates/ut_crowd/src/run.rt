@@ -122,7 +122,7 @@ fn on_ground<
         Ok(hall) => hall,
         Err(back) => return Err(back),
     };
-    let Ok(acts) = sessions(alloc, &hall.queues, hook) else {
+    let Ok(acts) = sessions(alloc, &hall.queues, l1, hook) else {
         return Err(Back {
             value: engine_of(hall),
         });
@@ -145,6 +145,7 @@ fn on_ground<
 fn sessions<'a, H>(
     alloc: Global,
     queues: &[Queue],
+    l1: u32,
     hook: &'a H,
 ) -> Result<Vec<Advance<'a, H>>, AllocError>
     ensures { IfOk result (λ acts. vec_len acts ≤ 16) }
@@ -152,7 +153,7 @@ fn sessions<'a, H>(
     let mut acts = Vec::new(alloc);
     for session in 1..17u8 {
         if has_line(queues, session) {
-            acts.push(Advance { session, hook })?;
+            acts.push(Advance { session, l1, hook })?;
         }
     }
     Ok(acts)
@@ -189,6 +190,7 @@ fn apart<'d, D: Disk, O: Opening>(hall: Hall<'d, D, O>) -> Over<'d, D>
         book,
         job: _,
         saved: _,
+        pages: _,
         save_waits: _,
         stopped,
         of: _,
@@ -211,6 +213,7 @@ fn engine_of<'d, D: Disk, O: Opening>(hall: Hall<'d, D, O>) -> Engine<'d, D>
         book: _,
         job: _,
         saved: _,
+        pages: _,
         save_waits: _,
         stopped: _,
         of: _,

@@ -5,18 +5,21 @@ ghost use Rattle.ut_store.specs.Standing.{is_of_store};
 ghost use Rattle.ut_engine.specs.Savepoints.{progress_of};
 ghost use Rattle.ut_gate.specs.Turns.{AddsOne};
 ghost use Rattle.ut_course.specs.Coming.{is_of_merge};
-ghost use Rattle.ut_crowd.specs.Saving.{due_piece};
+ghost use Rattle.ut_crowd.specs.Saving.{due_piece, is_enough};
 ghost use Rattle.ut_crowd.specs.Standing.{StandsOn};
 
-use crate::hall::{Hall, Opening};
+use crate::hall::{Hall, Opening, due};
 use ut_crew::Kept;
 use ut_gate::{Act, Slip};
 use ut_merge::Job;
 use ut_outside::Disk;
 use ut_plain::{Progress, Statement};
 
-/// So many entries after the last savepoint another begins.
-const ENTRIES: u32 = 32;
+/// So many entries at least come between the begins of two savepoints,
+const ENTRIES: u64 = 32;
+
+/// and so many for each page of the first of the two, so that savepoints write in proportion to what the log gets.
+const ENTRIES_A_PAGE: u64 = 64;
 
 /// So many pages are written in a turn.
 const PAGES: u32 = 8;
@@ -51,13 +54,25 @@ impl<'d, D: Disk, O: Opening> Hall<'d, D, O> {
         }
         let entries = self.engine.journal_len();
         let progress = self.engine.phase();
-        let Some(piece) = due_piece(progress, entries, self.saved) else {
+        self.pages = pages_of(progress, self.pages);
+        let Some(piece) = due_piece(progress, entries, self.saved, self.pages) else {
             return Kept::Idle;
         };
         if progress == Progress::Idle {
             return self.begin_save(entries, piece);
         }
         self.ask(piece)
+    }
+
+    /// Whether a saver that sleeps would do something at its turn: none does so while a savepoint is written.
+    pub fn calls_saver(&self) -> bool
+        requires up { self.now.engine.store.down ≡ false }
+    {
+        let progress = self.engine.phase();
+        let entries = self.engine.journal_len();
+        progress == Progress::Idle
+            && due_piece(progress, entries, self.saved, self.pages).is_some()
+            && (self.job.is_none() || !self.save_waits)
     }
 
     // Begins a savepoint of so many entries, unless a merge is pending: of its rows, which stand in the delta that it closed,
@@ -72,25 +87,27 @@ impl<'d, D: Disk, O: Opening> Hall<'d, D, O> {
         ensures book { AddsOne self.old.book.items self.new.book.items }
         ensures job { self.new.job ≡ self.old.job }
     {
+        let waited = self.save_waits;
         self.save_waits = self.job.is_some();
         if self.save_waits {
             return Kept::Idle;
         }
         self.saved = entries;
-        self.ask(begin)
+        let kept = self.ask(begin);
+        if waited { due(kept) } else { kept }
     }
 }
 
 // The piece of a savepoint that is due, where it is so far.
-fn due_piece(progress: Progress, entries: u32, saved: u32) -> Option<Statement>
-    ensures due { result ≡ due_piece progress entries saved }
+fn due_piece(progress: Progress, entries: u32, saved: u32, pages: u32) -> Option<Statement>
+    ensures due { result ≡ due_piece progress entries saved pages }
     ensures stores { IfSome result (λ st. IsTrue (is_of_store st)) }
     ensures spelled { IfSome result (λ st. IsTrue (is_spelled st)) }
     ensures no_merge { IfSome result (λ st. is_of_merge st ≡ false) }
 {
     match progress {
         Progress::Idle => {
-            if entries.saturating_sub(saved) >= ENTRIES {
+            if is_enough(entries, saved, pages) {
                 Some(Statement::SaveBegin)
             } else {
                 None
@@ -104,5 +121,21 @@ fn due_piece(progress: Progress, entries: u32, saved: u32) -> Option<Statement>
             }
         }
         Progress::Sealed { .. } => Some(Statement::SaveFlip),
+    }
+}
+
+// Whether so many entries are enough for another savepoint, with so many at the begin of the last one, which had so many pages.
+fn is_enough(entries: u32, saved: u32, pages: u32) -> bool
+    ensures { result ≡ is_enough entries saved pages }
+{
+    let (entries, saved) = (entries as u64, saved as u64);
+    entries >= saved + ENTRIES && entries >= saved + ENTRIES_A_PAGE * pages as u64
+}
+
+// How many pages the savepoint has that is written, or had the last one.
+fn pages_of(progress: Progress, last: u32) -> u32 {
+    match progress {
+        Progress::Writing { done: _, pages } => pages,
+        _ => last,
     }
 }

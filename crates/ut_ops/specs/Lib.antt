@@ -5,3 +5,4 @@ pub mod Index
 pub mod Noted
 pub mod Gathered
 pub mod Seen
+pub mod Weighed

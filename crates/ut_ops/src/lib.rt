@@ -10,9 +10,11 @@ mod joins;
 mod numbers;
 mod ranked;
 mod sums;
+mod tallied;
 
 pub use best::{greatest, least};
 pub use columns::select;
 pub use groups::group;
 pub use joins::join;
 pub use sums::sum;
+pub use tallied::{sum_tally, tallied_column};

@@ -38,15 +38,25 @@ fn sum_in(alloc: Global, table: &Table, column: usize, hits: &[Found]) -> i128
     requires fit { Fit table.now.stages hits.now }
     ensures { result ≡ total (map (cell table.now.stages column) hits.now) }
 {
-    if hits.len() < ROOM {
-        return sum_at(table, column, hits, &mut []);
-    }
     let codes = table.codes(column);
     if ROOM < codes && codes <= hits.len() {
         if let Ok(all) = main_notes(alloc, table, column) {
             let mut notes = all;
             return sum_at(table, column, hits, notes.as_mut_slice());
         }
+    }
+    sum_noted(table, column, hits)
+}
+
+/// The same, the numbers of some codes noted.
+pub(crate) fn sum_noted(table: &Table, column: usize, hits: &[Found]) -> i128
+    requires numbers { option_map (λ (c : Column). c.kind) (slice_get table.now.stages.columns column) ≡ Some Kind.Int }
+    requires few { length hits.now ≤ 2 ^ 31 }
+    requires fit { Fit table.now.stages hits.now }
+    ensures { result ≡ total (map (cell table.now.stages column) hits.now) }
+{
+    if hits.len() < ROOM {
+        return sum_at(table, column, hits, &mut []);
     }
     let mut notes = [NONE; ROOM];
     sum_at(table, column, hits, &mut notes)

@@ -69,7 +69,7 @@ part-of main p arc part there is rows before = record {
 }
 
 -- a part's keys are the first of all keys of main
-keys-first : (main : MainValue) (p : ℕ) (part : PartValue) (j : ℕ) → IsPartOf main p part → j < main.width → (rest : List (List ℕ)) × (keys_in main j ≡ part_keys part j ++ rest)
+pub keys-first : (main : MainValue) (p : ℕ) (part : PartValue) (j : ℕ) → IsPartOf main p part → j < main.width → (rest : List (List ℕ)) × (keys_in main j ≡ part_keys part j ++ rest)
 keys-first main p part j h wide =
     let k = length main.parts - (p + 1) in
     let all : p + 1 + (length main.parts - (p + 1)) ≡ length main.parts = omega (arith, h.there) in
@@ -109,7 +109,7 @@ code-known part j i lt =
     (subst (λ n. n < length keys) code at.0, ap (λ n. get_or keys n []) (sym code) ∙ at.1 ∙ key)
 
 -- the same among all keys of main
-code-main : (main : MainValue) (p : ℕ) (part : PartValue) (j i : ℕ) → IsPartOf main p part → j < main.width → i < length part.rows
+pub code-main : (main : MainValue) (p : ℕ) (part : PartValue) (j i : ℕ) → IsPartOf main p part → j < main.width → i < length part.rows
     → (code_at part i j < length (keys_in main j)) × (get_or (keys_in main j) (code_at part i j) [] ≡ key_at j (get_or part.rows i no_row))
 code-main main p part j i h wide lt =
     let r = keys-first main p part j h wide in

@@ -35,7 +35,7 @@ none-more t from to n so_far le none =
     let all : from + (to - from) ≡ to = omega (arith, le) in
     so_far ∙ ap length (sym (none-between t from (to - from) (λ j lo hi. none j lo (omega (arith, hi, all)))) ∙ ap (λ m. filter t (range_with_len 0 m)) all)
 
-filter-each : (t : ℕ → Bool) (a n : ℕ) → ((i : ℕ) → a ≤ i → i < a + n → t i ≡ true) → filter t (range_with_len a n) ≡ range_with_len a n
+pub filter-each : (t : ℕ → Bool) (a n : ℕ) → ((i : ℕ) → a ≤ i → i < a + n → t i ≡ true) → filter t (range_with_len a n) ≡ range_with_len a n
 filter-each t a zero h = refl
 filter-each t a (suc n) h =
     ap (λ b. cond b (a ∷ filter t (range_with_len (a + 1) n)) (filter t (range_with_len (a + 1) n))) (h a (omega arith) (omega arith))

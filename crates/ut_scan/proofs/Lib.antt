@@ -5,3 +5,4 @@ pub mod MainLemmas
 pub mod PartLemmas
 pub mod PickLemmas
 pub mod RangeLemmas
+pub mod TallyLemmas

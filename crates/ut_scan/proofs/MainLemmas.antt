@@ -69,7 +69,7 @@ parts-more found base out new n so_far e =
 -- ---- the places of a part
 
 -- a column has as many codes as the part has rows
-length-codes : (part : PartValue) (column : ℕ) → length (codes_in part column).codes ≡ length part.rows
+pub length-codes : (part : PartValue) (column : ℕ) → length (codes_in part column).codes ≡ length part.rows
 length-codes part column = length-map (cells_at column part.rows) (place_of (end_to_end (chain_of (get_or part.before column []) (cells_at column part.rows)))) ∙ length-map part.rows (key_at column)
 
 filter-true : (xs : List ℕ) → filter (λ i. true) xs ≡ xs

@@ -1,17 +1,13 @@
 -- Parts whose stamps agree.
-use Rattle.std.proofs.Common.{◌≡◌, ℕ, Bool, true, false, ◌&&◌, List, [], length, map, get_or, refl, sym, ◌∙◌, ap, arith}
-use Rattle.std.specs.Prelude.{replicate}
-use Rattle.std.proofs.lemmas.List.{get_or-replicate}
+use Rattle.std.proofs.Common.{◌≡◌, ℕ, Bool, true, false, ◌&&◌, List, [], length, map, refl, ◌∙◌, ap, arith}
 use Rattle.ut_stamps.specs.declared.place.Place.TheVariants.{Main}
 use Rattle.ut_stamps.specs.declared.visibility.Stamp.{Stamp}
-use Rattle.ut_stamps.specs.Stamps.{sees}
 use Rattle.ut_main.specs.Parts.{PartValue}
 use Rattle.ut_scan.specs.declared.coded.CodedPred.{CodedPred}
 use Rattle.ut_scan.specs.declared.probe.Viewer.{Viewer}
 use Rattle.ut_scan.specs.Coded.{held_places, is_held, seen_at}
 use Rattle.ut_scan.specs.Finds.{found_at}
 use Rattle.ut_scan.specs.Probes.{is_seen, AreSeenAs}
-use Rattle.ut_scan.specs.StampLists.{no_stamp}
 use Rattle.ut_scan.proofs.RangeLemmas.{filter-both, filter-none}
 
 pub both-false : (b c : Bool) → c ≡ false → (b && c) ≡ false

@@ -3,7 +3,7 @@ use Rattle.std.proofs.Common.{◌≡◌, inl, inr, ℕ, zero, suc, ◌+◌, ◌<
 use Rattle.std.proofs.lemmas.Bool.{cases_lt, and_left, and_right, lt-ltb, le-ltb, le-leb, lt-leb}
 use Rattle.std.proofs.lemmas.Cmp.{nat_list_cmp_total, tied_itself}
 use Rattle.std.proofs.lemmas.List.{get_or_default}
-use Rattle.std.proofs.lemmas.List.Elements.{All-nil, All-cons, All-filter, All-weaker}
+use Rattle.std.proofs.lemmas.List.Elements.{All-nil, All-cons, All-weaker}
 use Rattle.std.proofs.lemmas.Option.{slice_get_within, get_or_from_slice_get}
 use Rattle.std.specs.List.{range_with_len, Contains}
 use Rattle.std.specs.Ordering.{is_eq}
@@ -58,7 +58,7 @@ places-filter t w d a (x ∷ xs) h = by (t x) (places-filter t w d (a + 1) xs la
     by true rec at = ap (λ l. a ∷ l) rec ∙ ap (λ b. cond b (a ∷ filter w (range_with_len (a + 1) (length xs))) (filter w (range_with_len (a + 1) (length xs)))) (sym at)
     by false rec at = rec ∙ ap (λ b. cond b (a ∷ filter w (range_with_len (a + 1) (length xs))) (filter w (range_with_len (a + 1) (length xs)))) (sym at)
 
-range-within : (a n : ℕ) → All (λ i. i < a + n) (range_with_len a n)
+pub range-within : (a n : ℕ) → All (λ i. i < a + n) (range_with_len a n)
 range-within a zero = All-nil (λ i. i < a + 0)
 range-within a (suc n) =
     All-cons (λ i. i < a + suc n) a (range_with_len (a + 1) n) (omega arith)

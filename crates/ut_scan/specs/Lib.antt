@@ -3,3 +3,4 @@ pub mod Finds
 pub mod Probes
 pub mod StageRows
 pub mod StampLists
+pub mod Tallies

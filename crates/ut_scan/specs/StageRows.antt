@@ -52,13 +52,16 @@ module _ (fates : List Fate) (snapshot : ℕ) (own : Option ℕ) (preds : List C
   abbrev pub found_in_parts : List (List KeyRow) → List (List Stamp) → List Found
   found_in_parts parts stamps = flat_map (found_in_part parts stamps) (range_with_len 0 (length parts))
 
+  -- the same of the stages outside of main
+  abbrev pub found_outside : StageRows → StampLists → List Found
+  found_outside rows stamps =
+      (found_in fates snapshot own preds L2 rows.l2 stamps.l2.items
+      ++ found_in fates snapshot own preds L1 rows.l1 stamps.l1.items)
+      ++ found_in fates snapshot own preds Closed (if_closed rows.closed) (if_closed stamps.closed)
+
   -- the same of all stages
   abbrev pub found_rows : StageRows → StampLists → List Found
-  found_rows rows stamps =
-      ((found_in fates snapshot own preds L2 rows.l2 stamps.l2.items
-      ++ found_in fates snapshot own preds L1 rows.l1 stamps.l1.items)
-      ++ found_in fates snapshot own preds Closed (if_closed rows.closed) (if_closed stamps.closed))
-      ++ found_in_parts rows.parts stamps.parts
+  found_rows rows stamps = found_outside rows stamps ++ found_in_parts rows.parts stamps.parts
 
   -- the same of stages, as they stand
   abbrev pub asked_for : Stages → List Found

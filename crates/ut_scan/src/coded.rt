@@ -86,7 +86,7 @@ fn coded_pred<L: Ledger>(
 }
 
 /// The dictionaries of a column in all parts.
-fn all_dicts(main: &Main, column: u8) -> &DictChain
+pub fn all_dicts(main: &Main, column: u8) -> &DictChain
     requires parts { 0 < length main.now.parts }
     requires column { column < main.now.width }
     ensures chain { result.now ≡ get_or (dicts_behind main.now) column [] }

@@ -7,6 +7,7 @@ mod delta;
 mod delta_count;
 mod part_count;
 mod part_stamps;
+mod part_tally;
 mod parts;
 mod place;
 mod probe;
@@ -14,6 +15,7 @@ mod rows;
 mod stages;
 mod stamp_table;
 mod table;
+mod tallying;
 
 pub use counting::count;
 pub use part_stamps::PartStamps;
@@ -21,6 +23,7 @@ pub use place::{ColumnPred, Found, Place};
 pub use stages::Stages;
 pub use stamp_table::StampTable;
 pub use table::scan;
+pub use tallying::{CodeTally, tally};
 
 #[cfg(test)]
 mod tests;

@@ -2,7 +2,7 @@
 ghost use Rattle.std.specs.Prelude.{◌≡◌, ◌+◌, ◌<◌, ◌≤◌, ◌++◌, All, IfOk, OnOk};
 ghost use Rattle.std.specs.List.Sorted.{IsPermutation, IsNonDecreasingBy};
 ghost use Rattle.ut_scan.specs.Probes.{found_for};
-ghost use Rattle.ut_scan.specs.StageRows.{asked_for, rows_in, scan_steps, AreStamped};
+ghost use Rattle.ut_scan.specs.StageRows.{asked_for, found_outside, rows_in, scan_steps, AreStamped};
 ghost use Rattle.ut_scan.specs.StampLists.{if_closed};
 
 use crate::delta::scan_delta;
@@ -39,23 +39,7 @@ pub fn scan<L: Ledger>(
         own,
     };
     let mut found = Vec::new(alloc);
-    scan_delta(
-        alloc,
-        &viewer,
-        preds,
-        DeltaStage::L2,
-        stages.l2,
-        stages.stamps.l2(),
-        &mut found,
-    )?;
-    scan_rows(
-        &viewer,
-        preds,
-        stages.l1.rows(),
-        stages.stamps.l1(),
-        &mut found,
-    )?;
-    scan_closed(alloc, &viewer, preds, stages, &mut found)?;
+    scan_outside(alloc, &viewer, preds, stages, &mut found)?;
     scan_parts(
         alloc,
         &viewer,
@@ -67,6 +51,33 @@ pub fn scan<L: Ledger>(
     )?;
     order_by_id(found.as_mut_slice());
     Ok(found)
+}
+
+/// Appends the seen rows outside of main that meet each comparison.
+pub fn scan_outside(
+    alloc: Global,
+    viewer: &Viewer<'_>,
+    preds: &[ColumnPred],
+    stages: &Stages<'_>,
+    out: &mut Vec<Found>,
+) -> Result<(), AllocError>
+    requires stamped { AreStamped stages.now }
+    requires columns { All (λ p. p.column < stages.now.l2.now.width) preds.now }
+    ensures { let v = viewer.now in
+        OnOk result (out.new.items ≡ out.old.items
+        ++ found_outside v.fates.now v.snapshot v.own preds.now (rows_in stages.now) stages.now.stamps.now) }
+{
+    scan_delta(
+        alloc,
+        viewer,
+        preds,
+        DeltaStage::L2,
+        stages.l2,
+        stages.stamps.l2(),
+        out,
+    )?;
+    scan_rows(viewer, preds, stages.l1.rows(), stages.stamps.l1(), out)?;
+    scan_closed(alloc, viewer, preds, stages, out)
 }
 
 /// Appends the seen rows of the closed stage that meet each comparison, if there is such a stage.

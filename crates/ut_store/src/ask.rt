@@ -3,7 +3,7 @@ ghost use Rattle.std.specs.Prelude.{◌≡◌, ◌<◌, None, Some, IsTrue, IfOk
 ghost use Rattle.ut_plain.specs.declared.statement.Statement.TheVariants as statements;
 ghost use Rattle.ut_plain.specs.declared.statement.Query.TheVariants as queries;
 ghost use Rattle.ut_plain.specs.Names.{has_table};
-ghost use Rattle.ut_plain.specs.Tables.{place_in};
+ghost use Rattle.ut_plain.specs.Tables.{column_of, columns_in, place_in};
 ghost use Rattle.ut_plain.specs.Plain.{Plain};
 ghost use Rattle.ut_plain.specs.View.{view};
 ghost use Rattle.ut_plain.specs.Query.{told};
@@ -13,7 +13,7 @@ ghost use Rattle.ut_store.specs.Standing.{Stands};
 
 use crate::store::Store;
 use std::alloc::{AllocError, Global};
-use ut_ops::{greatest, group, join, least, select, sum};
+use ut_ops::{greatest, group, join, least, select, sum, sum_tally, tallied_column};
 use ut_plain::{Pred, Query, Reply, place_of};
 use ut_table::Table as Stages;
 use ut_value::{Name, Seq};
@@ -101,6 +101,49 @@ impl Store {
     }
 
     fn ask_sum(
+        &self,
+        alloc: Global,
+        session: u8,
+        name: &Name,
+        column: &Name,
+        preds: &[Pred],
+    ) -> Result<Reply, AllocError>
+        requires seat { session < 17 }
+        requires stands { Stands self.now }
+        requires known { early_refusal self.now session (statements.Ask (queries.Sum name.now column.now preds.now)) ≡ None }
+        ensures { IfOk result (λ reply. (p : Plain) → StandsFor self.now p → reply ≡ told (view p session).tables (view p session).rows (queries.Sum name.now column.now preds.now)) }
+    {
+        let table = self.table_of(name.as_slice());
+        match tallied_column(table, column.as_slice(), !preds.is_empty()) {
+            Some(place) => self.ask_tally(alloc, session, name, column, place, preds),
+            None => self.ask_listed(alloc, session, name, column, preds),
+        }
+    }
+
+    /// The sum of a column by its codes.
+    fn ask_tally(
+        &self,
+        alloc: Global,
+        session: u8,
+        name: &Name,
+        column: &Name,
+        place: usize,
+        preds: &[Pred],
+    ) -> Result<Reply, AllocError>
+        requires seat { session < 17 }
+        requires stands { Stands self.now }
+        requires known { early_refusal self.now session (statements.Ask (queries.Sum name.now column.now preds.now)) ≡ None }
+        requires column { column_of (columns_in self.now.tables name.now) column.now ≡ Some place }
+        ensures { IfOk result (λ reply. (p : Plain) → StandsFor self.now p → reply ≡ told (view p session).tables (view p session).rows (queries.Sum name.now column.now preds.now)) }
+    {
+        let tally = self.tally(alloc, session, name.as_slice(), preds, place)?;
+        let table = self.table_of(name.as_slice());
+        let total = sum_tally(alloc, table, place, &tally)?;
+        Ok(Reply::Sum(total))
+    }
+
+    /// The sum of a column by the list of the rows.
+    fn ask_listed(
         &self,
         alloc: Global,
         session: u8,

@@ -10,7 +10,8 @@ use Rattle.ut_main.specs.Parts.{MainValue}
 use Rattle.ut_scan.specs.declared.place.ColumnPred.{ColumnPred}
 use Rattle.ut_scan.specs.declared.stages.Stages.{Stages}
 use Rattle.ut_scan.specs.StampLists.{StampLists}
-use Rattle.ut_scan.specs.StageRows.{AreStamped, rows_in, found_rows, asked_for}
+use Rattle.ut_scan.specs.StageRows.{AreStamped, rows_in, found_in_parts, found_outside, found_rows, asked_for}
+use Rattle.ut_scan.specs.Tallies.{Tallies}
 use Rattle.ut_staged.specs.Staged.{Staged}
 use Rattle.ut_table.specs.Contents.{Contents, PendingValue}
 use Rattle.ut_table.specs.Lent.{AreLent}
@@ -57,3 +58,12 @@ module _ {s : Staged} {stages : Stages} (a : AreLent s stages) where
 
   pub lent-rows : (fates : List Fate) (snapshot : ℕ) (own : Option ℕ) (preds : List ColumnPred) → asked_for fates snapshot own preds stages ≡ found_rows fates snapshot own preds (rows_of t) t.stamps
   lent-rows fates snapshot own preds = λ i. found_rows fates snapshot own preds (rows-are i) (a.stamps i)
+
+  pub lent-outside : (fates : List Fate) (snapshot : ℕ) (own : Option ℕ) (preds : List ColumnPred) → found_outside fates snapshot own preds (rows_in stages) stages.stamps.now ≡ found_outside fates snapshot own preds (rows_of t) t.stamps
+  lent-outside fates snapshot own preds = λ i. found_outside fates snapshot own preds (rows-are i) (a.stamps i)
+
+  pub lent-tallies : (fates : List Fate) (snapshot : ℕ) (own : Option ℕ) (preds : List ColumnPred) (column : ℕ) (counts : List ℕ) → Tallies stages.main.now column (found_in_parts fates snapshot own preds stages.main.now.parts stages.stamps.now.parts) counts
+      → Tallies t.main column (found_in_parts fates snapshot own preds t.main.parts t.stamps.parts) counts
+  lent-tallies fates snapshot own preds column counts told =
+      subst (λ (x : StampLists). Tallies t.main column (found_in_parts fates snapshot own preds t.main.parts x.parts) counts) a.stamps
+      (subst (λ (m : MainValue). Tallies m column (found_in_parts fates snapshot own preds m.parts stages.stamps.now.parts) counts) a.main told)

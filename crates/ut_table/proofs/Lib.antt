@@ -20,3 +20,4 @@ pub mod ScanLemmas
 pub mod LentLemmas
 pub mod NumberedLemmas
 pub mod CodedLemmas
+pub mod TallyLemmas

@@ -11,3 +11,4 @@ pub mod Compiled
 pub mod Numbered
 pub mod Filled
 pub mod Coded
+pub mod Tallied

@@ -1,5 +1,5 @@
 //! The rows of a table by the codes of their keys.
-ghost use Rattle.std.specs.Prelude.{◌≡◌, ◌+◌, ◌<◌, ◌≤◌, ◌^◌, length, get_or, slice_get, Some, IsSome, IfSome, IfOk};
+ghost use Rattle.std.specs.Prelude.{◌≡◌, ◌+◌, ◌<◌, ◌≤◌, ◌^◌, ◌++◌, length, get_or, slice_get, Some, IsSome, IfSome, IfOk};
 ghost use Rattle.ut_exact.specs.Places.{StagedRow};
 ghost use Rattle.ut_unsorted.specs.FirstSeen.{first_seen};
 ghost use Rattle.ut_l2.specs.KeyRows.{cells_at, key_at, no_row};
@@ -37,9 +37,19 @@ fn main_keys(alloc: Global, main: &Main, column: usize) -> Result<KeyList, Alloc
     let mut keys = KeyList::new(alloc);
     for p in 0..main.parts() {
         let more = main.part(p).dict(column as u8).keys(alloc)?;
-        keys = keys.followed_by(&more)?;
+        keys = joined(keys, more)?;
     }
     Ok(keys)
+}
+
+/// Keys and others behind them: where there are none, the others as they are.
+fn joined(keys: KeyList, more: KeyList) -> Result<KeyList, AllocError>
+    ensures { IfOk result (λ all. all ≡ keys ++ more) }
+{
+    if keys.len() == 0 {
+        return Ok(more);
+    }
+    keys.followed_by(&more)
 }
 
 /// The code of a row of a delta among the delta's own keys.

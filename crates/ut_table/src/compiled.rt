@@ -1,14 +1,15 @@
 //! Comparisons of named columns, as a scan takes them, and the scan by them.
-ghost use Rattle.std.specs.Prelude.{◌≡◌, ◌<◌, ◌≤◌, length, map, All, IfOk};
+ghost use Rattle.std.specs.Prelude.{◌≡◌, ◌<◌, ◌≤◌, ◌^◌, length, map, All, IfOk};
 ghost use Rattle.std.specs.List.Sorted.{IsPermutation, IsNonDecreasingBy};
-ghost use Rattle.ut_scan.specs.StageRows.{asked_for, AreStamped};
+ghost use Rattle.ut_scan.specs.StageRows.{asked_for, found_in_parts, found_outside, rows_in, AreStamped};
+ghost use Rattle.ut_scan.specs.Tallies.{Tallies};
 ghost use Rattle.ut_table.specs.Compiled.{column_pred, KeepRules};
 
 use std::alloc::{AllocError, Global};
 use std::sync::ledger::{Blank, Ledger};
 use ut_key::Steps;
 use ut_plain::{Pred, column_of};
-use ut_scan::{ColumnPred, Found, Stages, count, scan};
+use ut_scan::{CodeTally, ColumnPred, Found, Stages, count, scan, tally};
 use ut_stamps::Fates;
 use ut_value::{Column, key_of, value_keeps_rule};
 
@@ -90,4 +91,34 @@ pub fn counted_rows<L: Ledger>(
 {
     let mut steps = Steps::<L>::new(blank);
     count(alloc, stages, fates, snapshot, own, preds, &mut steps)
+}
+
+/// What a scan finds, by the codes of a column, with a counter for its steps over a new ledger.
+pub fn counted_tally<L: Ledger>(
+    alloc: Global,
+    stages: &Stages<'_>,
+    fates: &Fates,
+    snapshot: u32,
+    own: Option<u64>,
+    preds: &[ColumnPred],
+    column: u8,
+    blank: Blank,
+) -> Result<CodeTally, AllocError>
+    requires name { blank.name ≡ L.name }
+    requires parts { blank.parts ≡ L.parts }
+    requires positive { 0 < blank.parts }
+    requires stamped { AreStamped stages.now }
+    requires columns { All (λ p. p.column < stages.now.l2.now.width) preds.now }
+    requires column { column < stages.now.l2.now.width }
+    ensures counts { let main = stages.now.main.now in let stamps = stages.now.stamps.now.parts in
+        IfOk result (λ t. Tallies main column
+        (found_in_parts fates.now snapshot own preds.now main.parts stamps) t.counts.items) }
+    ensures few { IfOk result (λ t. length t.counts.items < 2 ^ 31) }
+    ensures rest { IfOk result (λ t. t.rest.items
+        ≡ found_outside fates.now snapshot own preds.now (rows_in stages.now) stages.now.stamps.now) }
+{
+    let mut steps = Steps::<L>::new(blank);
+    tally(
+        alloc, stages, fates, snapshot, own, preds, column, &mut steps,
+    )
 }

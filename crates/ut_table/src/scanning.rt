@@ -1,16 +1,17 @@
 //! The scan of a table.
-ghost use Rattle.std.specs.Prelude.{◌≡◌, IsTrue, IfOk};
+ghost use Rattle.std.specs.Prelude.{◌≡◌, ◌<◌, ◌^◌, length, IsTrue, IfOk};
 ghost use Rattle.ut_plain.specs.Names.{preds_known};
 ghost use Rattle.ut_plain.specs.Kinds.{preds_fit};
 ghost use Rattle.ut_table.specs.Finds.{SeenOnce, Counts, Finds};
+ghost use Rattle.ut_table.specs.Tallied.{Tallied};
 
-use crate::compiled::{compiled, counted_rows, counted_scan, preds_keep_rules};
+use crate::compiled::{compiled, counted_rows, counted_scan, counted_tally, preds_keep_rules};
 use crate::table::Table;
 use std::alloc::{AllocError, Global};
 use std::marker::Brand;
 use std::sync::ledger::Blank;
 use ut_plain::Pred;
-use ut_scan::{Found, Stages};
+use ut_scan::{CodeTally, Found, Stages};
 use ut_stamps::Fates;
 
 impl Table {
@@ -66,6 +67,38 @@ impl Table {
             snapshot,
             own,
             compiled.as_slice(),
+            Blank::new(1),
+        )
+    }
+
+    /// What a scan finds, the rows of main by their codes in a column. There is no list of these.
+    pub fn tally(
+        &self,
+        alloc: Global,
+        fates: &Fates,
+        snapshot: u32,
+        own: Option<u64>,
+        preds: &[Pred],
+        column: usize,
+    ) -> Result<CodeTally, AllocError>
+        requires known { IsTrue (preds_known preds.now self.now.stages.columns) }
+        requires fit { IsTrue (preds_fit self.now.stages.columns preds.now) }
+        requires once { SeenOnce self.now.stages fates.now snapshot own }
+        requires column { column < length self.now.stages.columns }
+        ensures tally { IfOk result (λ t. Tallied self.now.stages fates.now snapshot own preds.now column t.counts.items t.rest.items) }
+        ensures few { IfOk result (λ t. length t.counts.items < 2 ^ 31) }
+    {
+        preds_keep_rules(preds);
+        let compiled = compiled(alloc, self.columns.as_slice(), preds)?;
+        let stages = self.stages();
+        counted_tally::<Brand>(
+            alloc,
+            &stages,
+            fates,
+            snapshot,
+            own,
+            compiled.as_slice(),
+            column as u8,
             Blank::new(1),
         )
     }

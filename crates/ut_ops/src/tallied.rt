@@ -1,0 +1,85 @@
+//! The sum of a column by its codes: each number once, times how often its code occurs.
+ghost use Rattle.std.specs.Prelude.{◌≡◌, ◌<◌, ◌≤◌, ◌^◌, ℕ, List, length, min, slice_get, option_map, Some, IsTrue, IfOk, IfSome};
+ghost use Rattle.ut_value.specs.declared.value.Column.{Column};
+ghost use Rattle.ut_plain.specs.Kinds.{kind_in, is_int};
+ghost use Rattle.ut_plain.specs.Tables.{column_of as place_in};
+ghost use Rattle.ut_plain.specs.Query.{column_values, total};
+ghost use Rattle.ut_scan.specs.declared.place.Found.{Found};
+ghost use Rattle.ut_table.specs.Finds.{rows_at};
+ghost use Rattle.ut_table.specs.Tallied.{IsTally};
+ghost use Rattle.ut_ops.specs.Fit.{Fit};
+ghost use Rattle.ut_ops.specs.Weighed.{counted, key_number, weighed};
+
+use crate::sums::sum_noted;
+use std::alloc::{AllocError, Global};
+use ut_key::KeyList;
+use ut_plain::column_of;
+use ut_scan::CodeTally;
+use ut_table::Table;
+use ut_value::{Kind, int_of};
+
+/// Where rows are compared, codes are counted if there are no more of them. Else the rows may be
+/// far fewer.
+const FEW: usize = 1024;
+
+/// The place of a column whose sum goes by its codes.
+pub fn tallied_column(table: &Table, column: &[u8], is_compared: bool) -> Option<usize>
+    ensures { IfSome result (λ place. place_in table.now.stages.columns column.now ≡ Some place) }
+{
+    let place = column_of(table.columns(), column)?;
+    if is_compared && FEW < table.codes(place) {
+        return None;
+    }
+    Some(place)
+}
+
+/// The sum of a column of numbers over rows, of which those in main are counted by their codes.
+/// Main's dictionaries are walked once.
+pub fn sum_tally(
+    alloc: Global,
+    table: &Table,
+    column: usize,
+    tally: &CodeTally,
+) -> Result<i128, AllocError>
+    requires numbers { option_map (λ (c : Column). c.kind) (slice_get table.now.stages.columns column) ≡ Some Kind.Int }
+    requires codes { length tally.now.counts.items < 2 ^ 31 }
+    requires few { length tally.now.rest.items ≤ 2 ^ 31 }
+    requires fit { Fit table.now.stages tally.now.rest.items }
+    ensures { let s = table.now.stages in
+        IfOk result (λ sum. (n : ℕ) (name : List ℕ) (found : List Found)
+        → place_in s.columns name ≡ Some column → Fit s found
+        → IsTally s column found tally.now.counts.items tally.now.rest.items
+        → sum ≡ total (column_values s.columns name (rows_at n s found))) }
+{
+    let keys = table.main_keys(alloc, column)?;
+    let counted = sum_counted(&keys, tally.counts.as_slice());
+    Ok(counted + sum_noted(table, column, tally.rest.as_slice()))
+}
+
+/// The numbers of keys, each as often as it is counted.
+fn sum_counted(keys: &KeyList, counts: &[u32]) -> i128
+    requires few { length counts.now < 2 ^ 31 }
+    ensures sum { let n = min (length keys.now) (length counts.now) in
+        result ≡ weighed (counted counts.now) keys.now n }
+{
+    let mut sum: i128 = 0;
+    for code in 0..keys.len().min(counts.len()) {
+        sum += times(counts[code], keys.key(code));
+    }
+    sum
+}
+
+/// The number of a key, so many times.
+fn times(count: u32, key: &[u8]) -> i128 {
+    if count == 0 {
+        return 0;
+    }
+    i128::from(count) * i128::from(number_of_key(key))
+}
+
+/// The number of a key, and 0 of a key of no number.
+fn number_of_key(key: &[u8]) -> i64
+    ensures { result ≡ key_number key.now }
+{
+    int_of(key).unwrap_or(0)
+}

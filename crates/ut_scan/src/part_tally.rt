@@ -1,0 +1,211 @@
+//! How often each code of a column occurs in the rows of main's parts that a scan finds.
+ghost use Rattle.std.specs.Prelude.{◌≡◌, ℕ, ◌+◌, ◌<◌, ◌≤◌, ◌^◌, [], ◌∷◌, length, map, get_or, All, IfOk, OnOk};
+ghost use Rattle.ut_bits.specs.Bits.{AllBelow};
+ghost use Rattle.ut_scan.specs.Coded.{code_at, codes_in, held_places, keys_in, standing};
+ghost use Rattle.ut_scan.specs.Finds.{all_places};
+ghost use Rattle.ut_scan.specs.Probes.{found_in_main};
+ghost use Rattle.ut_scan.specs.StageRows.{scan_steps, AreStampedParts};
+ghost use Rattle.ut_scan.specs.Tallies.{seen_codes, AreMore, HasRoom, Tallies};
+
+use crate::coded::{CodedPred, all_dicts, coded_preds};
+use crate::part_stamps::PartStamps;
+use crate::parts::{PartProbe, joint_sight};
+use crate::place::ColumnPred;
+use crate::probe::Viewer;
+use crate::stamp_table::StampTable;
+use std::alloc::{AllocError, Global};
+use std::sync::ledger::Ledger;
+use ut_codes::{CodeVec, Form};
+use ut_key::Steps;
+use ut_main::{Main, Part};
+use ut_mask::Mask;
+
+/// For each code of a column of main, how many of the rows that are seen and meet each comparison
+/// have it.
+pub fn tally_parts<L: Ledger>(
+    alloc: Global,
+    viewer: &Viewer<'_>,
+    preds: &[ColumnPred],
+    main: &Main,
+    stamps: &StampTable,
+    column: u8,
+    steps: &mut Steps<L>,
+) -> Result<Vec<u32>, AllocError>
+    requires columns { All (λ p. p.column < main.now.width) preds.now }
+    requires column { column < main.now.width }
+    requires stamped { AreStampedParts main.now.parts stamps.now.parts }
+    ensures counts { IfOk result (λ counts. Tallies main.now column
+        (found_in_main viewer.now preds.now main.now.parts stamps.now.parts) counts.items) }
+    ensures few { IfOk result (λ counts. length counts.items < 2 ^ 31) }
+    ensures cost { steps.new ≤ steps.old + scan_steps main.now preds.now }
+{
+    if main.parts() == 0 {
+        return Ok(Vec::new(alloc));
+    }
+    let coded = coded_preds(alloc, main, preds, steps)?;
+    let mut counts = no_counts(alloc, main, column)?;
+    for number in 0..main.parts() {
+        let part = main.part(number);
+        let stamps = stamps.part(number);
+        let coded = coded.as_slice();
+        let counts = counts.as_mut_slice();
+        tally_part(alloc, viewer, coded, number, part, stamps, column, counts)?;
+    }
+    Ok(counts)
+}
+
+/// A count of 0 for each code of a column.
+fn no_counts(alloc: Global, main: &Main, column: u8) -> Result<Vec<u32>, AllocError>
+    requires parts { 0 < length main.now.parts }
+    requires column { column < main.now.width }
+    ensures size { IfOk result (λ counts. length counts.items ≡ length (keys_in main.now column)) }
+    ensures few { IfOk result (λ counts. length counts.items < 2 ^ 31) }
+    ensures none { IfOk result (λ counts. (code : ℕ) → get_or counts.items code 0 ≡ 0) }
+{
+    let codes = all_dicts(main, column).len() as usize;
+    let mut counts = Vec::with_capacity(alloc, codes)?;
+    counts.resize(codes, 0)?;
+    Ok(counts)
+}
+
+/// Counts the codes of the part's rows that are seen and meet each comparison.
+fn tally_part(
+    alloc: Global,
+    viewer: &Viewer<'_>,
+    coded: &[CodedPred],
+    number: u8,
+    part: &Part,
+    stamps: &PartStamps,
+    column: u8,
+    counts: &mut [u32],
+) -> Result<(), AllocError>
+    requires stamped { length stamps.now ≡ length part.now.rows }
+    requires columns { All (λ c. c.column < length part.now.before) coded.now }
+    requires column { column < length part.now.before }
+    requires room { HasRoom part.now column counts.old }
+    ensures { let held = held_places coded.now part.now in
+        OnOk result (AreMore (seen_codes viewer.now part.now column stamps.now held) counts.old counts.new) }
+{
+    let seen = joint_sight(viewer, stamps);
+    if let Some(false) = seen {
+        return Ok(());
+    }
+    let probe = PartProbe {
+        viewer,
+        coded,
+        number,
+        part,
+        stamps,
+        seen,
+    };
+    if coded.is_empty() {
+        return probe.tally_all(alloc, column, counts);
+    }
+    if probe.is_out() {
+        return Ok(());
+    }
+    let mask = probe.held(alloc)?;
+    probe.tally_standing(&mask, column, counts);
+    Ok(())
+}
+
+impl PartProbe<'_> {
+    /// Counts the codes of all rows that are seen.
+    fn tally_all(&self, alloc: Global, column: u8, counts: &mut [u32]) -> Result<(), AllocError>
+        requires column { column < length self.now.part.now.before }
+        requires room { HasRoom self.now.part.now column counts.old }
+        ensures { let p = self.now in let places = all_places p.part.now.rows in
+            OnOk result (AreMore (seen_codes p.viewer.now p.part.now column p.stamps.now places)
+            counts.old counts.new) }
+    {
+        match self.seen {
+            Some(seen) => {
+                if seen {
+                    add_all(alloc, self.part.codes(column), counts)?;
+                }
+            }
+            None => self.tally_each(column, counts),
+        }
+        Ok(())
+    }
+
+    /// The same, the stamp of each row looked at.
+    fn tally_each(&self, column: u8, counts: &mut [u32])
+        requires column { column < length self.now.part.now.before }
+        requires room { HasRoom self.now.part.now column counts.old }
+        ensures { let p = self.now in let places = all_places p.part.now.rows in
+            AreMore (seen_codes p.viewer.now p.part.now column p.stamps.now places)
+            counts.old counts.new }
+    {
+        let codes = self.part.codes(column);
+        for i in 0..self.part.len() {
+            if self.sees(i) {
+                add_code(codes.get(i), counts);
+            }
+        }
+    }
+
+    /// Counts the codes of the rows at the places that stand in a mask and are seen.
+    fn tally_standing(&self, mask: &Mask, column: u8, counts: &mut [u32])
+        requires mask { length mask.now ≡ length self.now.part.now.rows }
+        requires column { column < length self.now.part.now.before }
+        requires room { HasRoom self.now.part.now column counts.old }
+        ensures { let p = self.now in let places = standing mask.now in
+            AreMore (seen_codes p.viewer.now p.part.now column p.stamps.now places)
+            counts.old counts.new }
+    {
+        let codes = self.part.codes(column);
+        let mut from = 0;
+        while from < mask.len() {
+            let Some(i) = mask.next(from) else {
+                return;
+            };
+            if self.sees(i) {
+                add_code(codes.get(i), counts);
+            }
+            from = i + 1;
+        }
+    }
+}
+
+/// Counts all codes of a vector. Packed codes are read one by one, others are written out first.
+fn add_all(alloc: Global, codes: &CodeVec, counts: &mut [u32]) -> Result<(), AllocError>
+    requires there { AllBelow (length counts.old) codes.now.codes }
+    requires few { (code : ℕ) → get_or counts.old code 0 + length codes.now.codes < 2 ^ 32 }
+    ensures { OnOk result (AreMore codes.now.codes counts.old counts.new) }
+{
+    match codes.form() {
+        Form::Packed => add_packed(codes, counts),
+        _ => add_list(codes.codes(alloc)?.as_slice(), counts),
+    }
+    Ok(())
+}
+
+fn add_packed(codes: &CodeVec, counts: &mut [u32])
+    requires there { AllBelow (length counts.old) codes.now.codes }
+    requires few { (code : ℕ) → get_or counts.old code 0 + length codes.now.codes < 2 ^ 32 }
+    ensures { AreMore codes.now.codes counts.old counts.new }
+{
+    for i in 0..codes.len() {
+        add_code(codes.get(i), counts);
+    }
+}
+
+fn add_list(codes: &[u32], counts: &mut [u32])
+    requires there { AllBelow (length counts.old) codes.now }
+    requires few { (code : ℕ) → get_or counts.old code 0 + length codes.now < 2 ^ 32 }
+    ensures { AreMore codes.now counts.old counts.new }
+{
+    for code in codes {
+        add_code(*code, counts);
+    }
+}
+
+/// Counts a code once more.
+fn add_code(code: u32, counts: &mut [u32])
+    requires there { code < length counts.old }
+    requires few { get_or counts.old code 0 + 1 < 2 ^ 32 }
+    ensures { AreMore (code ∷ []) counts.old counts.new }
+{
+    counts[code as usize] += 1;
+}
