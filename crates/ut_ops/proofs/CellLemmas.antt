@@ -72,7 +72,7 @@ within_kind [] c k h = cc
 within_kind (x ∷ xs) zero k h = omega arith
 within_kind (x ∷ xs) (suc c) k h = omega (arith, within_kind xs c k h)
 
-one_kind : (a b : Kind) → Some a ≡ Some b → a ≡ b
+pub one_kind : (a b : Kind) → Some a ≡ Some b → a ≡ b
 one_kind a b h = ap (λ o. unwrap_or o a) h
 
 -- a number is read from its key

@@ -8,3 +8,4 @@ pub mod CodeLemmas
 pub mod SeenLemmas
 pub mod RowLemmas
 pub mod PairLemmas
+pub mod WeighLemmas

@@ -1,5 +1,5 @@
 //! The sum of a column.
-ghost use Rattle.std.specs.Prelude.{◌≡◌, ◌≤◌, ◌^◌, ℕ, length, map, slice_get, option_map, Some, IsTrue};
+ghost use Rattle.std.specs.Prelude.{◌≡◌, ◌≤◌, ◌^◌, ℕ, pos, neg_ℤ, ◌≤ℤ◌, length, map, slice_get, option_map, Some, IsTrue};
 ghost use Rattle.ut_value.specs.declared.value.Column.{Column};
 ghost use Rattle.ut_plain.specs.Kinds.{kind_in, is_int};
 ghost use Rattle.ut_plain.specs.Query.{column_values, total};
@@ -53,7 +53,9 @@ pub(crate) fn sum_noted(table: &Table, column: usize, hits: &[Found]) -> i128
     requires numbers { option_map (λ (c : Column). c.kind) (slice_get table.now.stages.columns column) ≡ Some Kind.Int }
     requires few { length hits.now ≤ 2 ^ 31 }
     requires fit { Fit table.now.stages hits.now }
-    ensures { result ≡ total (map (cell table.now.stages column) hits.now) }
+    ensures sum { result ≡ total (map (cell table.now.stages column) hits.now) }
+    ensures low { neg_ℤ (pos 19807040628566084398385987584) ≤ℤ result }
+    ensures high { result ≤ℤ pos 19807040628566084398385987584 }
 {
     if hits.len() < ROOM {
         return sum_at(table, column, hits, &mut []);
@@ -67,7 +69,9 @@ fn sum_at(table: &Table, column: usize, hits: &[Found], notes: &mut [Noted]) -> 
     requires few { length hits.now ≤ 2 ^ 31 }
     requires fit { Fit table.now.stages hits.now }
     requires noted { AreNoted table.now.stages column notes.old }
-    ensures { result ≡ total (map (cell table.now.stages column) hits.now) }
+    ensures sum { result ≡ total (map (cell table.now.stages column) hits.now) }
+    ensures low { neg_ℤ (pos 19807040628566084398385987584) ≤ℤ result }
+    ensures high { result ≤ℤ pos 19807040628566084398385987584 }
 {
     let mut sum: i128 = 0;
     for hit in hits {

@@ -1,5 +1,5 @@
 //! The sum of a column by its codes: each number once, times how often its code occurs.
-ghost use Rattle.std.specs.Prelude.{◌≡◌, ◌<◌, ◌≤◌, ◌^◌, ℕ, List, length, min, slice_get, option_map, Some, IsTrue, IfOk, IfSome};
+ghost use Rattle.std.specs.Prelude.{◌≡◌, ◌<◌, ◌≤◌, ◌^◌, ℕ, pos, neg_ℤ, ◌*ℤ◌, ◌≤ℤ◌, List, length, min, slice_get, option_map, Some, IsTrue, IfOk, IfSome};
 ghost use Rattle.ut_value.specs.declared.value.Column.{Column};
 ghost use Rattle.ut_plain.specs.Kinds.{kind_in, is_int};
 ghost use Rattle.ut_plain.specs.Tables.{column_of as place_in};
@@ -61,6 +61,8 @@ fn sum_counted(keys: &KeyList, counts: &[u32]) -> i128
     requires few { length counts.now < 2 ^ 31 }
     ensures sum { let n = min (length keys.now) (length counts.now) in
         result ≡ weighed (counted counts.now) keys.now n }
+    ensures low { neg_ℤ (pos 85070591730234615865843651857942052864) ≤ℤ result }
+    ensures high { result ≤ℤ pos 85070591730234615865843651857942052864 }
 {
     let mut sum: i128 = 0;
     for code in 0..keys.len().min(counts.len()) {
@@ -70,7 +72,11 @@ fn sum_counted(keys: &KeyList, counts: &[u32]) -> i128
 }
 
 /// The number of a key, so many times.
-fn times(count: u32, key: &[u8]) -> i128 {
+fn times(count: u32, key: &[u8]) -> i128
+    ensures value { result ≡ pos count *ℤ key_number key.now }
+    ensures low { neg_ℤ (pos 39614081257132168796771975168) ≤ℤ result }
+    ensures high { result ≤ℤ pos 39614081257132168796771975168 }
+{
     if count == 0 {
         return 0;
     }
@@ -81,5 +87,8 @@ fn times(count: u32, key: &[u8]) -> i128 {
 fn number_of_key(key: &[u8]) -> i64
     ensures { result ≡ key_number key.now }
 {
-    int_of(key).unwrap_or(0)
+    match int_of(key) {
+        Some(number) => number,
+        None => 0,
+    }
 }

@@ -34,3 +34,4 @@ pub mod SuitLemmas
 pub mod UpdateLemmas
 pub mod LoadLemmas
 pub mod BulkLemmas
+pub mod TallyLemmas

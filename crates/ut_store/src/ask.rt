@@ -3,10 +3,11 @@ ghost use Rattle.std.specs.Prelude.{◌≡◌, ◌<◌, None, Some, IsTrue, IfOk
 ghost use Rattle.ut_plain.specs.declared.statement.Statement.TheVariants as statements;
 ghost use Rattle.ut_plain.specs.declared.statement.Query.TheVariants as queries;
 ghost use Rattle.ut_plain.specs.Names.{has_table};
-ghost use Rattle.ut_plain.specs.Tables.{column_of, columns_in, place_in};
+ghost use Rattle.ut_plain.specs.Tables.{column_of, place_in};
 ghost use Rattle.ut_plain.specs.Plain.{Plain};
 ghost use Rattle.ut_plain.specs.View.{view};
 ghost use Rattle.ut_plain.specs.Query.{told};
+ghost use Rattle.ut_staged.specs.Staged.{Staged};
 ghost use Rattle.ut_store.specs.Early.{early_refusal};
 ghost use Rattle.ut_store.specs.Stands.{StandsFor};
 ghost use Rattle.ut_store.specs.Standing.{Stands};
@@ -133,7 +134,7 @@ impl Store {
         requires seat { session < 17 }
         requires stands { Stands self.now }
         requires known { early_refusal self.now session (statements.Ask (queries.Sum name.now column.now preds.now)) ≡ None }
-        requires column { column_of (columns_in self.now.tables name.now) column.now ≡ Some place }
+        requires column { (s : Staged) → slice_get self.now.staged (place_in self.now.tables name.now) ≡ Some s → column_of s.columns column.now ≡ Some place }
         ensures { IfOk result (λ reply. (p : Plain) → StandsFor self.now p → reply ≡ told (view p session).tables (view p session).rows (queries.Sum name.now column.now preds.now)) }
     {
         let tally = self.tally(alloc, session, name.as_slice(), preds, place)?;

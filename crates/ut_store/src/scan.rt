@@ -1,9 +1,10 @@
 //! The rows of a table that a session sees.
-ghost use Rattle.std.specs.Prelude.{◌≡◌, ◌<◌, ◌^◌, length, IsTrue, IfOk};
+ghost use Rattle.std.specs.Prelude.{◌≡◌, ◌<◌, ◌^◌, length, slice_get, Some, IsTrue, IfOk};
 ghost use Rattle.ut_plain.specs.Condition.{meets};
 ghost use Rattle.ut_plain.specs.Kinds.{preds_fit};
 ghost use Rattle.ut_plain.specs.Names.{known, preds_known};
 ghost use Rattle.ut_plain.specs.Tables.{columns_of, columns_in, place_in};
+ghost use Rattle.ut_staged.specs.Staged.{Staged};
 ghost use Rattle.ut_table.specs.Finds.{hits_of};
 ghost use Rattle.ut_store.specs.Hits.{CountsHits, Hits, TalliesHits};
 ghost use Rattle.ut_store.specs.Reads.{looks_at, own_at};
@@ -71,7 +72,7 @@ impl Store {
         requires stands { Stands self.now }
         requires known { IsTrue (known (preds_known preds.now) (columns_of self.now.tables name.now)) }
         requires fit { IsTrue (preds_fit (columns_in self.now.tables name.now) preds.now) }
-        requires column { column < length (columns_in self.now.tables name.now) }
+        requires column { (s : Staged) → slice_get self.now.staged (place_in self.now.tables name.now) ≡ Some s → column < length s.columns }
         ensures hits { let n = place_in self.now.tables name.now in
             IfOk result (λ t. TalliesHits self.now session n column (meets (columns_in self.now.tables name.now) preds.now) t.counts.items t.rest.items) }
         ensures few { IfOk result (λ t. length t.counts.items < 2 ^ 31) }

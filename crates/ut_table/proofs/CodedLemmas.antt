@@ -1,17 +1,16 @@
 -- The codes of a column stand for the values of its rows.
-use Rattle.std.proofs.Common.{◌≡◌, ℕ, zero, suc, ◌+◌, ◌-◌, ◌<◌, ◌≤◌, List, [], ◌∷◌, ◌++◌, length, map, replicate, get_or, Option, None, Some, unwrap_or, All, refl, sym, ◌∙◌, ap, subst, arith}
+use Rattle.std.proofs.Common.{◌≡◌, ℕ, zero, suc, ◌+◌, ◌-◌, ◌<◌, ◌≤◌, List, [], ◌++◌, length, map, replicate, get_or, Option, None, Some, unwrap_or, All, refl, sym, ◌∙◌, ap, subst, arith}
 use Rattle.std.specs.Prelude.{slice_get, IsSome}
 use Rattle.std.specs.Option.{option_map}
 use Rattle.std.proofs.lemmas.List.{length-map, length-append, append_assoc, append-nil, get_or-append-add, get_or_append_left}
 use Rattle.std.proofs.lemmas.Option.{slice_get-map, slice_get-get_or, slice_get_within, get_or_from_slice_get}
-use Rattle.ut_value.specs.declared.value.Value.{Value}
 use Rattle.ut_exact.specs.Places.{StagedRow}
 use Rattle.ut_stamps.specs.declared.place.Place.{Place}
 use Rattle.ut_stamps.specs.declared.place.Place.TheVariants.{L2, Closed, Main}
 use Rattle.ut_unsorted.specs.FirstSeen.{first_seen}
 use Rattle.ut_l2.specs.KeyRows.{KeyRow, cells_at, key_at, no_row}
 use Rattle.ut_l2.specs.Delta.{Delta}
-use Rattle.ut_main.specs.Parts.{PartValue, MainValue, dicts_of, dicts_behind, first_parts}
+use Rattle.ut_main.specs.Parts.{PartValue, MainValue, dicts_behind, first_parts}
 use Rattle.ut_scan.specs.Coded.{code_at, keys_in}
 use Rattle.ut_own.specs.Own.{own_dict}
 use Rattle.ut_prefix.specs.Chain.{end_to_end}
@@ -20,7 +19,7 @@ use Rattle.ut_main.specs.Columns.{Chain, chain_of}
 use Rattle.ut_main.proofs.MainLemmas.{dicts-next, first-all}
 use Rattle.ut_scan.proofs.CodeLemmas.{IsPartOf, part_keys, code-known}
 use Rattle.ut_staged.specs.Staged.{Staged, row_at}
-use Rattle.ut_table.specs.Decoded.{decoded, decoded_keys}
+use Rattle.ut_table.specs.Decoded.{decoded}
 use Rattle.ut_table.specs.Contents.{Contents, PendingValue, closed_rows, held, staged}
 use Rattle.ut_table.specs.Kept.{IsHeld, IsTable}
 use Rattle.ut_table.specs.Pending.{key_row}

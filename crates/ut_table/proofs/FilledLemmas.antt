@@ -1,18 +1,16 @@
 -- Main that is taken as it is, with the stamps of its rows.
-use Rattle.std.proofs.Common.{◌≡◌, ℕ, ◌+◌, ◌≤◌, ◌^◌, List, [], ◌∷◌, length, map, Option, None, Some, All, refl, sym, ◌∙◌, ap, subst, arith}
+use Rattle.std.proofs.Common.{◌≡◌, List, [], ◌∷◌, length, map, Option, None, Some, All, refl, sym, ◌∙◌, ap, subst, arith}
 use Rattle.std.specs.List.{AllByRecursion}
 use Rattle.std.specs.Option.{option_map}
 use Rattle.std.proofs.lemmas.List.{length-map}
 use Rattle.std.proofs.lemmas.List.Elements.{All-nil, All-cons}
 use Rattle.ut_value.specs.declared.value.Column.{Column}
 use Rattle.ut_stamps.specs.declared.visibility.Stamp.{Stamp}
-use Rattle.ut_plain.specs.declared.stage.PendingMerge.{PendingMerge}
 use Rattle.ut_l2.specs.KeyRows.{KeyRow}
 use Rattle.ut_main.specs.Parts.{MainValue}
-use Rattle.ut_scan.specs.StampLists.{StampLists}
 use Rattle.ut_exact.specs.Places.{StagedRow}
 use Rattle.ut_staged.proofs.ListLemmas.{none_some}
-use Rattle.ut_staged.specs.Staged.{Staged, stamped_row}
+use Rattle.ut_staged.specs.Staged.{stamped_row}
 use Rattle.ut_table.specs.Contents.{Contents, PendingValue, held, held_parts, staged}
 use Rattle.ut_table.specs.Kept.{IsRow, IsHeld, IsTable}
 use Rattle.ut_table.specs.Pending.{key_row}

@@ -1,20 +1,18 @@
 -- Rows whose ids are below a number, as the stages of a small table change.
-use Rattle.std.proofs.Common.{◌≡◌, ◌≢◌, inl, inr, ℕ, ◌+◌, ◌<◌, ◌≤◌, Bool, List, [], ◌∷◌, ◌++◌, length, map, take, drop, Option, Some, IsTrue, refl, sym, ◌∙◌, ap, subst, arith, length-append, lt-ltb}
+use Rattle.std.proofs.Common.{◌≡◌, ◌≢◌, inl, inr, ℕ, ◌+◌, ◌<◌, ◌≤◌, Bool, List, [], ◌∷◌, ◌++◌, length, map, take, drop, Some, IsTrue, refl, sym, ◌∙◌, ap, subst, arith, length-append, lt-ltb}
 use Rattle.std.specs.List.{sum_by}
 use Rattle.std.proofs.lemmas.List.{length-map, map-append, take-append-drop}
 use Rattle.std.proofs.lemmas.List.Sums.{sum_by-cons}
-use Rattle.std.proofs.lemmas.Option.{none-some}
-use Rattle.ut_value.specs.declared.value.Column.{Column}
 use Rattle.ut_value.specs.declared.entry.MergeKind.{MergeKind}
 use Rattle.ut_value.specs.declared.entry.MergeKind.TheVariants.{Classic, Resort, Partial, Extend}
 use Rattle.ut_plain.specs.declared.stage.PendingMerge.{PendingMerge}
 use Rattle.ut_plain.specs.Merges.{staying, has_part_room}
 use Rattle.ut_stamps.specs.declared.fates.Fate.{Fate}
 use Rattle.ut_stamps.specs.declared.place.Place.{Place}
-use Rattle.ut_stamps.specs.declared.place.Place.TheVariants.{L1, L2, Closed, Main}
+use Rattle.ut_stamps.specs.declared.place.Place.TheVariants.{L1, L2}
 use Rattle.ut_exact.specs.Places.{StagedRow, Pushed}
 use Rattle.ut_merge.specs.Jobs.{IsJob}
-use Rattle.ut_staged.specs.Staged.{Staged, no_rows, row_at, count_of, entered_l1, entered_l2, merged_l1, closed_l2, switched}
+use Rattle.ut_staged.specs.Staged.{Staged, row_at, count_of, entered_l1, entered_l2, merged_l1, closed_l2, switched}
 use Rattle.ut_staged.specs.Tables.{IsArranged, place_at}
 use Rattle.ut_staged.specs.Keeping.{stamp_flags}
 use Rattle.ut_staged.proofs.StageLemmas.{pushed_l1, pushed_l2}
@@ -23,7 +21,6 @@ use Rattle.ut_staged.proofs.BeginLemmas.{closed_moved}
 use Rattle.ut_staged.proofs.SwitchLemmas.{switched_is}
 use Rattle.ut_staged.proofs.FlagLemmas.{flags-sizes}
 use Rattle.ut_staged.specs.Choice.{IsDropped}
-use Rattle.ut_table.specs.Finds.{SeenOnce}
 use Rattle.ut_table.specs.Numbered.{AreNumbered, IsAtRest}
 use Rattle.ut_table.specs.Pending.{key_row, job_of}
 

@@ -5,14 +5,12 @@ use Rattle.std.specs.Option.{option_map, option_and_then}
 use Rattle.std.specs.List.{flat_map, range_with_len}
 use Rattle.std.specs.List.Sorted.{IsPermutation}
 use Rattle.std.proofs.lemmas.List.Elements.{All-nil, All-append, All-map, All-filter, All-head, All-tail, All-weaker}
-use Rattle.ut_value.specs.declared.value.Value.{Value}
 use Rattle.ut_value.specs.KeyBytes.{key_of}
 use Rattle.ut_plain.specs.declared.statement.Pred.{Pred}
 use Rattle.ut_stamps.specs.declared.fates.Fate.{Fate}
 use Rattle.ut_stamps.specs.declared.visibility.Stamp.{Stamp}
 use Rattle.ut_stamps.specs.declared.place.Place.TheVariants.{Main}
 use Rattle.ut_exact.specs.Places.{StagedRow}
-use Rattle.ut_l2.specs.KeyRows.{KeyRow, no_row}
 use Rattle.ut_main.specs.Parts.{MainValue}
 use Rattle.ut_scan.specs.declared.place.ColumnPred.{ColumnPred}
 use Rattle.ut_scan.specs.declared.place.Found.{Found}
@@ -21,8 +19,8 @@ use Rattle.ut_scan.specs.Finds.{all_places, found_at, is_hit}
 use Rattle.ut_scan.specs.StageRows.{found_in_part, found_in_parts, found_outside, found_rows}
 use Rattle.ut_scan.specs.Tallies.{key_in, Tallies}
 use Rattle.ut_scan.proofs.RangeLemmas.{range-within}
-use Rattle.ut_staged.specs.Staged.{Staged, row_at}
-use Rattle.ut_table.specs.Coded.{no_column, keyed_main}
+use Rattle.ut_staged.specs.Staged.{Staged}
+use Rattle.ut_table.specs.Coded.{no_column}
 use Rattle.ut_table.specs.Compiled.{column_pred}
 use Rattle.ut_table.specs.Contents.{Contents, staged}
 use Rattle.ut_table.specs.Finds.{SeenOnce}

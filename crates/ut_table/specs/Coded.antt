@@ -1,6 +1,5 @@
 -- The codes of a column: main's, behind them those of the second stage, and those of the stage that a merge closed.
 use Rattle.std.specs.Prelude.{ℕ, List, [], ◌++◌, length, map, get_or, unwrap_or}
-use Rattle.ut_value.specs.declared.value.Kind.{Kind}
 use Rattle.ut_value.specs.declared.value.Kind.TheVariants.{Int}
 use Rattle.ut_value.specs.declared.value.Column.{Column}
 use Rattle.ut_value.specs.declared.value.Value.{Value}

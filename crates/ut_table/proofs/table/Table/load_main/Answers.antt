@@ -1,10 +1,9 @@
-use Rattle.std.proofs.Common.{◌≡◌, ◌∙◌, ap, sym, subst, List, map, None}
+use Rattle.std.proofs.Common.{◌∙◌, ap, sym, subst, List, map}
 use Rattle.std.specs.Arc.{arc_value}
 use Rattle.std.specs.Global.{Vec}
 use Rattle.ut_value.specs.declared.value.Column.{Column}
 use Rattle.ut_stamps.specs.declared.visibility.Stamp.{Stamp}
 use Rattle.ut_scan.specs.StampLists.{StampLists}
-use Rattle.ut_exact.specs.Places.{StagedRow}
 use Rattle.ut_staged.specs.Staged.{Staged}
 use Rattle.ut_table.specs.Contents.{TableValue, staged}
 use Rattle.ut_table.specs.Kept.{IsTable}

@@ -4,7 +4,7 @@ use Rattle.std.proofs.lemmas.Int.{ints, to_z-of_z}
 use Rattle.ut_plain.specs.Tables.{place_in}
 use Rattle.ut_plain.specs.declared.statement.Query.TheVariants.{Sum}
 use Rattle.ut_store.proofs.QuestionLemmas.{asked_fit, asked, summed, told_sum}
-use Rattle.ut_store.proofs.store.Store.ask_sum.Goals as goal
+use Rattle.ut_store.proofs.store.Store.ask_listed.Goals as goal
 
 pub scan-requires-clause-fit : goal.scan-requires-clause-fit
 scan-requires-clause-fit c = asked_fit c.args.self.now c.args.session (Sum c.args.name.now c.args.column.now c.args.preds.now) c.as_slice.result.now c.requires.known c.as_slice.ensures.bytes
