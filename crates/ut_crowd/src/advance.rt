@@ -38,12 +38,12 @@ impl<'a, 'd, D: Disk + Send, O: Opening + Send, H: Hook> Act<Hall<'d, D, O>> for
     #[tactic(auto, using(ut_gate::proofs::Jobs::job_stays))]
     fn run(&mut self, value: &mut Hall<'d, D, O>, _slip: &mut Slip<Job>) -> Went {
         let more = value.advance(self.session);
-        went(more, value.is_due(self.l1))
+        came_to(more, value.is_due(self.l1))
     }
 }
 
 // What a turn came to, where there may be more of them, and where a keeper may have something to do.
-fn went(more: bool, due: bool) -> Went
+fn came_to(more: bool, due: bool) -> Went
     ensures { goes_on result ≡ more }
 {
     if !more {
