@@ -37,14 +37,21 @@ impl<'a, 'd, D: Disk + Send, O: Opening + Send, H: Hook> Act<Hall<'d, D, O>> for
 
     #[tactic(auto, using(ut_gate::proofs::Jobs::job_stays))]
     fn run(&mut self, value: &mut Hall<'d, D, O>, _slip: &mut Slip<Job>) -> Went {
-        if !value.advance(self.session) {
-            return Went::Over;
-        }
-        if value.is_due(self.l1) {
-            Went::Due
-        } else {
-            Went::On
-        }
+        let more = value.advance(self.session);
+        came_to(more, value.is_due(self.l1))
+    }
+}
+
+// What a turn came to, where there may be more of them, and where a keeper may have something to do.
+fn came_to(more: bool, due: bool) -> Went
+    ensures { goes_on result ≡ more }
+{
+    if !more {
+        Went::Over
+    } else if due {
+        Went::Due
+    } else {
+        Went::On
     }
 }
 

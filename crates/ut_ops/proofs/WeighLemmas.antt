@@ -8,6 +8,7 @@ use Rattle.std.proofs.Math.IntN.{zero-*ℤ, suc_ℤ-*ℤ}
 use Rattle.std.proofs.lemmas.Bool.{cases_eq, cases_lt, eq-eqb, ne_eqb}
 use Rattle.std.proofs.lemmas.Int.{ints}
 use Rattle.std.proofs.lemmas.List.{get_or_past, map-append}
+use Rattle.std.proofs.lemmas.List.Sums.{sum_by-cons}
 use Rattle.std.proofs.lemmas.List.Elements.{All-nil, All-cons, All-head, All-tail}
 use Rattle.std.proofs.lemmas.List.Sorted.{All-permutation, IsPermutation-map, IsPermutation-sym, sum_by-IsPermutation}
 use Rattle.std.proofs.lemmas.Option.{same_Some, slice_get_within, get_or_from_slice_get}
@@ -106,7 +107,8 @@ module _ (keys : List (List ℕ)) where
   pub weighed-codes : (codes : List ℕ) (n : ℕ) → All (λ c. c < n) codes → weighed (how_often codes) keys n ≡ numbered codes
   weighed-codes [] n h = weighed-none (how_often []) n (λ k lt. refl)
   weighed-codes (c ∷ cs) n h =
-      weighed-both (λ k. cond (nat_eq k c) 1 0) (how_often cs) n
+      weighed-same (how_often (c ∷ cs)) (λ k. cond (nat_eq k c) 1 0 + how_often cs k) n (λ k lt. sum_by-cons (λ x. cond (nat_eq k x) 1 0) c cs)
+      ∙ weighed-both (λ k. cond (nat_eq k c) 1 0) (how_often cs) n
       ∙ (λ i. weighed-one c n (All-head (λ x. x < n) c cs h) i +ℤ weighed-codes cs n (All-tail (λ x. x < n) c cs h) i)
 
   weighed-more : (f : ℕ → ℕ) (n m : ℕ) → ((k : ℕ) → n ≤ k → k < n + m → f k ≡ 0) → weighed f keys (n + m) ≡ weighed f keys n
@@ -125,6 +127,12 @@ module _ (keys : List (List ℕ)) where
       let all : min (length keys) (length counts) + (length keys - min (length keys) (length counts)) ≡ length keys = omega arith in
       sym (weighed-more (counted counts) n (length keys - n) (λ k lo hi. get_or_past counts k 0 (omega (arith, lo, hi))))
       ∙ ap (weighed (counted counts) keys) all
+
+-- one code more
+pub weighed-step : (counts : List ℕ) (keys : List (List ℕ)) (n : ℕ) (a b : ℤ) (count : ℕ) (key : List ℕ) → a ≡ weighed (counted counts) keys n → b ≡ pos count *ℤ key_number key → count ≡ get_or counts n 0 → key ≡ get_or keys n [] → a +ℤ b ≡ weighed (counted counts) keys (n + 1)
+weighed-step counts keys n a b count key so_far one is at =
+    let e : n + 1 ≡ suc n = omega arith in
+    (λ i. so_far i +ℤ (one ∙ (λ j. pos (is j) *ℤ key_number (at j))) i) ∙ ap (weighed (counted counts) keys) (sym e)
 
 -- ---- the keys of rows
 
@@ -175,7 +183,9 @@ total-append (v ∷ vs) ys = ap (λ m. number_of v +ℤ m) (total-append vs ys) 
 
 total-parts : (vs : List Value) → total vs ≡ pos (sum_by (λ v. up (number_of v)) vs) -ℤ pos (sum_by (λ v. down (number_of v)) vs)
 total-parts [] = refl
-total-parts (v ∷ vs) = by (number_of v) (total vs) (sum_by (λ w. up (number_of w)) vs) (sum_by (λ w. down (number_of w)) vs) (total-parts vs)
+total-parts (v ∷ vs) =
+    by (number_of v) (total vs) (sum_by (λ w. up (number_of w)) vs) (sum_by (λ w. down (number_of w)) vs) (total-parts vs)
+    ∙ sym (λ i. pos (sum_by-cons (λ w. up (number_of w)) v vs i) -ℤ pos (sum_by-cons (λ w. down (number_of w)) v vs i))
   where
     by : (x t : ℤ) (a b : ℕ) → t ≡ pos a -ℤ pos b → x +ℤ t ≡ pos (up x + a) -ℤ pos (down x + b)
     by x t a b e = omega (arith, ints)
