@@ -260,6 +260,70 @@ fn has_shape(
     Ok(())
 }
 
+/// Of all rows main has one with the least number and two with the other, and rows 4 and 5 stand
+/// outside.
+fn tallies_all(
+    rt: &impl Abort,
+    alloc: Global,
+    table: &Table,
+    fates: &Fates,
+) -> Result<(), AllocError>
+    requires { SeenOnce table.now.stages fates.now 0 None }
+{
+    assert!(rt; table.columns().len() == 2);
+    let all = table.tally(alloc, fates, 0, None, &[], 0)?;
+    assert!(rt; all.counts.as_slice() == [1, 2].as_slice());
+    assert!(rt; all.rest.as_slice().len() == 2);
+    assert!(rt; all.rest[0].id == 4);
+    assert!(rt; all.rest[1].id == 5);
+    Ok(())
+}
+
+/// Of the rows whose number meets a comparison main has so many with each code, and one stands
+/// outside.
+fn tallies(
+    rt: &impl Abort,
+    alloc: Global,
+    table: &Table,
+    fates: &Fates,
+    op: Cmp,
+    number: i64,
+    counts: &[u32],
+    outside: u32,
+) -> Result<(), AllocError>
+    requires { SeenOnce table.now.stages fates.now 0 None }
+{
+    let column = name(rt, alloc, b"k")?;
+    let value = Value::Int(number);
+    assert!(rt; table.columns().len() == 2);
+    assert!(rt; has_column(table.columns(), column.as_slice()));
+    let Some(kind) = kind_in(table.columns(), column.as_slice()) else {
+        panic!(rt; "a column has no kind");
+    };
+    assert!(rt; is_of_kind(kind, &value));
+    let preds = [Pred { column, op, value }];
+    let some = table.tally(alloc, fates, 0, None, &preds, 0)?;
+    assert!(rt; some.counts.as_slice() == counts);
+    assert!(rt; some.rest.as_slice().len() == 1);
+    assert!(rt; some.rest[0].id == outside);
+    Ok(())
+}
+
+/// The tallies of rows in two parts and in both other stages.
+fn tallies_each(
+    rt: &impl Abort,
+    alloc: Global,
+    table: &Table,
+    fates: &Fates,
+    next: u32,
+) -> Result<(), AllocError>
+    requires { AreNumbered next table.now.stages }
+{
+    tallies_all(rt, alloc, table, fates)?;
+    tallies(rt, alloc, table, fates, Cmp::Eq, 5, &[0, 2], 5)?;
+    tallies(rt, alloc, table, fates, Cmp::Lt, 5, &[1, 0], 4)
+}
+
 #[test]
 fn rows_are_found_in_each_stage_and_behind_merges(rt: HostRuntime) -> Result<(), Fail> {
     let alloc = rt.alloc();
@@ -301,5 +365,23 @@ fn rows_are_found_in_each_stage_and_behind_merges(rt: HostRuntime) -> Result<(),
     has_shape(&rt, alloc, &table, 0, 0, &[3])?;
     assert!(rt; table.columns().len() == 2);
     assert!(rt; table.main_keys(alloc, 0)?.len() == 2);
+    Ok(())
+}
+
+#[test]
+fn codes_are_counted_in_two_parts(rt: HostRuntime) -> Result<(), Fail> {
+    let alloc = rt.alloc();
+    let fates = Fates::new(alloc)?;
+    let builder = Builder::alone(&rt, &NoHook);
+    let mut table = three_rows(&rt, alloc)?;
+    let job = begin(alloc, &mut table, &fates, MergeKind::Extend, 4)?;
+    end(&builder, alloc, &mut table, &job, 4)?;
+    move_all(&rt, &mut table, 4)?;
+    let job = begin(alloc, &mut table, &fates, MergeKind::Partial, 4)?;
+    end(&builder, alloc, &mut table, &job, 4)?;
+    has_shape(&rt, alloc, &table, 0, 0, &[2, 1])?;
+    load(&rt, alloc, &mut table, 4, -7, b"d")?;
+    insert(&rt, alloc, &mut table, 5, 5, b"e")?;
+    tallies_each(&rt, alloc, &table, &fates, 6)?;
     Ok(())
 }

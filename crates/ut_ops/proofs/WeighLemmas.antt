@@ -1,5 +1,5 @@
 -- The total of numbers is that of their codes' numbers, each as often as its code occurs.
-use Rattle.std.proofs.Common.{◌≡◌, inl, inr, ℕ, zero, suc, ◌+◌, ◌-◌, ◌<◌, ◌≤◌, min, ℤ, pos, ◌+ℤ◌, Bool, cond, nat_eq, List, [], ◌∷◌, ◌++◌, length, map, drop, get_or, All, Option, None, Some, IsTrue, refl, sym, ◌∙◌, ap, subst, arith, true≢false}
+use Rattle.std.proofs.Common.{◌≡◌, inl, inr, ℕ, zero, suc, ◌+◌, ◌-◌, ◌<◌, ◌≤◌, min, ℤ, pos, ◌+ℤ◌, cond, nat_eq, List, [], ◌∷◌, ◌++◌, length, map, drop, get_or, All, None, Some, IsTrue, refl, sym, ◌∙◌, ap, arith, true≢false}
 use Rattle.std.specs.Prelude.{slice_get, ◌*ℤ◌, ◌-ℤ◌}
 use Rattle.std.specs.Option.{option_map, option_and_then}
 use Rattle.std.specs.List.{sum_by}
@@ -11,11 +11,10 @@ use Rattle.std.proofs.lemmas.List.{get_or_past, map-append}
 use Rattle.std.proofs.lemmas.List.Sums.{sum_by-cons}
 use Rattle.std.proofs.lemmas.List.Elements.{All-nil, All-cons, All-head, All-tail}
 use Rattle.std.proofs.lemmas.List.Sorted.{All-permutation, IsPermutation-map, IsPermutation-sym, sum_by-IsPermutation}
-use Rattle.std.proofs.lemmas.Option.{same_Some, slice_get_within, get_or_from_slice_get}
+use Rattle.std.proofs.lemmas.Option.{slice_get_within, get_or_from_slice_get}
 use borrow.Author.Differences.{up, down}
 use Rattle.ut_value.specs.declared.value.Value.{Value}
 use Rattle.ut_value.specs.declared.value.Value.TheVariants.{Int, Text}
-use Rattle.ut_value.specs.declared.value.Kind.{Kind}
 use Rattle.ut_value.specs.declared.value.Kind.TheVariants as kinds
 use Rattle.ut_value.specs.declared.value.Column.{Column}
 use Rattle.ut_value.specs.KeyBytes.{is_int, is_of_kind, is_value, int_key, key_of}

@@ -34,6 +34,7 @@ pub returns : goal.returns
 returns c p t =
     let shown = asked_tally c.args.self.now c.args.session c.args.name.now c.args.column.now c.args.preds.now c.args.place c.as_slice.result.now c.as_slice-2.result.now c.table_of-table.result.now.stages c.in_ok-tally.tally.counts.items c.in_ok-tally.tally.rest.items c.requires.seat c.requires.stands c.requires.known c.as_slice.ensures.bytes c.as_slice-2.ensures.bytes c.table_of-table.ensures c.requires.column c.in_ok-tally.ensures.hits in
     let column = c.args.column.now in
+    let same : to_z w128 (of_z w128 c.in_ok-total.total) ≡ c.in_ok-total.total = grind (arith, ints, to_z-of_z) in
     told_sum c.args.self.now c.args.session c.args.name.now c.args.preds.now c.table_of-table.result.now.stages shown.found shown.shown p t column column _ refl
-    (c.in_ok-total.ensures (place_in c.args.self.now.tables c.args.name.now) column shown.found
+    (same ∙ c.in_ok-total.ensures (place_in c.args.self.now.tables c.args.name.now) column shown.found
     (c.requires.column c.table_of-table.result.now.stages (ap (λ n. slice_get c.args.self.now.staged (place_in c.args.self.now.tables n)) (sym c.as_slice-2.ensures.bytes) ∙ c.table_of-table.ensures)) shown.shown.fit shown.tally)
