@@ -1,7 +1,6 @@
 //! What the calls answer at small dictionaries.
 ghost use Rattle.std.specs.Prelude.{◌≡◌, ◌+◌, ◌<◌, ◌≤◌, length};
 
-use crate::{DictChain, PrefixDict};
 use std::alloc::{AllocError, Global};
 use std::marker::Brand;
 use std::process::Abort;
@@ -9,6 +8,7 @@ use std::sync::Arc;
 use std::sync::ledger::{Blank, Ledger};
 use std::test::Fail;
 use ut_key::{Cmp, KeyList, Steps, is_ascending};
+use ut_prefix::{DictChain, PrefixDict};
 
 /// The dictionary of a few keys that ascend.
 fn dictionary(rt: &impl Abort, alloc: Global, keys: &[&[u8]]) -> Result<PrefixDict, AllocError> {

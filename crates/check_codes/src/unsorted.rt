@@ -1,10 +1,10 @@
 //! The order of codes at a few keys.
 ghost use Rattle.std.specs.Prelude.{◌+◌, ◌<◌, ◌≤◌, length, OnOk};
 
-use crate::UnsortedDict;
 use std::alloc::{AllocError, Global};
 use std::process::Abort;
 use std::test::Fail;
+use ut_unsorted::UnsortedDict;
 
 fn add(rt: &impl Abort, dict: &mut UnsortedDict, key: &[u8]) -> Result<(), AllocError>
     requires { length dict.old < 100 }

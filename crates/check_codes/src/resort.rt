@@ -1,7 +1,7 @@
 //! The order of a few rows.
 
-use crate::order;
 use std::test::Fail;
+use ut_resort::order;
 
 #[test]
 fn rows_are_ordered_by_the_column_with_fewest_keys(rt: HostRuntime) -> Result<(), Fail> {

@@ -1,6 +1,7 @@
-use super::*;
+//! The places of a mask that stand, until they are cleared.
 use std::process::Abort;
 use std::test::Fail;
+use ut_mask::Mask;
 
 /// The places of a mask that stand, found one by one.
 fn assert_places(rt: &impl Abort, mask: &Mask, places: &[u32]) {
