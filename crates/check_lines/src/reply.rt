@@ -1,7 +1,7 @@
 //! A reply's text behind what is there.
-use crate::{put_reply, put_small};
 use std::test::Fail;
 use ut_plain::{Refusal, Reply};
+use ut_reply::{put_reply, put_small};
 
 #[test]
 fn replies_stand_one_behind_the_other(rt: HostRuntime) -> Result<(), Fail> {

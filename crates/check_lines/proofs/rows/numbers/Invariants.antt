@@ -1,5 +1,5 @@
 use Rattle.std.proofs.Common.{◌≡◌, ◌≤◌, length}
-use Rattle.ut_rows.proofs.tests.numbers.Given as goal
+use Rattle.check_lines.proofs.rows.numbers.Given as goal
 
 -- as many values as numbers were read
 abbrev pub invariant-loop-number : goal.invariant-loop-number

@@ -1,6 +1,6 @@
 //! The plan of some words.
-use crate::{Mode, Plan, WordsError, plan_of};
 use std::test::Fail;
+use ut_words::{Mode, Plan, WordsError, plan_of};
 
 const DEFAULTS: Plan = Plan {
     mode: Mode::Run,

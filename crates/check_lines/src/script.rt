@@ -1,6 +1,6 @@
-//! Lines as another program wrote them.
-use super::*;
+//! Lines of the benchmark's script as another program wrote them.
 use std::test::Fail;
+use ut_gen::{Script, script_len, script_line};
 
 /// A line, by seed, size and number.
 struct Case {

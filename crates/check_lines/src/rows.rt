@@ -1,10 +1,10 @@
 //! The same rows as lists and by columns.
 ghost use Rattle.std.specs.Prelude.{◌≡◌, length, IfOk};
 
-use crate::{Cells, Rows};
 use std::alloc::{AllocError, Global};
 use std::process::Abort;
 use std::test::Fail;
+use ut_rows::{Cells, Rows};
 use ut_value::{Seq, Value};
 
 fn numbers(alloc: Global, numbers: &[i64]) -> Result<Vec<Value>, AllocError>
