@@ -3,14 +3,14 @@ ghost use Rattle.std.specs.Prelude.{◌≡◌, ◌++◌, ◌∷◌, ◌≤◌, �
 ghost use Rattle.ut_files.specs.Deeds.{Done, Notes, opening};
 ghost use Rattle.ut_files.specs.declared.folder.Deed.TheVariants as deeds;
 
-use crate::{Deed, Folder};
 use std::alloc::Global;
 use std::io;
+use ut_files::{Deed, Folder};
 use ut_outside::Which;
 
 /// Its files are all there or none is. One deed fails, each time.
 #[derive(Drop)]
-pub(super) struct Recorder {
+pub(crate) struct Recorder {
     deeds: Vec<Deed>,
     bytes: Vec<u8>,
     there: bool,
@@ -18,7 +18,7 @@ pub(super) struct Recorder {
 }
 
 impl Recorder {
-    pub(super) fn new(alloc: Global, there: bool, fails: Option<Deed>) -> Recorder {
+    pub(crate) fn new(alloc: Global, there: bool, fails: Option<Deed>) -> Recorder {
         Recorder {
             deeds: Vec::new(alloc),
             bytes: Vec::new(alloc),
@@ -27,11 +27,11 @@ impl Recorder {
         }
     }
 
-    pub(super) fn deeds(&self) -> &[Deed] {
+    pub(crate) fn deeds(&self) -> &[Deed] {
         &self.deeds
     }
 
-    pub(super) fn bytes(&self) -> &[u8] {
+    pub(crate) fn bytes(&self) -> &[u8] {
         &self.bytes
     }
 
