@@ -8,6 +8,3 @@ mod reading;
 
 pub use code_vec::CodeVec;
 pub use form::{Form, width_of};
-
-#[cfg(test)]
-mod tests;

@@ -6,8 +6,6 @@ mod joining;
 mod merging;
 mod parallel;
 mod piece;
-#[cfg(test)]
-mod tests;
 
 pub use cut::{Cut, cuts};
 pub use merging::merge;

@@ -7,7 +7,5 @@ mod numbers;
 mod plan;
 mod rows;
 mod script;
-#[cfg(test)]
-mod tests;
 
 pub use script::{Script, script_len, script_line};

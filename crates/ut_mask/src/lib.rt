@@ -5,6 +5,3 @@ mod mask;
 mod word;
 
 pub use mask::Mask;
-
-#[cfg(test)]
-mod tests;

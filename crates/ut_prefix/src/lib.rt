@@ -10,6 +10,3 @@ mod write;
 
 pub use chain::DictChain;
 pub use dict::PrefixDict;
-
-#[cfg(test)]
-mod tests;

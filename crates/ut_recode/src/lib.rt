@@ -3,8 +3,6 @@
 
 mod parts;
 mod recoding;
-#[cfg(test)]
-mod tests;
 
 pub use parts::share;
 pub use recoding::recode;

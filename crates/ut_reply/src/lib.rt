@@ -4,8 +4,6 @@
 mod numbers;
 mod reply;
 mod room;
-#[cfg(test)]
-mod tests;
 mod values;
 
 pub use reply::{put_reply, put_small};

@@ -8,6 +8,3 @@ mod rows;
 
 pub use laws::resorted_order;
 pub use rows::order;
-
-#[cfg(test)]
-mod tests;

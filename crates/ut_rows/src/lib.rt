@@ -3,8 +3,6 @@
 
 mod cells;
 mod rows;
-#[cfg(test)]
-mod tests;
 
 pub use cells::Cells;
 pub use rows::Rows;

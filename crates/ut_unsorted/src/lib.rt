@@ -9,6 +9,3 @@ mod postings;
 
 pub use dictionary::UnsortedDict;
 pub use postings::Postings;
-
-#[cfg(test)]
-mod tests;

@@ -3,8 +3,6 @@
 
 mod command;
 mod plan;
-#[cfg(test)]
-mod tests;
 mod words;
 
 pub use plan::{Mode, Plan, WordsError};

@@ -1,0 +1,103 @@
+//! A folder that notes what is done in it.
+ghost use Rattle.std.specs.Prelude.{◌≡◌, ◌++◌, ◌∷◌, ◌≤◌, ℕ, [], length, take, Some, MatchResult, IfOk};
+ghost use Rattle.ut_files.specs.Deeds.{Done, Notes, opening};
+ghost use Rattle.ut_files.specs.declared.folder.Deed.TheVariants as deeds;
+
+use std::alloc::Global;
+use std::io;
+use ut_files::{Deed, Folder};
+use ut_outside::Which;
+
+/// Its files are all there or none is. One deed fails, each time.
+#[derive(Drop)]
+pub(crate) struct Recorder {
+    deeds: Vec<Deed>,
+    bytes: Vec<u8>,
+    there: bool,
+    fails: Option<Deed>,
+}
+
+impl Recorder {
+    pub(crate) fn new(alloc: Global, there: bool, fails: Option<Deed>) -> Recorder {
+        Recorder {
+            deeds: Vec::new(alloc),
+            bytes: Vec::new(alloc),
+            there,
+            fails,
+        }
+    }
+
+    pub(crate) fn deeds(&self) -> &[Deed] {
+        &self.deeds
+    }
+
+    pub(crate) fn bytes(&self) -> &[u8] {
+        &self.bytes
+    }
+
+    fn note(&mut self, deed: Deed, bytes: &[u8]) -> io::Result<()>
+        ensures { MatchResult result
+            (λ _. (self.new.deeds.items ≡ self.old.deeds.items ++ deed ∷ []) × (self.new.bytes.items ≡ self.old.bytes.items ++ bytes.now))
+            (λ _. (self.new.deeds.items ≡ self.old.deeds.items) × (self.new.bytes.items ≡ self.old.bytes.items)) }
+    {
+        if self.fails == Some(deed) {
+            return Err(io::ErrorKind::Other.into());
+        }
+        self.deeds.reserve(1)?;
+        self.bytes.extend_from_slice(bytes)?;
+        self.deeds.push_reserved(deed);
+        Ok(())
+    }
+}
+
+impl Folder for Recorder {
+    ghost done = { λ s. Some (record { deeds = s.deeds.items; bytes = s.bytes.items }) };
+
+    fn fill_streams(&mut self) -> io::Result<()> {
+        self.note(Deed::Filled, &[])
+    }
+
+    fn lock(&mut self) -> io::Result<()> {
+        self.note(Deed::Locked, &[])
+    }
+
+    fn open(&mut self, file: Which) -> io::Result<bool> {
+        if self.there {
+            self.note(Deed::Opened(file), &[])?;
+            return Ok(true);
+        }
+        self.note(Deed::Missing(file), &[])?;
+        Ok(false)
+    }
+
+    fn make(&mut self, file: Which) -> io::Result<()> {
+        self.note(Deed::Made(file), &[])
+    }
+
+    fn sync_names(&mut self) -> io::Result<()> {
+        self.note(Deed::Named, &[])
+    }
+
+    fn size(&mut self, file: Which) -> io::Result<u64> {
+        self.note(Deed::Sized(file, 5), &[])?;
+        Ok(5)
+    }
+
+    fn read_at(&mut self, file: Which, at: u64, buf: &mut [u8]) -> io::Result<usize> {
+        let count = buf.len().min(2);
+        self.note(Deed::Read(file, at, count), &buf[..count])?;
+        Ok(count)
+    }
+
+    fn write_at(&mut self, file: Which, at: u64, bytes: &[u8]) -> io::Result<()> {
+        self.note(Deed::Wrote(file, at, bytes.len()), bytes)
+    }
+
+    fn cut(&mut self, file: Which, len: u64) -> io::Result<()> {
+        self.note(Deed::Cut(file, len), &[])
+    }
+
+    fn sync(&mut self, file: Which) -> io::Result<()> {
+        self.note(Deed::Synced(file), &[])
+    }
+}
