@@ -8,8 +8,6 @@ mod crowds;
 #[cfg(test)]
 mod kept;
 #[cfg(test)]
-mod program;
-#[cfg(test)]
 mod replies;
 #[cfg(test)]
 mod rows;

@@ -3,6 +3,8 @@
 
 mod run;
 mod status;
+#[cfg(test)]
+mod tests;
 mod words;
 
 pub use run::program;

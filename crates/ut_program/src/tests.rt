@@ -1,11 +1,12 @@
 //! A run of the program with words that are told.
 ghost use Rattle.std.specs.Prelude.{Some, map};
 
+use crate::run::program;
+use crate::words::Words;
 use std::alloc::Global;
 use std::test::Fail;
 use ut_app::Status;
 use ut_outside::{MemDisk, MemSink, MemSource, Which};
-use ut_program::{Words, program};
 
 /// Words that stand in memory.
 #[derive(Drop)]
