@@ -5,6 +5,7 @@ ghost use Rattle.ut_durable.specs.Calls.{IsSettled};
 ghost use Rattle.ut_durable.specs.Made.{made_held};
 
 use std::alloc::Global;
+use std::process::Abort;
 use std::test::Fail;
 use ut_durable::Durable;
 use ut_outside::{MemDisk, Which};
@@ -25,42 +26,109 @@ fn made(alloc: Global) -> Result<(MemDisk, Durable), Fail>
     Ok((disk, Durable::new(redo, pages)))
 }
 
+// Each call stands in a function of its own, which promises nothing and owns nothing, so that the proofs stay short.
+
+fn append(disk: &mut MemDisk, files: &mut Durable, frame: &Frame) -> Result<(), Fail>
+    requires made { files.old ≡ made_held }
+    requires settled { IsSettled files.old (mem_view disk.old) }
+{
+    files.append(disk, frame)?;
+    Ok(())
+}
+
+fn switch(disk: &mut MemDisk, files: &mut Durable) -> Result<(), Fail>
+    requires made { files.old ≡ made_held }
+    requires settled { IsSettled files.old (mem_view disk.old) }
+{
+    files.switch(disk)?;
+    Ok(())
+}
+
+fn put_page(disk: &mut MemDisk, files: &mut Durable) -> Result<(), Fail>
+    requires made { files.old ≡ made_held }
+    requires settled { IsSettled files.old (mem_view disk.old) }
+{
+    files.put_page(disk, 3, 0, b"page")?;
+    Ok(())
+}
+
+fn seal(rt: &impl Abort, disk: &mut MemDisk, files: &mut Durable) -> Result<(), Fail>
+    requires { IsSettled files.old (mem_view disk.old) }
+{
+    let Some(root) = Root::from_bytes(&ROOT) else {
+        panic!(rt; "no root")
+    };
+    assert!(rt; root.version == 2);
+    files.seal(disk, &root)?;
+    Ok(())
+}
+
+fn flip(alloc: Global, disk: &mut MemDisk, files: &mut Durable) -> Result<(), Fail>
+    requires { IsSettled files.old (mem_view disk.old) }
+{
+    files.flip(disk, Vec::new(alloc))?;
+    Ok(())
+}
+
+/// The length of the log behind a frame.
+fn len_appended(alloc: Global) -> Result<usize, Fail> {
+    let frame = Frame::txn(alloc)?;
+    let (mut disk, mut files) = made(alloc)?;
+    append(&mut disk, &mut files, &frame)?;
+    Ok(disk.bytes(Which::Redo).len())
+}
+
+/// The length of the log's other file behind a switch.
+fn len_switched(alloc: Global) -> Result<usize, Fail> {
+    let (mut disk, mut files) = made(alloc)?;
+    switch(&mut disk, &mut files)?;
+    Ok(disk.bytes(Which::Redo2).len())
+}
+
 #[test]
 fn a_frame_is_appended_and_the_log_moves(rt: HostRuntime) -> Result<(), Fail> {
     let alloc = rt.alloc();
-    let (mut disk, mut files) = made(alloc)?;
-    let frame = Frame::txn(alloc)?;
-    files.append(&mut disk, &frame)?;
-    assert_eq!(rt; disk.bytes(Which::Redo).len(), 11);
-
-    let (mut disk, mut files) = made(alloc)?;
-    files.switch(&mut disk)?;
-    assert_eq!(rt; disk.bytes(Which::Redo2).len(), 1);
+    assert_eq!(rt; len_appended(alloc)?, 11);
+    assert_eq!(rt; len_switched(alloc)?, 1);
     Ok(())
+}
+
+/// The length of the page file behind a page.
+fn len_put(alloc: Global) -> Result<usize, Fail> {
+    let (mut disk, mut files) = made(alloc)?;
+    put_page(&mut disk, &mut files)?;
+    Ok(disk.bytes(Which::Pages).len())
+}
+
+fn has_root(bytes: &[u8]) -> bool {
+    if bytes.len() != 12288 {
+        return false;
+    }
+    let slot = &bytes[8192..8236];
+    slot == ROOT.as_slice()
+}
+
+fn is_root_sealed(rt: &impl Abort, alloc: Global) -> Result<bool, Fail> {
+    let (mut disk, mut files) = made(alloc)?;
+    seal(rt, &mut disk, &mut files)?;
+    Ok(has_root(disk.bytes(Which::Pages)))
+}
+
+fn has_selected(bytes: &[u8]) -> bool {
+    bytes.len() == 12288 && bytes[1] == 1
+}
+
+fn is_root_selected(alloc: Global) -> Result<bool, Fail> {
+    let (mut disk, mut files) = made(alloc)?;
+    flip(alloc, &mut disk, &mut files)?;
+    Ok(has_selected(disk.bytes(Which::Pages)))
 }
 
 #[test]
 fn a_page_a_root_and_the_selector_are_written(rt: HostRuntime) -> Result<(), Fail> {
     let alloc = rt.alloc();
-    let (mut disk, mut files) = made(alloc)?;
-    files.put_page(&mut disk, 3, 0, b"page")?;
-    assert_eq!(rt; disk.bytes(Which::Pages).len(), 16384);
-
-    let (mut disk, mut files) = made(alloc)?;
-    let Some(root) = Root::from_bytes(&ROOT) else {
-        panic!(rt; "no root")
-    };
-    assert!(rt; root.version == 2);
-    files.seal(&mut disk, &root)?;
-    let bytes = disk.bytes(Which::Pages);
-    assert!(rt; bytes.len() == 12288);
-    let slot = &bytes[8192..8236];
-    assert_eq!(rt; slot, ROOT.as_slice());
-
-    let (mut disk, mut files) = made(alloc)?;
-    files.flip(&mut disk, Vec::new(alloc))?;
-    let bytes = disk.bytes(Which::Pages);
-    assert!(rt; bytes.len() == 12288);
-    assert_eq!(rt; bytes[1], 1);
+    assert_eq!(rt; len_put(alloc)?, 16384);
+    assert!(rt; is_root_sealed(&rt, alloc)?);
+    assert!(rt; is_root_selected(alloc)?);
     Ok(())
 }
