@@ -368,20 +368,51 @@ fn rows_are_found_in_each_stage_and_behind_merges(rt: HostRuntime) -> Result<(),
     Ok(())
 }
 
+/// A merge that re-sorts nothing, from its begin to its end.
+fn merged<B: Build>(
+    builder: &B,
+    alloc: Global,
+    table: &mut Table,
+    fates: &Fates,
+    kind: MergeKind,
+    next: u32,
+) -> Result<(), AllocError>
+    requires ready { B.ready builder.now }
+    requires rest { IsAtRest next table.old.stages }
+    requires kind { kind ≢ MergeKind.Resort }
+    ensures { OnOk result (IsAtRest next table.new.stages) }
+{
+    let job = begin(alloc, table, fates, kind, next)?;
+    end(builder, alloc, table, &job, next)
+}
+
+/// Of three rows two move to one part of main and one to another; then two more rows come.
+fn in_two_parts<B: Build>(
+    rt: &impl Abort,
+    builder: &B,
+    alloc: Global,
+    table: &mut Table,
+    fates: &Fates,
+) -> Result<(), AllocError>
+    requires ready { B.ready builder.now }
+    requires rest { IsAtRest 4 table.old.stages }
+    ensures { OnOk result (IsAtRest 6 table.new.stages) }
+{
+    merged(builder, alloc, table, fates, MergeKind::Extend, 4)?;
+    move_all(rt, table, 4)?;
+    merged(builder, alloc, table, fates, MergeKind::Partial, 4)?;
+    has_shape(rt, alloc, table, 0, 0, &[2, 1])?;
+    load(rt, alloc, table, 4, -7, b"d")?;
+    insert(rt, alloc, table, 5, 5, b"e")
+}
+
 #[test]
 fn codes_are_counted_in_two_parts(rt: HostRuntime) -> Result<(), Fail> {
     let alloc = rt.alloc();
     let fates = Fates::new(alloc)?;
-    let builder = Builder::alone(&rt, &NoHook);
     let mut table = three_rows(&rt, alloc)?;
-    let job = begin(alloc, &mut table, &fates, MergeKind::Extend, 4)?;
-    end(&builder, alloc, &mut table, &job, 4)?;
-    move_all(&rt, &mut table, 4)?;
-    let job = begin(alloc, &mut table, &fates, MergeKind::Partial, 4)?;
-    end(&builder, alloc, &mut table, &job, 4)?;
-    has_shape(&rt, alloc, &table, 0, 0, &[2, 1])?;
-    load(&rt, alloc, &mut table, 4, -7, b"d")?;
-    insert(&rt, alloc, &mut table, 5, 5, b"e")?;
+    let builder = Builder::alone(&rt, &NoHook);
+    in_two_parts(&rt, &builder, alloc, &mut table, &fates)?;
     tallies_each(&rt, alloc, &table, &fates, 6)?;
     Ok(())
 }
