@@ -16,9 +16,6 @@ pub record IsReadTo {X : Type 0} (piece : X → List ℕ) (keeps : X → Bool) (
       → (more : List X) × (xs ≡ items ++ more) × (rest ≡ flat_map piece more ++ after)
 
 module _ {X : Type 0} (piece : X → List ℕ) (keeps : X → Bool) (count : ℕ) (bytes : List ℕ) where
-  pub nothing_read : IsReadTo piece keeps count bytes [] bytes
-  nothing_read = record { rule = refl; front = refl; goes_on = λ xs after long all is. (xs, refl, is) }
-
   module _ (items : List X) (rest : List ℕ) (so_far : IsReadTo piece keeps count bytes items rest) (left : length items < count) where
     -- what is left begins with an item
     next_item : (more : List X) (xs : List X) (after : List ℕ) → length xs ≡ count → IsTrue (list_all keeps xs) → xs ≡ items ++ more → rest ≡ flat_map piece more ++ after

@@ -7,8 +7,8 @@ use crate::length::entry_len;
 use std::alloc::AllocError;
 use ut_value::{Column, Entry, Kind, MergeKind, Op, Value, int_key};
 
-/// Appends bytes where there is room.
-fn put(bytes: &[u8], out: &mut Vec<u8>)
+/// Appends bytes where there is room. This takes no memory.
+pub fn put(bytes: &[u8], out: &mut Vec<u8>)
     requires { vec_len out.old + length bytes.now ≤ vec_capacity out.old }
     ensures items { out.new.items ≡ out.old.items ++ bytes.now }
     ensures len { vec_len out.new ≡ vec_len out.old + length bytes.now }
@@ -20,7 +20,8 @@ fn put(bytes: &[u8], out: &mut Vec<u8>)
     }
 }
 
-fn put_text(bytes: &[u8], out: &mut Vec<u8>)
+/// Appends counted bytes where there is room. This takes no memory.
+pub fn put_text(bytes: &[u8], out: &mut Vec<u8>)
     requires short { length bytes.now ≤ 255 }
     requires room { vec_len out.old + (length bytes.now + 1) ≤ vec_capacity out.old }
     ensures items { out.new.items ≡ out.old.items ++ text_spelling bytes.now }
@@ -106,7 +107,8 @@ fn put_column(column: &Column, out: &mut Vec<u8>)
     put_text(column.name.as_slice(), out);
 }
 
-fn put_columns(columns: &[Column], out: &mut Vec<u8>)
+/// Appends the names and kinds of columns where there is room. This takes no memory.
+pub fn put_columns(columns: &[Column], out: &mut Vec<u8>)
     requires { vec_len out.old + sum_by column_len columns.now ≤ vec_capacity out.old }
     ensures items { out.new.items ≡ out.old.items ++ flat_map column_spelling columns.now }
     ensures len { vec_len out.new ≡ vec_len out.old + sum_by column_len columns.now }

@@ -90,8 +90,5 @@ module _ (X J S : Type 0) where
         let there : All (λ (p : Carried X J). IsPrefix p.seen (book x.value)) taken = λ k d less. seen_at m m' x turn has (get_or taken k d) (h.seen k (get_or taken k d) (at_or taken k d less)) in
         subst (All (λ (p : Carried X J). IsPrefix p.seen (book x.value))) (sym is) there
 
-    pub closes_fits : (m m' : Me (Option (Home S)) (View X J)) (x : Home S) → HasTurn book job good m m' → m'.1 ≡ (0, Some x) ∷ [] → good x.value
-    closes_fits m m' x turn has = subst (λ (z : Home S). good z.value) (same_home m m' x turn has) turn.1.fits
-
     pub closes_apart : (passes taken : List (Carried X J)) (m m' : Me (Option (Home S)) (View X J)) → passes ≡ taken → Gathered taken m.0 → HasTurn book job good m m' → Apart passes
     closes_apart passes taken m m' is h turn n = let o = h.own n in let a = turn.1.apart n in let e = ap (λ (l : List (Carried X J)). total (λ (p : Carried X J). times n p.own) l) is in omega arith

@@ -10,12 +10,3 @@ module _ {J : Type 0} where
   job_stays None (Some j) meets = (tt, sym meets)
   job_stays (Some k) None meets = (refl, refl)
   job_stays (Some k) (Some j) meets = (tt, sym meets)
-
-  -- an act that begins a job where there was none
-  pub job_begins : (j : J) (slip : Option J) → KeepsJob None (Some j) slip (Some j)
-  job_begins j slip = (tt, refl)
-
-  -- an act that ends the slip's job
-  pub job_ends : (k : Option J) (j : J) → MeetsJob k (Some j) → KeepsJob k None (Some j) None
-  job_ends None j meets = (tt, refl)
-  job_ends (Some k) j meets = (tt, refl)

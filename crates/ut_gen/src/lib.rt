@@ -3,7 +3,6 @@
 
 mod draws;
 mod fixed;
-mod numbers;
 mod plan;
 mod rows;
 mod script;

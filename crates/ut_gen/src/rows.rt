@@ -4,7 +4,7 @@ ghost use Rattle.ut_gen.specs.Draws.{advanced, draw};
 ghost use Rattle.ut_gen.specs.Rows.{region, sale_text, row_text, bulk_line, insert_line, update_line};
 
 use crate::draws::Draws;
-use crate::numbers::{add, add_number};
+use ut_digits::{add, add_number};
 
 /// The rows of a bulk.
 pub const BULK_ROWS: u32 = 200;

@@ -6,11 +6,11 @@ ghost use Rattle.ut_gen.specs.Draws.{advanced};
 ghost use Rattle.ut_gen.specs.Lines.{PutsLine, TakesLine, IsShort, line_text, line_room, draws_of};
 
 use crate::draws::Draws;
-use crate::numbers::add;
 use crate::plan::{Line, draws_before, line_at};
 use crate::rows::{add_bulk, add_insert, add_update};
 use std::alloc::AllocError;
 use std::marker::Model;
+use ut_digits::add;
 
 /// At most so many bytes has a bulk.
 const BULK_ROOM: usize = 16_384;

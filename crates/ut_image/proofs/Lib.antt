@@ -3,3 +3,4 @@ pub mod OneLemmas
 pub mod NoneLemmas
 pub mod ImageLemmas
 pub mod PutLemmas
+mod DifferLemmas

@@ -1,17 +1,14 @@
 //! Reads a directory.
-ghost use Rattle.std.specs.Prelude.{◌≡◌, ◌≢◌, ◌↔◌, ◌<◌, ◌≤◌, ◌++◌, List, IsTrue, IfOk, IfSome, IfNone, OnOk, nat_eq, map};
-ghost use Rattle.std.specs.Bool.{Decides};
-ghost use Rattle.std.specs.List.{All, AllPairs};
-ghost use Rattle.std.specs.HashSet.{IsFromIterResult};
+ghost use Rattle.std.specs.Prelude.{◌≡◌, ◌↔◌, List, IsTrue, IfOk, IfSome, IfNone};
 ghost use Rattle.ut_image.specs.declared.drawn.Drawn.{Drawn};
 ghost use Rattle.ut_image.specs.Bytes.{image_bytes};
 ghost use Rattle.ut_image.specs.Rules.{AreDrawn, AreOwnIds, has_drawn, drawn_differ, ids_of};
 
 use crate::Drawn;
+use crate::ids::{are_own_ids, ids_of};
 use crate::read::{read_list, read_u32};
 use std::alloc::{AllocError, Global};
-use std::collections::HashSet;
-use ut_value::{Row, Seq, same_bytes};
+use ut_value::{Seq, same_bytes};
 
 /// The most tables of a store.
 const MAX_TABLES: u32 = 256;
@@ -41,21 +38,18 @@ pub fn image_from(
     if !drawn_differ(tables.as_slice()) {
         return Ok(None);
     }
-    if !are_own_ids(alloc, tables.as_slice(), next)? {
+    if !have_own_ids(alloc, tables.as_slice(), next)? {
         return Ok(None);
     }
     Ok(Some(tables))
 }
 
 /// Whether the ids of all rows are below the next one, and no two are equal.
-fn are_own_ids(alloc: Global, tables: &[Drawn], next: u32) -> Result<bool, AllocError>
+fn have_own_ids(alloc: Global, tables: &[Drawn], next: u32) -> Result<bool, AllocError>
     ensures { IfOk result (λ b. IsTrue b ↔ AreOwnIds next (ids_of tables.now)) }
 {
     let ids = ids_of(alloc, tables)?;
-    if !are_within(&ids, next) {
-        return Ok(false);
-    }
-    do_differ(alloc, &ids)
+    are_own_ids(alloc, &ids, next)
 }
 
 fn has_drawn(tables: &[Drawn], name: &[u8]) -> bool
@@ -73,43 +67,4 @@ fn drawn_differ(tables: &[Drawn]) -> bool
         [] => true,
         [first, rest @ ..] => !has_drawn(rest, first.table.name.as_slice()) && drawn_differ(rest),
     }
-}
-
-fn ids_of(alloc: Global, tables: &[Drawn]) -> Result<Vec<u32>, AllocError>
-    ensures { IfOk result (λ ids. ids.items ≡ ids_of tables.now) }
-{
-    let mut ids = Vec::new(alloc);
-    for drawn in tables {
-        add_ids(&mut ids, drawn.l2.as_slice())?;
-        add_ids(&mut ids, drawn.l1.as_slice())?;
-    }
-    Ok(ids)
-}
-
-fn add_ids(ids: &mut Vec<u32>, rows: &[Row]) -> Result<(), AllocError>
-    ensures { OnOk result (ids.new.items ≡ ids.old.items ++ map (λ r. r.id) rows.now) }
-{
-    for row in rows {
-        ids.push(row.id)?;
-    }
-    Ok(())
-}
-
-fn are_within(ids: &[u32], next: u32) -> bool
-    ensures { IsTrue result ↔ All (λ id. (1 ≤ id) × (id < next)) ids.now }
-{
-    ids.iter().all(|id| *id >= 1 && *id < next)
-}
-
-fn set_of(alloc: Global, ids: &[u32]) -> Result<HashSet<u32>, AllocError>
-    ensures { IfOk result (IsFromIterResult nat_eq ids.now) }
-{
-    ids.iter().copied().collect(alloc)
-}
-
-fn do_differ(alloc: Global, ids: &[u32]) -> Result<bool, AllocError>
-    ensures { IfOk result (λ b. Decides b (AllPairs (λ a b. a ≢ b) ids.now)) }
-{
-    let set = set_of(alloc, ids)?;
-    Ok(set.len() == ids.len())
 }

@@ -3,6 +3,7 @@
 
 mod drawn;
 mod fields;
+mod ids;
 mod image;
 mod laws;
 mod length;
@@ -13,6 +14,7 @@ mod tables;
 mod write;
 
 pub use drawn::{Drawn, PartRef};
+pub use ids::{are_own_ids, ids_of};
 pub use image::image_from;
 pub use laws::one_image;
 pub use write::{image_front, image_row, image_rows, image_start, image_table};

@@ -1,67 +1,14 @@
 //! Puts the parts of a directory where there is room. This takes no memory.
 ghost use Rattle.std.specs.Prelude.{◌≡◌, ◌+◌, ◌<◌, ◌≤◌, ◌^◌, ◌++◌, length, vec_len, vec_capacity};
 ghost use Rattle.std.specs.List.{flat_map, sum_by};
-ghost use Rattle.ut_value.specs.Spelling.{column_len, text_spelling, column_spelling, columns_spelling, kind_byte};
 ghost use Rattle.ut_image.specs.Bytes.{cell_bytes, row_bytes, rows_bytes, part_bytes, parts_bytes, head_bytes};
 ghost use Rattle.ut_image.specs.Steps.{cell_len, row_len, rows_len, part_len, front_len};
 
 use crate::PartRef;
 use crate::marks::put_marks;
+use ut_entry::{put, put_columns, put_text};
 use ut_plain::Table;
-use ut_value::{Column, Kind, Row, Value, int_key};
-
-fn put(bytes: &[u8], out: &mut Vec<u8>)
-    requires { vec_len out.old + length bytes.now ≤ vec_capacity out.old }
-    ensures items { out.new.items ≡ out.old.items ++ bytes.now }
-    ensures len { vec_len out.new ≡ vec_len out.old + length bytes.now }
-    ensures room { vec_capacity out.old ≤ vec_capacity out.new }
-{
-    match out.extend_from_slice(bytes) {
-        Ok(()) => {}
-        Err(_) => unreachable!(),
-    }
-}
-
-fn put_text(bytes: &[u8], out: &mut Vec<u8>)
-    requires short { length bytes.now ≤ 255 }
-    requires room { vec_len out.old + (length bytes.now + 1) ≤ vec_capacity out.old }
-    ensures items { out.new.items ≡ out.old.items ++ text_spelling bytes.now }
-    ensures len { vec_len out.new ≡ vec_len out.old + (length bytes.now + 1) }
-    ensures room { vec_capacity out.old ≤ vec_capacity out.new }
-{
-    out.push_reserved(bytes.len() as u8);
-    put(bytes, out);
-}
-
-fn kind_byte(kind: Kind) -> u8
-    ensures { result ≡ kind_byte kind }
-{
-    match kind {
-        Kind::Int => 0,
-        Kind::Text => 1,
-    }
-}
-
-fn put_column(column: &Column, out: &mut Vec<u8>)
-    requires { vec_len out.old + column_len column.now ≤ vec_capacity out.old }
-    ensures items { out.new.items ≡ out.old.items ++ column_spelling column.now }
-    ensures len { vec_len out.new ≡ vec_len out.old + column_len column.now }
-    ensures room { vec_capacity out.old ≤ vec_capacity out.new }
-{
-    out.push_reserved(kind_byte(column.kind));
-    put_text(column.name.as_slice(), out);
-}
-
-fn put_columns(columns: &[Column], out: &mut Vec<u8>)
-    requires { vec_len out.old + sum_by column_len columns.now ≤ vec_capacity out.old }
-    ensures items { out.new.items ≡ out.old.items ++ flat_map column_spelling columns.now }
-    ensures len { vec_len out.new ≡ vec_len out.old + sum_by column_len columns.now }
-    ensures room { vec_capacity out.old ≤ vec_capacity out.new }
-{
-    for column in columns {
-        put_column(column, out);
-    }
-}
+use ut_value::{Row, Value, int_key};
 
 fn put_cell(value: &Value, out: &mut Vec<u8>)
     requires { vec_len out.old + cell_len value.now ≤ vec_capacity out.old }

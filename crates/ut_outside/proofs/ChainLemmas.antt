@@ -3,8 +3,8 @@ use Rattle.std.proofs.Common.{◌≡◌, ℕ, ◌≤◌, List, length, Result, O
 use Rattle.std.specs.Prelude.{IsErr, IsTrue, OnOk, OnErr}
 use Rattle.ut_outside.specs.declared.disk.Which.{Which}
 use Rattle.ut_outside.specs.declared.faults.Failed.{Failed}
-use Rattle.ut_outside.specs.Disk.{Image, View, IsTold, Others, OnFile, Changes, Syncs, TornWrite, content, overlaid}
-use Rattle.ut_outside.specs.Faults.{Rose, HasCause}
+use Rattle.ut_outside.specs.Disk.{Image, View, IsTold, OnFile, Changes, Syncs, TornWrite, content, overlaid}
+use Rattle.ut_outside.specs.Faults.{Rose}
 use Rattle.ut_outside.specs.Run.{Always, LeavesOnly, ComesFrom}
 use Rattle.ut_outside.specs.Chains.{Settles, Reached}
 use Rattle.ut_outside.proofs.RunLemmas.{started, goes_on, joined, weaker, others_same, others_then, on_ok_then}

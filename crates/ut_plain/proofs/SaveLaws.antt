@@ -32,8 +32,9 @@ IsUnderWay-appended j e opening (Sealed captured pages image) h = savepoint_late
 
 -- ---- each statement
 
-IsPlain-phased : (p : Plain) (phase : Phase) (root_pages : ℕ) → IsPlain p → IsUnderWay p.journal p.opening phase → IsPlain (record p { phase = phase; root_pages = root_pages })
-IsPlain-phased p phase root_pages h saving = record {
+-- no rule of a plain state asks for its measure of images, or for the pages of its root
+pub IsPlain-measured : (p : Plain) (image_pages : Directory → ℕ) (phase : Phase) (root_pages : ℕ) → IsPlain p → IsUnderWay p.journal p.opening phase → IsPlain (record p { image_pages = image_pages; phase = phase; root_pages = root_pages })
+IsPlain-measured p image_pages phase root_pages h saving = record {
   base = h.base;
   journal = h.journal;
   short = h.short;
@@ -51,6 +52,9 @@ IsPlain-phased p phase root_pages h saving = record {
   merges = h.merges;
   saving = saving;
 }
+
+IsPlain-phased : (p : Plain) (phase : Phase) (root_pages : ℕ) → IsPlain p → IsUnderWay p.journal p.opening phase → IsPlain (record p { phase = phase; root_pages = root_pages })
+IsPlain-phased p = IsPlain-measured p p.image_pages
 
 captured_is : (p : Plain) → IsPlain p → IsCaptured (captured_now p)
 captured_is p h = record {

@@ -9,4 +9,3 @@ pub mod BaseLemmas
 pub mod StoreLemmas
 pub mod FindLemmas
 pub mod ImageLemmas
-pub mod DifferLemmas

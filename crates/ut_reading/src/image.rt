@@ -11,10 +11,9 @@ ghost use Rattle.ut_durable.specs.Images.{HasImage};
 ghost use Rattle.ut_reading.specs.Reading.{IsImageIn, Begins};
 ghost use Rattle.ut_reading.specs.Standing.{AreDrawnIn};
 
-use crate::ids::{are_own_ids, delta_ids};
 use crate::parts::Reader;
 use std::alloc::{AllocError, Global};
-use ut_image::{Drawn, image_from};
+use ut_image::{Drawn, are_own_ids, ids_of, image_from};
 use ut_main::Main;
 use ut_outside::Disk;
 use ut_pages::{PageError, Pages, Root};
@@ -59,7 +58,7 @@ pub fn read_image<D: Disk>(alloc: Global, disk: &mut D) -> Result<Image, PageErr
     let Some(tables) = tables_from(alloc, &bytes, &root)? else {
         return Err(PageError::Damaged);
     };
-    let live = delta_ids(alloc, tables.as_slice())?;
+    let live = ids_of(alloc, tables.as_slice())?;
     let mut reader = Reader { pages, live };
     let mains = reader.read_mains(alloc, disk, tables.as_slice())?;
     if !are_own_ids(alloc, &reader.live, root.next)? {

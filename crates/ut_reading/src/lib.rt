@@ -1,7 +1,6 @@
 //! Reads the image that the selected root names: its directory, and the parts that this names.
 #![tactic(auto)]
 
-mod ids;
 mod image;
 mod laws;
 mod parts;

@@ -2,7 +2,7 @@
 use Rattle.std.proofs.Common.{◌≡◌, ℕ, suc, ◌+◌, ◌-◌, ◌*◌, ◌/◌, ◌<◌, ◌≤◌, List, [], ◌∷◌, ◌++◌, length, map, take, drop, get_or, sym, ◌∙◌, ap, subst, arith, Option, Some, None, unwrap_or, Result, Ok, Err, IfOk}
 use Rattle.std.proofs.lemmas.List.{length-drop, take_more, take_all, take-append-drop, drop-drop, take-take, drop-take, map-append, get_or-drop, get_or_append_left, get_or-append_right, length-append}
 use Rattle.std.proofs.lemmas.Nat.{le-div}
-use Rattle.std.proofs.Math.Nat.{mul-div_cancel_left, div-mul-le_self, zero-div, zero-mul}
+use Rattle.std.proofs.Math.Nat.{mul-div_cancel_left, div-mul-le_self}
 use Rattle.ut_bits.specs.Bits.{AllBelow}
 use Rattle.std.specs.List.{range_with_len}
 use Rattle.std.proofs.lemmas.List.FromFn.{length-map-range_with_len, get_or-map-range_with_len}

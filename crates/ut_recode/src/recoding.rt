@@ -33,7 +33,13 @@ pub fn recode<R: Threads + Sync>(
     if pieces == 1 || codes.len() < FEW_CODES {
         return recode_all(alloc, codes, first, map, reach);
     }
-    recode_shares(rt, alloc, codes, first, map, reach, pieces)
+    let shares = thread::map_indices(
+        rt,
+        alloc,
+        pieces as usize,
+        &|k: usize| { recode_share(alloc, codes, first, map, reach, pieces, k) },
+    )?;
+    join_shares(alloc, codes, first, map, shares.as_slice())
 }
 
 /// All codes, on this thread.
@@ -48,30 +54,6 @@ fn recode_all(
     ensures { IfOk result (λ v. v.items ≡ recoded (with_staying first map.now) codes.now) }
 {
     recode_span(alloc, codes, first, map, reach, 0, codes.len())
-}
-
-/// All codes, each share on a thread of its own.
-pub fn recode_shares<R: Threads + Sync>(
-    rt: &R,
-    alloc: Global,
-    codes: &[u32],
-    first: u32,
-    map: &[Option<u32>],
-    reach: u32,
-    pieces: u32,
-) -> Result<Vec<u32>, AllocError>
-    requires count { length codes.now ≤ 2 ^ 31 }
-    requires entries { HaveEntries (with_staying first map.now) reach codes.now }
-    requires pieces { (1 ≤ pieces) × (pieces ≤ 64) }
-    ensures { IfOk result (λ v. v.items ≡ recoded (with_staying first map.now) codes.now) }
-{
-    let shares = thread::map_indices(
-        rt,
-        alloc,
-        pieces as usize,
-        &|k: usize| { recode_share(alloc, codes, first, map, reach, pieces, k) },
-    )?;
-    join_shares(alloc, codes, first, map, shares.as_slice())
 }
 
 /// Share `k` of the codes.

@@ -1,7 +1,6 @@
 //! The texts of replies.
 #![tactic(auto)]
 
-mod numbers;
 mod reply;
 mod room;
 mod values;

@@ -2,10 +2,10 @@
 ghost use Rattle.std.specs.Prelude.{◌≡◌, ◌<◌, ◌≤◌, ◌+◌, ◌*◌, ◌++◌, true, OnOk, OnErr, length, decimal, vec_len, vec_capacity};
 ghost use Rattle.ut_reply.specs.Texts.{reply_text, reply_body, reply_room, items_room, is_small, session_text, refusal_text, why_text, changed_text, number_or_none, value_or_none, value_or_none_room, parts_text, shape_text};
 
-use crate::numbers::{add, add_number};
 use crate::room::room_of;
 use crate::values::{add_groups, add_parts, add_rows, add_value};
 use std::alloc::AllocError;
+use ut_digits::{add, add_number};
 use ut_plain::{Refusal, Reply, Shape, Why};
 use ut_value::Value;
 

@@ -2,7 +2,7 @@
 ghost use Rattle.std.specs.Prelude.{◌≡◌, ◌<◌, ◌≤◌, ◌+◌, ◌*◌, ◌++◌, ◌∷◌, [], length, get_or, vec_len, vec_capacity, flat_map, sum_by, decimal};
 ghost use Rattle.ut_reply.specs.Texts.{quoted, value_text, tuple_text, rows_text, group_text, groups_text, value_room, tuple_room};
 
-use crate::numbers::{add, add_number};
+use ut_digits::{add, add_number};
 use ut_plain::Group;
 use ut_rows::Rows;
 use ut_value::Value;

@@ -1,7 +1,7 @@
 -- Keys that order rows as lists of codes do.
 use Rattle.std.proofs.Common.{◌≡◌, ℕ, zero, suc, ◌+◌, ◌-◌, ◌*◌, ◌<◌, ◌≤◌, ◌⊎◌, inl, inr, Bor, List, [], ◌∷◌, ◌++◌, length, get_or, take, drop, refl, sym, ap, ◌∙◌, arith}
-use Rattle.std.specs.Cmp.{IsTotalOrder, ranks, nat_cmp_is}
-use Rattle.std.specs.Ordering.{nat_cmp, ordering_then, MatchOrdering}
+use Rattle.std.specs.Cmp.{IsTotalOrder}
+use Rattle.std.specs.Ordering.{nat_cmp, ordering_then}
 use Rattle.std.specs.declared.cmp.Ordering.{Ordering}
 use Rattle.std.specs.declared.cmp.Ordering.TheVariants.{Less, Equal, Greater}
 use Rattle.std.proofs.Math.Nat.{mul-le-mul_right}
@@ -9,6 +9,7 @@ use Rattle.std.proofs.Math.Seq.{take-append_seam, take-length}
 use Rattle.std.proofs.lemmas.Cmp.{nat_cmp_total, on_total, then_total}
 use Rattle.std.proofs.lemmas.Bool.{cases_lt}
 use Rattle.std.proofs.lemmas.List.{drop_more, get_or-map, get_or_past, length-drop, length-map, take-append-drop, take_more}
+use Rattle.ut_key.proofs.WordLemmas.{digits_cmp}
 use Rattle.ut_resort.specs.declared.rows.Keyed.{Keyed}
 use Rattle.ut_resort.specs.Resorted.{row_cmp}
 use Rattle.ut_resort.specs.Sorting.{codes_cmp, lists_by, lists_now, ArePacked, IsKeyed, keyed_cmp}
@@ -44,21 +45,6 @@ pub keyed_cmp-total : (rest : List (List ℕ)) → IsTotalOrder (keyed_cmp rest)
 keyed_cmp-total rest = then_total (on_total (λ (k : Keyed). k.key) nat_cmp_total) (on_total (λ (k : Keyed). k.row) (codes_cmp-total rest))
 
 -- ---- codes as digits
-
--- the high digit decides, and then the low one
-digits_cmp : (p c d u v : ℕ) → u < p → v < p → ordering_then (nat_cmp c d) (nat_cmp u v) ≡ nat_cmp (c * p + u) (d * p + v)
-digits_cmp p c d u v hu hv = nat_cmp_is (c * p + u) (d * p + v) _ (by (nat_cmp c d) (nat_cmp u v) (ranks c d) (ranks u v))
-  where
-    above : (m n : ℕ) → m < n → m * p + p ≤ n * p
-    above m n h = omega (arith, mul-le-mul_right p (let le : suc m ≤ n = omega arith in le))
-
-    by : (o q : Ordering) → MatchOrdering o (c < d) (c ≡ d) (d < c) → MatchOrdering q (u < v) (u ≡ v) (v < u)
-        → MatchOrdering (ordering_then o q) (c * p + u < d * p + v) (c * p + u ≡ d * p + v) (d * p + v < c * p + u)
-    by Less q h g = omega (arith, above c d h)
-    by Greater q h g = omega (arith, above d c h)
-    by Equal Less h g = omega (arith, ap (λ n. n * p) h)
-    by Equal Equal h g = omega (arith, ap (λ n. n * p) h)
-    by Equal Greater h g = omega (arith, ap (λ n. n * p) h)
 
 pub packed-more : (lists : List (List ℕ)) (codes old new : List ℕ) (radix : ℕ) → ((i : ℕ) → get_or codes i 0 < radix) → length new ≡ length old
     → ((i : ℕ) → i < length old → get_or new i 0 ≡ get_or old i 0 * radix + get_or codes i 0) → ArePacked lists old → ArePacked (lists ++ codes ∷ []) new

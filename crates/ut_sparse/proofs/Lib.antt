@@ -1,3 +1,4 @@
 pub mod FrequentLemmas
 pub mod SparseLemmas
 pub mod ScanLemmas
+pub mod ReadLemmas

@@ -13,7 +13,7 @@ use lib.Count.{ones_step}
 use Rattle.std.proofs.lemmas.Bool.Decides.{eqb_tells}
 use Rattle.ut_bits.specs.Bits.{AllBelow, joined, packed_bytes, byte_count}
 use Rattle.ut_bits.specs.Words.{word_bytes, word_in}
-use Rattle.ut_bits.proofs.BitLemmas.{AllBelow-append, AllBelow-drop, low_field, high_fields, mod_in_front, length-bytes_of, take-rest}
+use Rattle.ut_bits.proofs.BitLemmas.{AllBelow-append, AllBelow-drop, low_field, high_fields, mod_in_front, length-bytes_of}
 use Rattle.ut_bits.proofs.ListLemmas.{packed_bytes-unique}
 use Rattle.ut_bits.proofs.WordLemmas.{length-word_bytes, word_in-word_bytes, drop-word_bytes}
 use Rattle.ut_sparse.specs.Frequent.{count_of, most_frequent, IsMostFrequent}
@@ -100,7 +100,7 @@ take-next xs i h = ap (λ (k : ℕ). take k xs) (add-one i) ∙ take-suc xs i 0 
 pub marked-next : (ms : List ℕ) (i : ℕ) → i < length ms → marked (take (i + 1) ms) ≡ marked (take i ms) + get_or ms i 0
 marked-next ms i h = ap (λ l. marked l) (take-next ms i h) ∙ marked-append (take i ms) (get_or ms i 0 ∷ []) ∙ omega arith
 
-take-both : (m n : ℕ) (xs : List ℕ) → take (m + n) xs ≡ take m xs ++ take n (drop m xs)
+pub take-both : (m n : ℕ) (xs : List ℕ) → take (m + n) xs ≡ take m xs ++ take n (drop m xs)
 take-both zero n xs = let e : 0 + n ≡ n = omega arith in rw e refl
 take-both (suc m) n [] = take-none (suc m + n) ∙ sym (take-none n)
   where
@@ -381,43 +381,3 @@ sparse_bytes-merged width left ms os h most =
     ap (λ (l : List ℕ). word_bytes left ++ (packed_bytes 1 l ++ packed_bytes width os)) (sym back.0)
     ∙ ap (λ (l : List ℕ). word_bytes left ++ (packed_bytes 1 (marks_of left (merged left ms os)) ++ packed_bytes width l)) (sym back.1)
     ∙ ap (λ (n : ℕ). word_bytes n ++ (packed_bytes 1 (marks_of n (merged left ms os)) ++ packed_bytes width (others_of n (merged left ms os)))) is
-
--- the marks that were read
-pub marks-read : (width : ℕ) (codes rest bytes marks behind : List ℕ) (n : ℕ) → width ≤ 32 → AllBelow (2 ^ width) codes → bytes ≡ sparse_bytes width codes ++ rest → behind ≡ drop 4 bytes
-    → length marks ≡ length codes → AllBelow 2 marks → n ≤ length behind → take n behind ≡ packed_bytes 1 marks
-    → (marks ≡ marks_of (most_frequent codes) codes) × (take (length behind - n) (drop n behind) ≡ packed_bytes width (others_of (most_frequent codes) codes) ++ rest)
-marks-read width codes rest bytes marks behind n narrow h e is size bits le read =
-    let front = sparse-front width codes rest bytes narrow h e in
-    let back = read-back 1 n marks (marks_of (most_frequent codes) codes) _ behind bits (AllBelow-marks_of (most_frequent codes) codes) (size ∙ sym (length-marks_of (most_frequent codes) codes)) le read (is ∙ front.3) in
-    (back.0, take-rest n behind ∙ back.1)
-
--- the whole that was read
-pub codes-read : (width left : ℕ) (codes rest bytes marks others last : List ℕ) (n : ℕ) → width ≤ 32 → AllBelow (2 ^ width) codes → bytes ≡ sparse_bytes width codes ++ rest → left ≡ word_in bytes
-    → marks ≡ marks_of (most_frequent codes) codes → last ≡ packed_bytes width (others_of (most_frequent codes) codes) ++ rest → length others ≡ marked marks → AllBelow (2 ^ width) others → n ≤ length last
-    → take n last ≡ packed_bytes width others → (left ≡ most_frequent codes) × (merged left marks others ≡ codes)
-codes-read width left codes rest bytes marks others last n narrow h e first is end size small le read =
-    let front = sparse-front width codes rest bytes narrow h e in
-    let word : left ≡ most_frequent codes = first ∙ front.1 in
-    let same : length others ≡ length (others_of (most_frequent codes) codes) = size ∙ ap (λ l. marked l) is ∙ marked-marks_of (most_frequent codes) codes in
-    let back = read-back width n others (others_of (most_frequent codes) codes) rest last small (AllBelow-others_of (2 ^ width) (most_frequent codes) codes h) same le read end in (
-      word,
-      ap (λ (k : ℕ). merged k marks others) word ∙ ap (λ (l : List ℕ). merged (most_frequent codes) l others) is ∙ ap (λ (l : List ℕ). merged (most_frequent codes) (marks_of (most_frequent codes) codes) l) back.0
-          ∙ merged-of (most_frequent codes) codes,
-    )
-
--- the bytes that were read
-pub parts-read : (m n : ℕ) (bytes first second third : List ℕ) → take 4 bytes ≡ first → take m (drop 4 bytes) ≡ second → take n (drop m (drop 4 bytes)) ≡ third → take (4 + m + n) bytes ≡ first ++ (second ++ third)
-parts-read m n bytes first second third e f g =
-    let sum : 4 + m + n ≡ 4 + (m + n) = omega arith in
-    ap (λ (k : ℕ). take k bytes) sum ∙ take-both 4 (m + n) bytes ∙ ap (λ (l : List ℕ). take 4 bytes ++ l) (take-both m n (drop 4 bytes))
-    ∙ ap (λ (l : List ℕ). l ++ (take m (drop 4 bytes) ++ take n (drop m (drop 4 bytes)))) e ∙ ap (λ (l : List ℕ). first ++ (l ++ take n (drop m (drop 4 bytes)))) f ∙ ap (λ (l : List ℕ). first ++ (second ++ l)) g
-
--- none of the others that were read is the code that is left out
-pub differ-read : (left : ℕ) (codes ms os : List ℕ) → left ≡ most_frequent codes → merged left ms os ≡ codes → AllBelow 2 ms → marked ms ≡ length os → ms ≡ marks_of (most_frequent codes) codes → count_of left os ≡ 0
-differ-read left codes ms os e is b p m =
-    let all = count_of-merged left ms os b p in
-    let size = length-others_of (most_frequent codes) codes in
-    let marks = ap (λ l. marked l) m ∙ marked-marks_of (most_frequent codes) codes in
-    let rows = ap (λ (l : List ℕ). length l) m ∙ length-marks_of (most_frequent codes) codes in
-    let count : count_of left (merged left ms os) ≡ count_of (most_frequent codes) codes = ap (λ (l : List ℕ). count_of left l) is ∙ ap (λ (k : ℕ). count_of k codes) e in
-    omega (arith, all, size, marks, rows, count)

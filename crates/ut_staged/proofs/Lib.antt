@@ -5,7 +5,6 @@ pub mod KeptLemmas
 pub mod EndLemmas
 pub mod BeginLemmas
 pub mod OrderLemmas
-pub mod ResortLemmas
 pub mod PermutedLemmas
 pub mod StageLemmas
 pub mod StagingLemmas

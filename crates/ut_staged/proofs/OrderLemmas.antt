@@ -1,11 +1,11 @@
 -- The rows of the kept places are the kept rows, in the order of the kind of merge.
-use Rattle.std.proofs.Common.{ℕ, zero, suc, ◌+◌, ◌<◌, ◌≤◌, ◌≡◌, ◌⊎◌, inl, inr, Bool, true, false, cond, List, [], ◌∷◌, ◌++◌, length, map, drop, get_or, Option, None, Some, refl, sym, ap, ◌∙◌, subst, arith, slice_get, unwrap_or, true≢false}
+use Rattle.std.proofs.Common.{ℕ, zero, suc, ◌+◌, ◌<◌, ◌≤◌, ◌≡◌, Bool, true, false, List, [], ◌∷◌, ◌++◌, length, map, drop, get_or, Option, None, Some, refl, sym, ap, ◌∙◌, arith, slice_get, unwrap_or}
 use Rattle.std.proofs.lemmas.List.{length-map, map-append}
 use Rattle.std.specs.Option.{option_map}
 use Rattle.ut_value.specs.declared.entry.MergeKind.{MergeKind}
 use Rattle.ut_value.specs.declared.entry.MergeKind.TheVariants as kinds
 use Rattle.ut_plain.specs.declared.stage.Placed.{Placed}
-use Rattle.ut_plain.specs.Merges.{staying, staying_partly, arranged, flagged, flagged_all, rebuilt, put, in_order}
+use Rattle.ut_plain.specs.Merges.{staying, staying_partly, arranged, flagged, flagged_all, rebuilt}
 use Rattle.ut_exact.specs.Places.{StagedRow}
 use Rattle.ut_stamps.specs.declared.place.Place.{Place}
 use Rattle.ut_staged.specs.Staged.{Staged, row_at, row_in, rows_at, no_row, placed_of, stages_of}
@@ -96,106 +96,3 @@ arranged_kept kind s f plain = record {
   choice = kept_choice s f (staying kind (length s.parts)) (staying-fits kind (length s.parts));
   order = kept_rows kind s f ∙ sym (plain (flagged_all (rebuilt kind (stages_of s).parts (unwrap_or (stages_of s).closed [])) (drop (staying kind (length s.parts)) s.keep)));
 }
-
--- ---- lists in the order of a test: what is in order, and holds the same, is the same list
-
-abbrev pub In : {X : Type 0} → X → List X → Type 0
-In x [] = ⊥
-In x (y ∷ ys) = (x ≡ y) ⊎ In x ys
-
-abbrev pub IsBefore : {X : Type 0} → (X → X → Bool) → X → List X → Type 0
-IsBefore before x [] = Unit {0}
-IsBefore before x (y ∷ ys) = (before x y ≡ true) × IsBefore before x ys
-
-abbrev pub AreInOrder : {X : Type 0} → (X → X → Bool) → List X → Type 0
-AreInOrder before [] = Unit {0}
-AreInOrder before (x ∷ xs) = IsBefore before x xs × AreInOrder before xs
-
--- of two that stand at different places one comes before the other
-abbrev pub Differ : {X : Type 0} → (X → X → Bool) → List X → Type 0
-Differ before [] = Unit {0}
-Differ before (x ∷ xs) = ((y : _) → In y xs → (before x y ≡ true) ⊎ (before y x ≡ true)) × Differ before xs
-
-module _ {X : Type 0} (before : X → X → Bool) (never : (x y : X) → before x y ≡ true → before y x ≡ true → ⊥) (trans : (x y z : X) → before x y ≡ true → before y z ≡ true → before x z ≡ true) where
-  before-in : (x y : X) (ys : List X) → IsBefore before x ys → In y ys → before x y ≡ true
-  before-in x y [] b h = absurd h
-  before-in x y (z ∷ ys) b (inl same) = ap (before x) same ∙ b.0
-  before-in x y (z ∷ ys) b (inr there) = before-in x y ys b.1 there
-
-  pub same_order : (xs ys : List X) → AreInOrder before xs → AreInOrder before ys → ((x : X) → In x xs → In x ys) → ((x : X) → In x ys → In x xs) → xs ≡ ys
-  same_order [] [] a b to from = refl
-  same_order [] (y ∷ ys) a b to from = absurd (from y (inl refl))
-  same_order (x ∷ xs) [] a b to from = absurd (to x (inl refl))
-  same_order (x ∷ xs) (y ∷ ys) a b to from =
-      let first : x ≡ y = heads (to x (inl refl)) (from y (inl refl)) in
-      let rest : xs ≡ ys = same_order xs ys a.1 b.1
-      (λ k h. elim (to k (inr h)) [ inl at ↦ absurd (itself x xs a.0 (subst (λ z. In z xs) (at ∙ sym first) h)) | inr there ↦ there ])
-      (λ k h. elim (from k (inr h)) [ inl at ↦ absurd (itself y ys b.0 (subst (λ z. In z ys) (at ∙ first) h)) | inr there ↦ there ]) in
-      λ i. first i ∷ rest i
-    where
-      itself : (z : X) (zs : List X) → IsBefore before z zs → In z zs → ⊥
-      itself z zs c h = let e = before-in z z zs c h in never z z e e
-
-      heads : (x ≡ y) ⊎ In x ys → (y ≡ x) ⊎ In y xs → x ≡ y
-      heads (inl same) other = same
-      heads (inr there) (inl same) = sym same
-      heads (inr there) (inr also) = absurd (never x y (before-in x y xs a.0 also) (before-in y x ys b.0 there))
-
-  in-put : (k x : X) (ys : List X) → In k (put before x ys) → (k ≡ x) ⊎ In k ys
-  in-put k x [] h = h
-  in-put k x (y ∷ ys) h = by (before y x) h (in-put k x ys)
-    where
-      by : (b : Bool) → In k (cond b (y ∷ put before x ys) (x ∷ y ∷ ys)) → (In k (put before x ys) → (k ≡ x) ⊎ In k ys) → (k ≡ x) ⊎ In k (y ∷ ys)
-      by true (inl at) more = inr (inl at)
-      by true (inr there) more = elim (more there) [ inl at ↦ inl at | inr on ↦ inr (inr on) ]
-      by false g more = g
-
-  put-in : (k x : X) (ys : List X) → (k ≡ x) ⊎ In k ys → In k (put before x ys)
-  put-in k x [] h = h
-  put-in k x (y ∷ ys) h = by (before y x) h (put-in k x ys)
-    where
-      by : (b : Bool) → (k ≡ x) ⊎ In k (y ∷ ys) → ((k ≡ x) ⊎ In k ys → In k (put before x ys)) → In k (cond b (y ∷ put before x ys) (x ∷ y ∷ ys))
-      by true (inl at) more = inr (more (inl at))
-      by true (inr (inl at)) more = inl at
-      by true (inr (inr there)) more = inr (more (inr there))
-      by false g more = g
-
-  pub in-in_order : (k : X) (xs : List X) → In k (in_order before xs) → In k xs
-  in-in_order k [] h = h
-  in-in_order k (x ∷ xs) h = elim (in-put k x (in_order before xs) h) [ inl at ↦ inl at | inr there ↦ inr (in-in_order k xs there) ]
-
-  pub in_order-in : (k : X) (xs : List X) → In k xs → In k (in_order before xs)
-  in_order-in k [] h = h
-  in_order-in k (x ∷ xs) (inl at) = put-in k x (in_order before xs) (inl at)
-  in_order-in k (x ∷ xs) (inr there) = put-in k x (in_order before xs) (inr (in_order-in k xs there))
-
-  before-all : (x y : X) (ys : List X) → before x y ≡ true → IsBefore before y ys → IsBefore before x ys
-  before-all x y [] h b = tt
-  before-all x y (z ∷ ys) h b = (trans x y z h b.0, before-all x y ys h b.1)
-
-  before-put : (w x : X) (ys : List X) → before w x ≡ true → IsBefore before w ys → IsBefore before w (put before x ys)
-  before-put w x [] h b = (h, tt)
-  before-put w x (y ∷ ys) h b = by (before y x) (before-put w x ys h b.1)
-    where
-      by : (c : Bool) → IsBefore before w (put before x ys) → IsBefore before w (cond c (y ∷ put before x ys) (x ∷ y ∷ ys))
-      by true rest = (b.0, rest)
-      by false rest = (h, b)
-
-  ordered-put : (x : X) (ys : List X) → AreInOrder before ys → ((y : X) → In y ys → (before x y ≡ true) ⊎ (before y x ≡ true)) → AreInOrder before (put before x ys)
-  ordered-put x [] o d = (tt, tt)
-  ordered-put x (y ∷ ys) o d = by (before y x) refl (ordered-put x ys o.1 (λ z h. d z (inr h)))
-    where
-      by : (c : Bool) → before y x ≡ c → AreInOrder before (put before x ys) → AreInOrder before (cond c (y ∷ put before x ys) (x ∷ y ∷ ys))
-      by true e rest = (before-put y x ys e o.0, rest)
-      by false e rest = elim (d y (inl refl)) [
-        | inl lt ↦ ((lt, before-all x y ys lt o.0), o)
-        | inr gt ↦ absurd (true≢false (sym gt ∙ e))
-      ]
-
-  pub ordered-in_order : (xs : List X) → Differ before xs → AreInOrder before (in_order before xs)
-  ordered-in_order [] d = tt
-  ordered-in_order (x ∷ xs) d = ordered-put x (in_order before xs) (ordered-in_order xs d.1) (λ y h. d.0 y (in-in_order y xs h))
-
-  -- Whatever puts rows that differ in order, and keeps them, is the plain order.
-  pub in_order-is : (xs ys : List X) → Differ before xs → AreInOrder before ys → ((x : X) → In x ys → In x xs) → ((x : X) → In x xs → In x ys) → ys ≡ in_order before xs
-  in_order-is xs ys d o to from = same_order ys (in_order before xs) o (ordered-in_order xs d) (λ x h. in_order-in x xs (to x h)) (λ x h. from x (in-in_order x xs h))

@@ -51,4 +51,4 @@ returns-then-not-branch-clause-none c =
       spelled = found.2;
     } in
     other_ids c.args.next c.args.commits c.args.bytes.now c.in-Some.count c.in-Some.rest.now c.in-Some-2.tables c.in-Some-2.behind.now t
-    (λ right. true≢false (sym (c.in_ok-are_own_ids.ensures.1 (subst (λ (ds : List Drawn). AreOwnIds c.args.next (ids_of ds)) (sym c.as_slice-2.ensures) right)) ∙ c.if-not-branch.true))
+    (λ right. true≢false (sym (c.in_ok-have_own_ids.ensures.1 (subst (λ (ds : List Drawn). AreOwnIds c.args.next (ids_of ds)) (sym c.as_slice-2.ensures) right)) ∙ c.if-not-branch.true))

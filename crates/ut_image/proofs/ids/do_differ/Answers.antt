@@ -1,8 +1,8 @@
 use Rattle.std.proofs.Common.{ℕ, refl, sym, subst}
 use Rattle.std.specs.List.Sorted.{IsPermutation, IsNonDecreasing}
 use Rattle.std.proofs.lemmas.List.Sorted.{IsNonDecreasingBy-from_sort}
-use Rattle.ut_reading.proofs.DifferLemmas.{ascending_differ, differ_permuted, differ_back, differ_ascend}
-use Rattle.ut_reading.proofs.ids.do_differ.Goals as goal
+use Rattle.ut_image.proofs.DifferLemmas.{ascending_differ, differ_permuted, differ_back, differ_ascend}
+use Rattle.ut_image.proofs.ids.do_differ.Goals as goal
 
 pub returns-then-is_ascending : goal.returns-then-is_ascending
 returns-then-is_ascending c = (λ _. ascending_differ c.args.ids.now (c.is_ascending.ensures.0 c.if-is_ascending.true), λ _. refl)

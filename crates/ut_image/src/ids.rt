@@ -1,16 +1,16 @@
-//! Whether the ids of all rows of an image are given ones, and no two equal.
+//! The ids of rows: whether they are given ones, and no two equal.
 ghost use Rattle.std.specs.Prelude.{◌≡◌, ◌≢◌, ◌↔◌, ◌<◌, ◌≤◌, ◌++◌, IsTrue, IfOk, OnOk, map};
 ghost use Rattle.std.specs.Bool.{Decides};
 ghost use Rattle.std.specs.List.{All, AllPairs};
 ghost use Rattle.std.specs.List.Sorted.{IsStrictlyIncreasing};
 ghost use Rattle.ut_image.specs.Rules.{AreOwnIds, ids_of};
 
+use crate::Drawn;
 use std::alloc::{AllocError, Global};
-use ut_image::Drawn;
 use ut_value::Row;
 
 /// The ids of the rows in the deltas.
-pub(crate) fn delta_ids(alloc: Global, tables: &[Drawn]) -> Result<Vec<u32>, AllocError>
+pub fn ids_of(alloc: Global, tables: &[Drawn]) -> Result<Vec<u32>, AllocError>
     ensures { IfOk result (λ ids. ids.items ≡ ids_of tables.now) }
 {
     let mut ids = Vec::new(alloc);
@@ -31,7 +31,7 @@ fn add_ids(ids: &mut Vec<u32>, rows: &[Row]) -> Result<(), AllocError>
 }
 
 /// Whether these are ids from 1 to the one before the next, no two equal.
-pub(crate) fn are_own_ids(alloc: Global, ids: &[u32], next: u32) -> Result<bool, AllocError>
+pub fn are_own_ids(alloc: Global, ids: &[u32], next: u32) -> Result<bool, AllocError>
     ensures { IfOk result (λ b. IsTrue b ↔ AreOwnIds next ids.now) }
 {
     if !are_within(ids, next) {

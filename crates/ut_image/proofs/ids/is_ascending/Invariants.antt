@@ -1,6 +1,6 @@
 use Rattle.std.proofs.Common.{ℕ, ◌+◌, ◌<◌}
 use Rattle.std.specs.List.{slice_index}
-use Rattle.ut_reading.proofs.ids.is_ascending.Given as goal
+use Rattle.ut_image.proofs.ids.is_ascending.Given as goal
 
 abbrev pub invariant-loop-i : goal.invariant-loop-i
 invariant-loop-i l = (k : ℕ) → k + 1 < l.i → slice_index l.ids k < slice_index l.ids (k + 1)
