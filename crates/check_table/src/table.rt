@@ -1,5 +1,6 @@
 //! A small table, with rows in each stage.
-ghost use Rattle.std.specs.Prelude.{◌≡◌, ◌≢◌, ◌+◌, ◌<◌, None, Some, IsSome, IfOk, OnOk};
+ghost use Rattle.std.specs.Prelude.{◌≡◌, ◌≢◌, ◌+◌, ◌<◌, ◌∷◌, [], None, Some, IsSome, IfOk, OnOk};
+ghost use Rattle.ut_names.specs.Compiled.{Compiles};
 ghost use Rattle.ut_staged.specs.Staged.{row_at};
 ghost use Rattle.ut_table.specs.Finds.{SeenOnce, AreThere};
 ghost use Rattle.ut_table.specs.Numbered.{AreNumbered, IsAtRest};
@@ -11,12 +12,13 @@ use std::test::Fail;
 use ut_key::{Cmp, Key};
 use ut_merge::{Build, Builder, Job};
 use ut_outside::NoHook;
-use ut_plain::{PendingMerge, Pred, fits_columns, has_column, is_of_kind, kind_in};
-use ut_scan::{Found, Place};
+use ut_plain::{PendingMerge, Pred, column_of, fits_columns, has_column, is_of_kind, kind_in};
+use ut_scan::{ColumnPred, Found, Place};
 use ut_stamps::{Fates, Stamp};
 use ut_table::Table;
 use ut_value::{
-    Column, Kind, MergeKind, Name, Row, Seq, Text, Value, is_name, is_text, same_bytes,
+    Column, Kind, MergeKind, Name, Row, Seq, Text, Value, is_name, is_text, key_of, same_bytes,
+    value_keeps_rule,
 };
 
 fn name(rt: &impl Abort, alloc: Global, bytes: &[u8]) -> Result<Name, AllocError> {
@@ -41,10 +43,19 @@ fn row(rt: &impl Abort, alloc: Global, id: u32, number: i64, text: &[u8]) -> Res
     Ok(Row { id, values })
 }
 
-fn insert(
+/// Where a row comes in.
+#[derive(Clone, Copy)]
+enum Stage {
+    First,
+    Second,
+}
+
+/// A row is inserted into the first stage, or loaded into the second.
+fn add(
     rt: &impl Abort,
     alloc: Global,
     table: &mut Table,
+    stage: Stage,
     id: u32,
     number: i64,
     text: &[u8],
@@ -56,31 +67,21 @@ fn insert(
     let row = row(rt, alloc, id, number, text)?;
     table.room(1)?;
     assert!(rt; fits_columns(table.columns(), row.values.as_slice()));
-    let stamp = Stamp {
-        begin: 0,
-        end: None,
-    };
-    table.push(row, stamp);
-    Ok(())
-}
-
-fn load(
-    rt: &impl Abort,
-    alloc: Global,
-    table: &mut Table,
-    id: u32,
-    number: i64,
-    text: &[u8],
-) -> Result<(), AllocError>
-    requires rest { IsAtRest id table.old.stages }
-    requires small { id < 100 }
-    ensures { OnOk result (IsAtRest (id + 1) table.new.stages) }
-{
-    let row = row(rt, alloc, id, number, text)?;
-    assert!(rt; fits_columns(table.columns(), row.values.as_slice()));
-    let rows = [row];
-    table.load(rows.as_slice(), 0)?;
-    Ok(())
+    match stage {
+        Stage::First => {
+            let stamp = Stamp {
+                begin: 0,
+                end: None,
+            };
+            table.push(row, stamp);
+            Ok(())
+        }
+        Stage::Second => {
+            let rows = [row];
+            table.load(rows.as_slice(), 0)?;
+            Ok(())
+        }
+    }
 }
 
 fn move_all(rt: &impl Abort, table: &mut Table, next: u32) -> Result<(), AllocError>
@@ -138,6 +139,36 @@ fn end<B: Build>(
     Ok(())
 }
 
+/// A comparison by the place of its column.
+fn placed(rt: &impl Abort, columns: &[Column], pred: &Pred) -> ColumnPred
+    ensures { Compiles columns.now (pred.now ∷ []) (result ∷ []) }
+{
+    let known = has_column(columns, pred.column.as_slice());
+    assert!(rt; known);
+    let place = column_of(columns, pred.column.as_slice()).unwrap_or(64);
+    assert!(rt; place < 64);
+    let Some(kind) = kind_in(columns, pred.column.as_slice()) else {
+        panic!(rt; "a column has no kind");
+    };
+    let fits = is_of_kind(kind, &pred.value);
+    assert!(rt; fits);
+    value_keeps_rule(&pred.value);
+    ColumnPred {
+        column: place as u8,
+        op: pred.op,
+        key: key_of(&pred.value),
+    }
+}
+
+/// A comparison of the numbers of the rows.
+fn number_pred(rt: &impl Abort, alloc: Global, op: Cmp, number: i64) -> Result<Pred, AllocError> {
+    Ok(Pred {
+        column: name(rt, alloc, b"k")?,
+        op,
+        value: Value::Int(number),
+    })
+}
+
 /// Finds the rows whose number meets a comparison.
 fn find(
     rt: &impl Abort,
@@ -150,14 +181,8 @@ fn find(
     requires { SeenOnce table.now.stages fates.now 0 None }
     ensures { IfOk result (λ found. AreThere table.now.stages found.items) }
 {
-    let column = name(rt, alloc, b"k")?;
-    let value = Value::Int(number);
-    assert!(rt; has_column(table.columns(), column.as_slice()));
-    let Some(kind) = kind_in(table.columns(), column.as_slice()) else {
-        panic!(rt; "a column has no kind");
-    };
-    assert!(rt; is_of_kind(kind, &value));
-    let preds = [Pred { column, op, value }];
+    let pred = number_pred(rt, alloc, op, number)?;
+    let preds = [placed(rt, table.columns(), &pred)];
     let found = table.scan(alloc, fates, 0, None, &preds)?;
     let count = table.count(alloc, fates, 0, None, &preds)?;
     assert!(rt; count == found.len() as u64);
@@ -237,9 +262,9 @@ fn three_rows(rt: &impl Abort, alloc: Global) -> Result<Table, AllocError>
     columns.push(column(rt, alloc, b"k", Kind::Int)?)?;
     columns.push(column(rt, alloc, b"v", Kind::Text)?)?;
     let mut table = Table::new(alloc, columns)?;
-    load(rt, alloc, &mut table, 1, 5, b"a")?;
-    load(rt, alloc, &mut table, 2, -7, b"b")?;
-    insert(rt, alloc, &mut table, 3, 5, b"c")?;
+    add(rt, alloc, &mut table, Stage::Second, 1, 5, b"a")?;
+    add(rt, alloc, &mut table, Stage::Second, 2, -7, b"b")?;
+    add(rt, alloc, &mut table, Stage::First, 3, 5, b"c")?;
     Ok(table)
 }
 
@@ -293,15 +318,9 @@ fn tallies(
 ) -> Result<(), AllocError>
     requires { SeenOnce table.now.stages fates.now 0 None }
 {
-    let column = name(rt, alloc, b"k")?;
-    let value = Value::Int(number);
     assert!(rt; table.columns().len() == 2);
-    assert!(rt; has_column(table.columns(), column.as_slice()));
-    let Some(kind) = kind_in(table.columns(), column.as_slice()) else {
-        panic!(rt; "a column has no kind");
-    };
-    assert!(rt; is_of_kind(kind, &value));
-    let preds = [Pred { column, op, value }];
+    let pred = number_pred(rt, alloc, op, number)?;
+    let preds = [placed(rt, table.columns(), &pred)];
     let some = table.tally(alloc, fates, 0, None, &preds, 0)?;
     assert!(rt; some.counts.as_slice() == counts);
     assert!(rt; some.rest.as_slice().len() == 1);
@@ -324,69 +343,7 @@ fn tallies_each(
     tallies(rt, alloc, table, fates, Cmp::Lt, 5, &[1, 0], 4)
 }
 
-#[test]
-fn rows_are_found_in_each_stage_and_behind_merges(rt: HostRuntime) -> Result<(), Fail> {
-    let alloc = rt.alloc();
-    let fates = Fates::new(alloc)?;
-    let builder = Builder::alone(&rt, &NoHook);
-    let mut table = three_rows(&rt, alloc)?;
-    finds_each(&rt, alloc, &table, &fates, 4)?;
-    merge(
-        &rt,
-        &builder,
-        alloc,
-        &mut table,
-        &fates,
-        MergeKind::Extend,
-        4,
-    )?;
-    has_shape(&rt, alloc, &table, 1, 0, &[2])?;
-    move_all(&rt, &mut table, 4)?;
-    finds_each(&rt, alloc, &table, &fates, 4)?;
-    merge(
-        &rt,
-        &builder,
-        alloc,
-        &mut table,
-        &fates,
-        MergeKind::Partial,
-        4,
-    )?;
-    has_shape(&rt, alloc, &table, 0, 0, &[2, 1])?;
-    merge(
-        &rt,
-        &builder,
-        alloc,
-        &mut table,
-        &fates,
-        MergeKind::Classic,
-        4,
-    )?;
-    has_shape(&rt, alloc, &table, 0, 0, &[3])?;
-    assert!(rt; table.columns().len() == 2);
-    assert!(rt; table.main_keys(alloc, 0)?.len() == 2);
-    Ok(())
-}
-
-/// A merge that re-sorts nothing, from its begin to its end.
-fn merged<B: Build>(
-    builder: &B,
-    alloc: Global,
-    table: &mut Table,
-    fates: &Fates,
-    kind: MergeKind,
-    next: u32,
-) -> Result<(), AllocError>
-    requires ready { B.ready builder.now }
-    requires rest { IsAtRest next table.old.stages }
-    requires kind { kind ≢ MergeKind.Resort }
-    ensures { OnOk result (IsAtRest next table.new.stages) }
-{
-    let job = begin(alloc, table, fates, kind, next)?;
-    end(builder, alloc, table, &job, next)
-}
-
-/// Of three rows two move to one part of main and one to another; then two more rows come.
+/// Of three rows two move to one part of main and one to another, and each is found all the time.
 fn in_two_parts<B: Build>(
     rt: &impl Abort,
     builder: &B,
@@ -396,23 +353,47 @@ fn in_two_parts<B: Build>(
 ) -> Result<(), AllocError>
     requires ready { B.ready builder.now }
     requires rest { IsAtRest 4 table.old.stages }
-    ensures { OnOk result (IsAtRest 6 table.new.stages) }
+    ensures { OnOk result (IsAtRest 4 table.new.stages) }
 {
-    merged(builder, alloc, table, fates, MergeKind::Extend, 4)?;
+    finds_each(rt, alloc, table, fates, 4)?;
+    merge(rt, builder, alloc, table, fates, MergeKind::Extend, 4)?;
+    has_shape(rt, alloc, table, 1, 0, &[2])?;
     move_all(rt, table, 4)?;
-    merged(builder, alloc, table, fates, MergeKind::Partial, 4)?;
-    has_shape(rt, alloc, table, 0, 0, &[2, 1])?;
-    load(rt, alloc, table, 4, -7, b"d")?;
-    insert(rt, alloc, table, 5, 5, b"e")
+    finds_each(rt, alloc, table, fates, 4)?;
+    merge(rt, builder, alloc, table, fates, MergeKind::Partial, 4)?;
+    has_shape(rt, alloc, table, 0, 0, &[2, 1])
+}
+
+/// All rows stand in one part, with both numbers in its dictionary.
+fn is_one_part(rt: &impl Abort, alloc: Global, table: &Table) -> Result<(), AllocError> {
+    has_shape(rt, alloc, table, 0, 0, &[3])?;
+    assert!(rt; table.columns().len() == 2);
+    assert!(rt; table.main_keys(alloc, 0)?.len() == 2);
+    Ok(())
+}
+
+#[test]
+fn rows_are_found_in_each_stage_and_behind_merges(rt: HostRuntime) -> Result<(), Fail> {
+    let alloc = rt.alloc();
+    let fates = Fates::new(alloc)?;
+    let builder = Builder::alone(&rt, &NoHook);
+    let mut table = three_rows(&rt, alloc)?;
+    in_two_parts(&rt, &builder, alloc, &mut table, &fates)?;
+    let kind = MergeKind::Classic;
+    merge(&rt, &builder, alloc, &mut table, &fates, kind, 4)?;
+    is_one_part(&rt, alloc, &table)?;
+    Ok(())
 }
 
 #[test]
 fn codes_are_counted_in_two_parts(rt: HostRuntime) -> Result<(), Fail> {
     let alloc = rt.alloc();
     let fates = Fates::new(alloc)?;
-    let mut table = three_rows(&rt, alloc)?;
     let builder = Builder::alone(&rt, &NoHook);
+    let mut table = three_rows(&rt, alloc)?;
     in_two_parts(&rt, &builder, alloc, &mut table, &fates)?;
+    add(&rt, alloc, &mut table, Stage::Second, 4, -7, b"d")?;
+    add(&rt, alloc, &mut table, Stage::First, 5, 5, b"e")?;
     tallies_each(&rt, alloc, &table, &fates, 6)?;
     Ok(())
 }

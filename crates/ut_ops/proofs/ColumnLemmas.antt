@@ -82,19 +82,6 @@ numbers_at columns name c h at = by (find (λ (x : Column). same_bytes x.name na
         ∙ ap (option_map (λ (x : Column). x.kind)) (found_at (λ (x : Column). same_bytes x.name name) columns x e)
         ∙ int_kind x.kind (sym (ap (λ o. is_int (option_map (λ (x : Column). x.kind) o)) e) ∙ h)
 
--- a column of numbers is there
-pub column_there : {A : Type 0} (columns : List Column) (name : List ℕ) → IsTrue (is_int (kind_in columns name)) → column_of columns name ≡ None → A
-column_there {A} columns name h at = by (find (λ (x : Column). same_bytes x.name name) columns) refl
-  where
-    nothing : (n : ℕ) → None ≡ Some n → ⊥
-    nothing n e = cc
-
-    by : (o : Option Column) → find (λ (x : Column). same_bytes x.name name) columns ≡ o → A
-    by None e = absurd (true≢false (sym h ∙ ap (λ o. is_int (option_map (λ (x : Column). x.kind) o)) e))
-    by (Some x) e =
-        absurd (nothing (position_or_len (λ (x : Column). same_bytes x.name name) columns)
-        (sym at ∙ ap (λ b. cond b (Some (position_or_len (λ (x : Column). same_bytes x.name name) columns)) None) (lt-ltb _ _ (found_below (λ (x : Column). same_bytes x.name name) columns x e))))
-
 -- ---- the values of a column
 
 pub stored_values : (n : ℕ) (o : Option StagedRow) → (stored_in n o).values ≡ values_in o
@@ -104,14 +91,6 @@ stored_values n (Some row) = refl
 -- a row's value in a column
 pub stored_cell : (n : ℕ) (s : Staged) (c : ℕ) (f : Found) → IsTrue (is_row s.columns (row_at s f.place)) → c < length s.columns → slice_get (stored_in n (row_at s f.place)).values c ≡ Some (cell s c f)
 stored_cell n s c f fit small = let x = is_cell s c f fit small in ap (λ o. slice_get (stored_in n o).values c) x.there ∙ x.is
-
-no_values : (rows : List (ℕ × Stored)) → filter_map (λ (e : ℕ × Stored). option_and_then (slice_get e.1.values) None) rows ≡ []
-no_values [] = refl
-no_values (e ∷ es) = no_values es
-
--- no column, no values
-pub values_none : (columns : List Column) (name : List ℕ) (rows : List (ℕ × Stored)) → column_of columns name ≡ None → column_values columns name rows ≡ []
-values_none columns name rows at = ap (λ o. filter_map (λ (e : ℕ × Stored). option_and_then (slice_get e.1.values) o) rows) at ∙ no_values rows
 
 cells : (n : ℕ) (s : Staged) (c : ℕ) (found : List Found) → Fit s found → c < length s.columns → filter_map (λ (e : ℕ × Stored). slice_get e.1.values c) (rows_at n s found) ≡ map (cell s c) found
 cells n s c [] fit small = refl

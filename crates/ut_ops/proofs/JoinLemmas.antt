@@ -1,5 +1,5 @@
 -- The pairs of rows with equal values.
-use Rattle.std.proofs.Common.{◌≡◌, ℕ, zero, suc, ◌+◌, ◌<◌, Bool, true, false, cond, List, [], ◌∷◌, ◌++◌, length, map, filter, drop, take, get_or, Option, None, Some, refl, sym, ap, ◌∙◌, subst, arith, unwrap_or, IsTrue, slice_get}
+use Rattle.std.proofs.Common.{◌≡◌, ℕ, zero, suc, ◌+◌, ◌<◌, Bool, true, false, cond, List, [], ◌∷◌, ◌++◌, length, map, filter, drop, take, get_or, None, Some, refl, sym, ap, ◌∙◌, subst, arith, unwrap_or, IsTrue, slice_get}
 use Rattle.std.proofs.lemmas.List.{take_more}
 use Rattle.std.proofs.lemmas.Option.{same_Some, slice_get-map, slice_get-get_or}
 use Rattle.std.specs.Option.{option_map, option_and_then}
@@ -7,7 +7,6 @@ use Rattle.std.specs.List.{flat_map}
 use Rattle.std.specs.Ordering.{is_eq}
 use Rattle.std.specs.BTreeMap.{BTreeMap, get}
 use Rattle.ut_value.specs.declared.value.Value.{Value}
-use Rattle.ut_value.specs.declared.value.Column.{Column}
 use Rattle.ut_value.specs.KeyOrder.{value_cmp}
 use Rattle.ut_plain.specs.declared.table.Stored.{Stored}
 use Rattle.ut_plain.specs.Tables.{column_of}
@@ -132,30 +131,3 @@ joined_is n m l r left right c d (f ∷ fs) gs fit other at bt = λ i. one i ++ 
     one =
         partners m r right d (values_at l f) (cell l c f) gs other bt
         ∙ (λ i. map (λ (y : ℕ × Stored). sym (stored_values n (row_at l f.place)) i ++ y.1.values) (filter (λ (y : ℕ × Stored). same_value (sym value_is i) (value_in r.columns y.1.values right)) (rows_at m r gs)))
-
--- ---- a column that isn't there
-
-none_same : {X : Type 0} (xs : List X) → filter (λ (x : X). false) xs ≡ []
-none_same [] = refl
-none_same (x ∷ xs) = none_same xs
-
-same_none : (o : Option Value) → same_value o None ≡ false
-same_none None = refl
-same_none (Some v) = refl
-
-nothing_made : {X A : Type 0} (xs : List X) → flat_map {A = A} (λ (x : X). []) xs ≡ []
-nothing_made [] = refl
-nothing_made (x ∷ xs) = nothing_made xs
-
-pub joined-no_left : (l : List Column) (left : List ℕ) (xs : List (ℕ × Stored)) (r : List Column) (right : List ℕ) (ys : List (ℕ × Stored)) → column_of l left ≡ None → joined l left xs r right ys ≡ []
-joined-no_left l left xs r right ys at =
-    (λ i. flat_map (λ (x : ℕ × Stored). map (λ (y : ℕ × Stored). x.1.values ++ y.1.values) (filter (λ (y : ℕ × Stored). same_value (option_and_then (slice_get x.1.values) (at i)) (value_in r y.1.values right)) ys)) xs)
-    ∙ (λ i. flat_map (λ (x : ℕ × Stored). map (λ (y : ℕ × Stored). x.1.values ++ y.1.values) (none_same ys i)) xs)
-    ∙ nothing_made xs
-
-pub joined-no_right : (l : List Column) (left : List ℕ) (xs : List (ℕ × Stored)) (r : List Column) (right : List ℕ) (ys : List (ℕ × Stored)) → column_of r right ≡ None → joined l left xs r right ys ≡ []
-joined-no_right l left xs r right ys at =
-    (λ i. flat_map (λ (x : ℕ × Stored). map (λ (y : ℕ × Stored). x.1.values ++ y.1.values) (filter (λ (y : ℕ × Stored). same_value (value_in l x.1.values left) (option_and_then (slice_get y.1.values) (at i))) ys)) xs)
-    ∙ (λ i. flat_map (λ (x : ℕ × Stored). map (λ (y : ℕ × Stored). x.1.values ++ y.1.values) (filter (λ (y : ℕ × Stored). same_none (value_in l x.1.values left) i) ys)) xs)
-    ∙ (λ i. flat_map (λ (x : ℕ × Stored). map (λ (y : ℕ × Stored). x.1.values ++ y.1.values) (none_same ys i)) xs)
-    ∙ nothing_made xs

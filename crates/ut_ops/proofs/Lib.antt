@@ -1,5 +1,6 @@
 pub mod CellLemmas
 pub mod ColumnLemmas
+pub mod NamedLemmas
 pub mod SumLemmas
 pub mod TallyLemmas
 pub mod JoinLemmas

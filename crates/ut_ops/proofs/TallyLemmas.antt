@@ -1,5 +1,5 @@
 -- The sums by key are those of the distinct keys.
-use Rattle.std.proofs.Common.{◌≡◌, ℤ, pos, ◌+ℤ◌, ℕ, Bool, T, true, false, ◌&&◌, cond, List, [], ◌∷◌, map, None, Some, refl, sym, ap, ◌∙◌, unwrap_or, true≢false, slice_get}
+use Rattle.std.proofs.Common.{◌≡◌, ℤ, pos, ◌+ℤ◌, ℕ, Bool, T, true, false, ◌&&◌, cond, List, [], ◌∷◌, map, Some, refl, sym, ap, ◌∙◌, unwrap_or, true≢false, slice_get}
 use Rattle.std.specs.Option.{option_and_then}
 use Rattle.std.specs.List.{filter_map, cons_option}
 use Rattle.std.specs.declared.cmp.Ordering.{Ordering}
@@ -11,7 +11,6 @@ use Rattle.std.specs.FinMap.Entries.{by_order, below_all, is_sorted-put, find-pu
 use Rattle.std.specs.BTreeMap.{insert_entry, is_at}
 use Rattle.std.specs.Map.{lookup}
 use Rattle.ut_value.specs.declared.value.Value.{Value}
-use Rattle.ut_value.specs.declared.value.Column.{Column}
 use Rattle.ut_value.specs.KeyOrder.{value_cmp}
 use Rattle.ut_plain.specs.declared.table.Stored.{Stored}
 use Rattle.ut_plain.specs.Tables.{column_of}
@@ -24,7 +23,7 @@ use Rattle.ut_table.specs.Finds.{rows_at}
 use Rattle.ut_ops.specs.ValueOrder.{value_cmp_total, equal_values}
 use Rattle.ut_ops.specs.Fit.{Fit, cell}
 use Rattle.ut_ops.specs.Tally.{sum_of, added, tallies, entry_of, as_group}
-use Rattle.ut_ops.proofs.ColumnLemmas.{fit_first, fit_rest, stored_cell, values_none, values_some, column_below}
+use Rattle.ut_ops.proofs.ColumnLemmas.{fit_first, fit_rest, stored_cell, values_some, column_below}
 
 -- ---- a map of std, as this one
 
@@ -182,7 +181,3 @@ pub groups_are : (n : ℕ) (s : Staged) (key sum : List ℕ) (kc sc : ℕ) (fs :
 groups_are n s key sum kc sc fs fit at bt =
     tallies_are (map (entry_of s kc sc) fs)
     ∙ (λ i. map (λ k. as_group (k, sym (with_total n s key sum kc sc k fs fit at bt) i)) (distinct ((keys_of_rows s kc sc fs ∙ sym (values_some n s key kc fs fit at)) i)))
-
--- no keys, no groups
-pub no_groups : (columns : List Column) (key sum : List ℕ) (rows : List (ℕ × Stored)) → column_of columns key ≡ None → groups columns key sum rows ≡ []
-no_groups columns key sum rows at = ap (λ vs. map (λ k. as_group (k, total (column_values columns sum (with_value columns key k rows)))) (distinct vs)) (values_none columns key rows at)

@@ -7,7 +7,7 @@ use Rattle.std.specs.List.Sorted.{IsPermutation}
 use Rattle.std.proofs.Math.IntN.{zero-*ℤ, suc_ℤ-*ℤ}
 use Rattle.std.proofs.lemmas.Bool.{cases_eq, cases_lt, eq-eqb, ne_eqb}
 use Rattle.std.proofs.lemmas.Int.{ints}
-use Rattle.std.proofs.lemmas.List.{get_or_past, map-append}
+use Rattle.std.proofs.lemmas.List.{get_or_past, length-drop, map-append}
 use Rattle.std.proofs.lemmas.List.Sums.{sum_by-cons}
 use Rattle.std.proofs.lemmas.List.Elements.{All-nil, All-cons, All-head, All-tail}
 use Rattle.std.proofs.lemmas.List.Sorted.{All-permutation, IsPermutation-map, IsPermutation-sym, sum_by-IsPermutation}
@@ -132,6 +132,22 @@ pub weighed-step : (counts : List ℕ) (keys : List (List ℕ)) (n : ℕ) (a b :
 weighed-step counts keys n a b count key so_far one is at =
     let e : n + 1 ≡ suc n = omega arith in
     (λ i. so_far i +ℤ (one ∙ (λ j. pos (is j) *ℤ key_number (at j))) i) ∙ ap (weighed (counted counts) keys) (sym e)
+
+-- ---- the keys of a walk
+
+-- the first of the keys that are left
+pub walk-first : (all : List (List ℕ)) (i : ℕ) (key : List ℕ) (left : List (List ℕ)) → drop i all ≡ key ∷ left → (i < length all) × (get_or all i [] ≡ key) × (drop (i + 1) all ≡ left)
+walk-first [] zero key left e = cc
+walk-first [] (suc i) key left e = cc
+walk-first (x ∷ all) zero key left e = (omega arith, ap (λ (l : List (List ℕ)). get_or l 0 []) e, ap (λ (l : List (List ℕ)). drop 1 l) e)
+walk-first (x ∷ all) (suc i) key left e =
+    let rest = walk-first all i key left e in
+    let next : suc i + 1 ≡ suc (i + 1) = omega arith in
+    (omega (arith, rest.0), rest.1, ap (λ (n : ℕ). drop n (x ∷ all)) next ∙ rest.2)
+
+-- where none is left
+pub walk-end : (all : List (List ℕ)) (i : ℕ) → drop i all ≡ [] → length all ≤ i
+walk-end all i e = omega (arith, length-drop i all, ap (λ (l : List (List ℕ)). length l) e)
 
 -- ---- the keys of rows
 

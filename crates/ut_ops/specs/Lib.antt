@@ -1,5 +1,6 @@
 pub mod ValueOrder
 pub mod Fit
+pub mod Named
 pub mod Tally
 pub mod Index
 pub mod Noted

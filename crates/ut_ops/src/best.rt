@@ -1,6 +1,7 @@
 //! The least and the greatest value of a column.
-ghost use Rattle.std.specs.Prelude.{◌≡◌, ◌<◌, ℕ, length, map, option_map, IfOk, IfSome, IsTrue};
+ghost use Rattle.std.specs.Prelude.{◌≡◌, ◌<◌, ℕ, List, length, map, option_map, Some, IfOk, IfSome, IsTrue};
 ghost use Rattle.std.specs.Ordering.{is_lt, is_gt};
+ghost use Rattle.ut_plain.specs.Tables.{column_of};
 ghost use Rattle.ut_plain.specs.Query.{column_values, best, best_from};
 ghost use Rattle.ut_staged.specs.Staged.{row_at};
 ghost use Rattle.ut_table.specs.Finds.{rows_at};
@@ -8,7 +9,6 @@ ghost use Rattle.ut_ops.specs.Fit.{is_row, Fit, cell};
 
 use crate::cell::{compare_at, value_at};
 use std::alloc::{AllocError, Global};
-use ut_plain::column_of;
 use ut_scan::Found;
 use ut_table::Table;
 use ut_value::Value;
@@ -17,18 +17,18 @@ use ut_value::Value;
 pub fn least(
     alloc: Global,
     table: &Table,
-    column: &[u8],
+    column: usize,
     hits: &[Found],
 ) -> Result<Option<Value>, AllocError>
-    requires { Fit table.now.stages hits.now }
-    ensures { IfOk result (λ value. (n : ℕ) → value ≡ best is_lt (column_values table.now.stages.columns column.now (rows_at n table.now.stages hits.now))) }
+    requires column { column < length table.now.stages.columns }
+    requires fit { Fit table.now.stages hits.now }
+    ensures { let s = table.now.stages in
+        IfOk result (λ value. (n : ℕ) (name : List ℕ) → column_of s.columns name ≡ Some column
+        → value ≡ best is_lt (column_values s.columns name (rows_at n s hits.now))) }
 {
-    let Some(place) = column_of(table.columns(), column) else {
-        return Ok(None);
-    };
-    match least_at(table, place, hits) {
+    match least_at(table, column, hits) {
         None => Ok(None),
-        Some(hit) => Ok(Some(value_at(alloc, table, hit, place)?)),
+        Some(hit) => Ok(Some(value_at(alloc, table, hit, column)?)),
     }
 }
 
@@ -36,18 +36,18 @@ pub fn least(
 pub fn greatest(
     alloc: Global,
     table: &Table,
-    column: &[u8],
+    column: usize,
     hits: &[Found],
 ) -> Result<Option<Value>, AllocError>
-    requires { Fit table.now.stages hits.now }
-    ensures { IfOk result (λ value. (n : ℕ) → value ≡ best is_gt (column_values table.now.stages.columns column.now (rows_at n table.now.stages hits.now))) }
+    requires column { column < length table.now.stages.columns }
+    requires fit { Fit table.now.stages hits.now }
+    ensures { let s = table.now.stages in
+        IfOk result (λ value. (n : ℕ) (name : List ℕ) → column_of s.columns name ≡ Some column
+        → value ≡ best is_gt (column_values s.columns name (rows_at n s hits.now))) }
 {
-    let Some(place) = column_of(table.columns(), column) else {
-        return Ok(None);
-    };
-    match greatest_at(table, place, hits) {
+    match greatest_at(table, column, hits) {
         None => Ok(None),
-        Some(hit) => Ok(Some(value_at(alloc, table, hit, place)?)),
+        Some(hit) => Ok(Some(value_at(alloc, table, hit, column)?)),
     }
 }
 

@@ -1,20 +1,21 @@
 //! The values of the columns that are named.
-ghost use Rattle.std.specs.Prelude.{◌≡◌, ◌<◌, ◌++◌, ℕ, length, map, IfOk, OnOk, IsTrue, All};
-ghost use Rattle.std.specs.List.{filter_map, range_with_len};
-ghost use Rattle.ut_plain.specs.Tables.{column_of};
+ghost use Rattle.std.specs.Prelude.{◌≡◌, ◌<◌, ◌++◌, ℕ, List, Option, length, map, IfOk, OnOk, IsTrue, All};
+ghost use Rattle.std.specs.List.{range_with_len};
 ghost use Rattle.ut_plain.specs.Query.{picked};
 ghost use Rattle.ut_staged.specs.Staged.{row_at};
 ghost use Rattle.ut_table.specs.Finds.{rows_at};
 ghost use Rattle.ut_ops.specs.Fit.{is_row, Fit, cell, values_at};
+ghost use Rattle.ut_names.specs.Resolved.{AreColumns};
+ghost use Rattle.ut_ops.specs.Named.{AreWithin};
 
 use crate::cell::{value_at, values_at};
 use crate::gather::cells;
 use std::alloc::{AllocError, Global};
-use ut_plain::column_of;
+use ut_names::Columns;
 use ut_rows::{Cells, Rows};
 use ut_scan::Found;
 use ut_table::Table;
-use ut_value::{Column, Name, Seq, Value};
+use ut_value::{Seq, Value};
 
 /// Fewer rows are read one by one, more of them column by column.
 const FEW: usize = 64;
@@ -23,19 +24,22 @@ const FEW: usize = 64;
 pub fn select(
     alloc: Global,
     table: &Table,
-    names: &Option<Seq<Name>>,
+    columns: &Columns,
     hits: &[Found],
 ) -> Result<Rows, AllocError>
-    requires { Fit table.now.stages hits.now }
-    ensures { IfOk result (λ rows. (n : ℕ) → rows ≡ map (λ e. picked table.now.stages.columns names.now e.1.values) (rows_at n table.now.stages hits.now)) }
+    requires places { AreWithin table.now.stages.columns columns.now }
+    requires fit { Fit table.now.stages hits.now }
+    ensures { let s = table.now.stages in
+        IfOk result (λ rows. (n : ℕ) (names : Option (List (List ℕ)))
+        → AreColumns s.columns names columns.now
+        → rows ≡ map (λ e. picked s.columns names e.1.values) (rows_at n s hits.now)) }
 {
-    match names {
-        None => {
+    match columns {
+        Columns::All => {
             let rows = all_columns(alloc, table, hits)?;
             Ok(rows)
         }
-        Some(names) => {
-            let places = places_of(alloc, table.columns(), names.as_slice())?;
+        Columns::Named(places) => {
             let rows = some_columns(alloc, table, places.as_slice(), hits)?;
             Ok(rows)
         }
@@ -65,20 +69,6 @@ pub(crate) fn all_places(alloc: Global, width: usize) -> Result<Vec<usize>, Allo
 {
     let mut places = Vec::with_capacity(alloc, width)?;
     for place in 0..width {
-        places.push(place)?;
-    }
-    Ok(places)
-}
-
-/// Where the columns of these names stand.
-fn places_of(alloc: Global, columns: &[Column], names: &[Name]) -> Result<Vec<usize>, AllocError>
-    ensures { IfOk result (λ places. places.items ≡ filter_map (column_of columns.now) names.now) }
-{
-    let mut places = Vec::new(alloc);
-    for name in names {
-        let Some(place) = column_of(columns, name.as_slice()) else {
-            continue;
-        };
         places.push(place)?;
     }
     Ok(places)

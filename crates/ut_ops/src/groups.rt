@@ -1,7 +1,7 @@
 //! The sums of a column by the keys of another.
-ghost use Rattle.std.specs.Prelude.{◌≡◌, ◌+◌, ◌<◌, ◌≤◌, ◌^◌, ◌++◌, [], ◌∷◌, ℕ, pos, ◌+ℤ◌, ◌≤ℤ◌, neg_ℤ, length, map, slice_get, option_map, Some, IsTrue, IfOk, OnOk};
+ghost use Rattle.std.specs.Prelude.{◌≡◌, ◌+◌, ◌<◌, ◌≤◌, ◌^◌, ◌++◌, [], ◌∷◌, ℕ, pos, ◌+ℤ◌, ◌≤ℤ◌, neg_ℤ, List, length, map, slice_get, option_map, Some, IsTrue, IfOk, OnOk};
 ghost use Rattle.ut_value.specs.declared.value.Column.{Column};
-ghost use Rattle.ut_plain.specs.Kinds.{kind_in, is_int};
+ghost use Rattle.ut_plain.specs.Tables.{column_of};
 ghost use Rattle.ut_plain.specs.Query.{groups};
 ghost use Rattle.ut_staged.specs.Staged.{row_at};
 ghost use Rattle.ut_table.specs.Finds.{rows_at};
@@ -16,7 +16,7 @@ use crate::numbers::{Noted, noted_number, notes};
 use crate::ranked::Ranked;
 use std::alloc::{AllocError, Global};
 use std::collections::BTreeMap;
-use ut_plain::{Group, column_of};
+use ut_plain::Group;
 use ut_scan::Found;
 use ut_table::Table;
 use ut_value::{Kind, Seq};
@@ -25,22 +25,20 @@ use ut_value::{Kind, Seq};
 pub fn group(
     alloc: Global,
     table: &Table,
-    key: &[u8],
-    sum: &[u8],
+    key: usize,
+    sum: usize,
     hits: &[Found],
 ) -> Result<Seq<Group>, AllocError>
-    requires numbers { IsTrue (is_int (kind_in table.now.stages.columns sum.now)) }
+    requires key { key < length table.now.stages.columns }
+    requires numbers { option_map (λ (c : Column). c.kind) (slice_get table.now.stages.columns sum) ≡ Some Kind.Int }
     requires few { length hits.now ≤ 2 ^ 31 }
     requires fit { Fit table.now.stages hits.now }
-    ensures { IfOk result (λ said. (n : ℕ) → said ≡ groups table.now.stages.columns key.now sum.now (rows_at n table.now.stages hits.now)) }
+    ensures { let s = table.now.stages in
+        IfOk result (λ said. (n : ℕ) (key_name sum_name : List ℕ)
+        → column_of s.columns key_name ≡ Some key → column_of s.columns sum_name ≡ Some sum
+        → said ≡ groups s.columns key_name sum_name (rows_at n s hits.now)) }
 {
-    let Some(key_place) = column_of(table.columns(), key) else {
-        return Ok(Seq::new(alloc));
-    };
-    let Some(sum_place) = column_of(table.columns(), sum) else {
-        return Ok(Seq::new(alloc));
-    };
-    let gathered = gather(alloc, table, key_place, sum_place, hits)?;
+    let gathered = gather(alloc, table, key, sum, hits)?;
     let sums = united(alloc, gathered)?;
     let said = groups_of(alloc, sums)?;
     Ok(said)

@@ -1,9 +1,10 @@
 //! The pairs of rows of two tables with equal values.
-ghost use Rattle.std.specs.Prelude.{◌≡◌, ◌<◌, ◌++◌, ◌∷◌, [], ℕ, length, map, cond, IfOk, OnOk};
+ghost use Rattle.std.specs.Prelude.{◌≡◌, ◌<◌, ◌++◌, ◌∷◌, [], ℕ, List, length, map, cond, Some, IfOk, OnOk};
 ghost use Rattle.std.specs.List.{flat_map};
 ghost use Rattle.std.specs.Ordering.{is_eq};
 ghost use Rattle.ut_value.specs.declared.value.Value.{Value};
 ghost use Rattle.ut_value.specs.KeyOrder.{value_cmp};
+ghost use Rattle.ut_plain.specs.Tables.{column_of};
 ghost use Rattle.ut_plain.specs.Query.{joined};
 ghost use Rattle.ut_table.specs.Finds.{rows_at};
 ghost use Rattle.ut_ops.specs.Fit.{Fit, cell};
@@ -14,7 +15,6 @@ use crate::gather::cells;
 use crate::ranked::Ranked;
 use std::alloc::{AllocError, Global};
 use std::collections::BTreeMap;
-use ut_plain::column_of;
 use ut_rows::Rows;
 use ut_scan::Found;
 use ut_table::Table;
@@ -31,24 +31,25 @@ struct Pairs {
 pub fn join(
     alloc: Global,
     left: &Table,
-    left_column: &[u8],
+    left_column: usize,
     left_hits: &[Found],
     right: &Table,
-    right_column: &[u8],
+    right_column: usize,
     right_hits: &[Found],
 ) -> Result<Rows, AllocError>
+    requires left_column { left_column < length left.now.stages.columns }
     requires left_fit { Fit left.now.stages left_hits.now }
+    requires right_column { right_column < length right.now.stages.columns }
     requires right_fit { Fit right.now.stages right_hits.now }
-    ensures { IfOk result (λ rows. (n m : ℕ) → rows ≡ joined left.now.stages.columns left_column.now (rows_at n left.now.stages left_hits.now) right.now.stages.columns right_column.now (rows_at m right.now.stages right_hits.now)) }
+    ensures { let l = left.now.stages in let r = right.now.stages in
+        IfOk result (λ rows. (n m : ℕ) (left_name right_name : List ℕ)
+        → column_of l.columns left_name ≡ Some left_column
+        → column_of r.columns right_name ≡ Some right_column
+        → rows ≡ joined l.columns left_name (rows_at n l left_hits.now)
+        r.columns right_name (rows_at m r right_hits.now)) }
 {
-    let Some(left_place) = column_of(left.columns(), left_column) else {
-        return Ok(Rows::of_lists(Seq::new(alloc)));
-    };
-    let Some(right_place) = column_of(right.columns(), right_column) else {
-        return Ok(Rows::of_lists(Seq::new(alloc)));
-    };
-    let index = index_of(alloc, right, right_place, right_hits)?;
-    let pairs = pairs_of(alloc, left, left_place, left_hits, &index)?;
+    let index = index_of(alloc, right, right_column, right_hits)?;
+    let pairs = pairs_of(alloc, left, left_column, left_hits, &index)?;
     let rows = beside_each(
         alloc,
         left,

@@ -1,7 +1,7 @@
 //! The sum of a column.
-ghost use Rattle.std.specs.Prelude.{◌≡◌, ◌≤◌, ◌^◌, ℕ, pos, neg_ℤ, ◌≤ℤ◌, length, map, slice_get, option_map, Some, IsTrue};
+ghost use Rattle.std.specs.Prelude.{◌≡◌, ◌≤◌, ◌^◌, ℕ, pos, neg_ℤ, ◌≤ℤ◌, List, length, map, slice_get, option_map, Some};
 ghost use Rattle.ut_value.specs.declared.value.Column.{Column};
-ghost use Rattle.ut_plain.specs.Kinds.{kind_in, is_int};
+ghost use Rattle.ut_plain.specs.Tables.{column_of};
 ghost use Rattle.ut_plain.specs.Query.{column_values, total};
 ghost use Rattle.ut_table.specs.Finds.{rows_at};
 ghost use Rattle.ut_ops.specs.Fit.{Fit, cell};
@@ -9,7 +9,6 @@ ghost use Rattle.ut_ops.specs.Noted.{AreNoted};
 
 use crate::numbers::{NONE, Noted, main_notes, noted_number};
 use std::alloc::Global;
-use ut_plain::column_of;
 use ut_scan::Found;
 use ut_table::Table;
 use ut_value::Kind;
@@ -17,26 +16,16 @@ use ut_value::Kind;
 /// How many codes have their numbers noted.
 const ROOM: usize = 1024;
 
-/// The sum of a column of numbers. Where memory is refused keys are read one by one.
-pub fn sum(alloc: Global, table: &Table, column: &[u8], hits: &[Found]) -> i128
-    requires numbers { IsTrue (is_int (kind_in table.now.stages.columns column.now)) }
-    requires few { length hits.now ≤ 2 ^ 31 }
-    requires fit { Fit table.now.stages hits.now }
-    ensures { (n : ℕ) → result ≡ total (column_values table.now.stages.columns column.now (rows_at n table.now.stages hits.now)) }
-{
-    match column_of(table.columns(), column) {
-        None => 0,
-        Some(place) => sum_in(alloc, table, place, hits),
-    }
-}
-
-/// Where there are many rows, the numbers of their codes are noted: of main's all at once, where
-/// these are many and the rows not fewer.
-fn sum_in(alloc: Global, table: &Table, column: usize, hits: &[Found]) -> i128
+/// The sum of a column of numbers. Where there are many rows, the numbers of their codes are noted:
+/// of main's all at once, where these are many and the rows not fewer. Where memory is refused keys
+/// are read one by one.
+pub fn sum(alloc: Global, table: &Table, column: usize, hits: &[Found]) -> i128
     requires numbers { option_map (λ (c : Column). c.kind) (slice_get table.now.stages.columns column) ≡ Some Kind.Int }
     requires few { length hits.now ≤ 2 ^ 31 }
     requires fit { Fit table.now.stages hits.now }
-    ensures { result ≡ total (map (cell table.now.stages column) hits.now) }
+    ensures { let s = table.now.stages in
+        (n : ℕ) (name : List ℕ) → column_of s.columns name ≡ Some column
+        → result ≡ total (column_values s.columns name (rows_at n s hits.now)) }
 {
     let codes = table.codes(column);
     if ROOM < codes && codes <= hits.len() {
@@ -48,7 +37,7 @@ fn sum_in(alloc: Global, table: &Table, column: usize, hits: &[Found]) -> i128
     sum_noted(table, column, hits)
 }
 
-/// The same, the numbers of some codes noted.
+/// The sum, the numbers of some codes noted.
 pub(crate) fn sum_noted(table: &Table, column: usize, hits: &[Found]) -> i128
     requires numbers { option_map (λ (c : Column). c.kind) (slice_get table.now.stages.columns column) ≡ Some Kind.Int }
     requires few { length hits.now ≤ 2 ^ 31 }

@@ -1,10 +1,10 @@
 //! The sum of a column by its codes: each number once, times how often its code occurs.
-ghost use Rattle.std.specs.Prelude.{◌≡◌, ◌<◌, ◌≤◌, ◌^◌, ℕ, pos, neg_ℤ, ◌*ℤ◌, ◌≤ℤ◌, List, length, min, slice_get, option_map, Some, IsTrue, IfOk, IfSome};
+ghost use Rattle.std.specs.Prelude.{◌≡◌, ◌<◌, ◌≤◌, ◌^◌, ℕ, pos, neg_ℤ, ◌*ℤ◌, ◌≤ℤ◌, List, length, min, slice_get, option_map, Some, not, ◌&&◌, nat_lt, IfOk};
 ghost use Rattle.ut_value.specs.declared.value.Column.{Column};
-ghost use Rattle.ut_plain.specs.Kinds.{kind_in, is_int};
 ghost use Rattle.ut_plain.specs.Tables.{column_of as place_in};
 ghost use Rattle.ut_plain.specs.Query.{column_values, total};
 ghost use Rattle.ut_scan.specs.declared.place.Found.{Found};
+ghost use Rattle.ut_table.specs.Coded.{coded_values};
 ghost use Rattle.ut_table.specs.Finds.{rows_at};
 ghost use Rattle.ut_table.specs.Tallied.{IsTally};
 ghost use Rattle.ut_ops.specs.Fit.{Fit};
@@ -12,31 +12,26 @@ ghost use Rattle.ut_ops.specs.Weighed.{counted, key_number, weighed};
 
 use crate::sums::sum_noted;
 use std::alloc::{AllocError, Global};
-use ut_key::KeyList;
-use ut_plain::column_of;
 use ut_scan::CodeTally;
-use ut_table::Table;
+use ut_table::{ChainCursor, Table};
 use ut_value::{Kind, int_of};
 
 /// Where rows are compared, codes are counted if there are no more of them. Else the rows may be
 /// far fewer.
 const FEW: usize = 1024;
 
-/// The place of a column whose sum goes by its codes.
-pub fn tallied_column(table: &Table, column: &[u8], is_compared: bool) -> Option<usize>
-    ensures { IfSome result (λ place. place_in table.now.stages.columns column.now ≡ Some place) }
+/// Whether a sum of a column goes by its codes.
+pub fn tallied_column(table: &Table, column: usize, is_compared: bool) -> bool
+    requires { column < length table.now.stages.columns }
+    ensures { result ≡ not (is_compared && nat_lt 1024 (length (coded_values table.now.stages column))) }
 {
-    let place = column_of(table.columns(), column)?;
-    if is_compared && FEW < table.codes(place) {
-        return None;
-    }
-    Some(place)
+    !(is_compared && FEW < table.codes(column))
 }
 
 /// The sum of a column of numbers over rows, of which those in main are counted by their codes.
-/// Main's dictionaries are walked once.
+/// Main's dictionaries are walked once, and there is no list of their keys.
 pub fn sum_tally(
-    alloc: Global,
+    _alloc: Global,
     table: &Table,
     column: usize,
     tally: &CodeTally,
@@ -51,27 +46,30 @@ pub fn sum_tally(
         → IsTally s column found tally.now.counts.items tally.now.rest.items
         → sum ≡ total (column_values s.columns name (rows_at n s found))) }
 {
-    let keys = table.main_keys(alloc, column)?;
-    let counted = sum_counted(&keys, tally.counts.as_slice());
+    let counted = sum_counted(table.main_cursor(column), tally.counts.as_slice());
     Ok(counted + sum_noted(table, column, tally.rest.as_slice()))
 }
 
-/// The numbers of keys, each as often as it is counted.
-fn sum_counted(keys: &KeyList, counts: &[u32]) -> i128
+/// The numbers of the keys of a walk, each as often as it is counted.
+fn sum_counted(walk: ChainCursor<'_>, counts: &[u32]) -> i128
     requires few { length counts.now < 2 ^ 31 }
-    ensures sum { let n = min (length keys.now) (length counts.now) in
-        result ≡ weighed (counted counts.now) keys.now n }
+    ensures sum { let n = min (length walk.entry.left) (length counts.now) in
+        result ≡ weighed (counted counts.now) walk.entry.left n }
     ensures low { neg_ℤ (pos 85070591730234615865843651857942052864) ≤ℤ result }
     ensures high { result ≤ℤ pos 85070591730234615865843651857942052864 }
 {
+    let mut keys = walk;
     let mut sum: i128 = 0;
-    for code in 0..keys.len().min(counts.len()) {
-        sum += times(counts[code], keys.key(code));
+    for count in counts {
+        if !keys.advance() {
+            return sum;
+        }
+        sum += times(*count, keys.key());
     }
     sum
 }
 
-/// The number of a key, so many times.
+/// The number of a key, so many times. A key that isn't counted is not read.
 fn times(count: u32, key: &[u8]) -> i128
     ensures value { result ≡ pos count *ℤ key_number key.now }
     ensures low { neg_ℤ (pos 39614081257132168796771975168) ≤ℤ result }

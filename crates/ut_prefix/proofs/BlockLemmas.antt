@@ -1,5 +1,6 @@
 -- Reading the keys of a block.
-use Rattle.std.proofs.Common.{◌≡◌, ℕ, zero, suc, ◌<◌, ◌≤◌, List, [], length, get_or, refl, sym, ◌∙◌, ap, subst, arith}
+use Rattle.std.proofs.Common.{◌≡◌, ℕ, zero, suc, ◌+◌, ◌<◌, ◌≤◌, List, [], ◌∷◌, ◌++◌, length, take, get_or, refl, sym, ◌∙◌, ap, subst, arith}
+use Rattle.std.proofs.lemmas.List.{take-take}
 use Rattle.ut_prefix.specs.Reading.{next_key, after_key, first_key, after_first, decoded, block_keys, CanDecode, IsBlock}
 
 -- the key that is i places behind a key
@@ -70,3 +71,13 @@ at_next n m key bytes next rest target s e f h t =
 
 pub nth-at_next : (m : ℕ) (key bytes next rest : List ℕ) → next ≡ next_key key bytes → rest ≡ after_key bytes → nth m next rest ≡ nth (suc m) key bytes
 nth-at_next m key bytes next rest e f = ap (λ (l : List ℕ). nth m l rest) e ∙ ap (λ (l : List ℕ). nth m (next_key key bytes) l) f
+
+-- what stands behind the first bytes of a key, cut to fewer
+pub take-behind : (shared count most : ℕ) (key bytes : List ℕ) → shared ≤ length key → count ≤ most → take (shared + count) (take shared key ++ take most bytes) ≡ take shared key ++ take count bytes
+take-behind zero count most key bytes le few =
+    let e : 0 + count ≡ count = omega arith in
+    ap (λ (n : ℕ). take n (take most bytes)) e ∙ take-take count most bytes few
+take-behind (suc shared) count most [] bytes le few = absurd (omega (arith, le))
+take-behind (suc shared) count most (x ∷ key) bytes le few =
+    let e : suc shared + count ≡ suc (shared + count) = omega arith in
+    ap (λ (n : ℕ). take n (x ∷ (take shared key ++ take most bytes))) e ∙ ap (λ (l : List ℕ). x ∷ l) (take-behind shared count most key bytes (omega (arith, le)) few)

@@ -6,3 +6,4 @@ pub mod SpellingLemmas
 pub mod EntryLemmas
 pub mod ParseLemmas
 pub mod ChainLemmas
+pub mod CursorLemmas

@@ -4,7 +4,7 @@
 //!        shared: u8, count: u8, byte[count]
 //!
 //! A further key is the first `shared` bytes of the key before it, and these.
-ghost use Rattle.std.specs.Prelude.{◌≡◌, ◌+◌, ◌<◌, ◌≤◌, ◌++◌, [], slice_index, slice_index_or, IsTrue, false, drop, length, OnOk};
+ghost use Rattle.std.specs.Prelude.{◌≡◌, ◌+◌, ◌<◌, ◌≤◌, ◌++◌, [], slice_index, slice_index_or, IsTrue, false, drop, length, take, OnOk};
 ghost use Rattle.std.specs.declared.cmp.Ordering.TheVariants.{Equal, Greater};
 ghost use Rattle.ut_key.specs.Keys.{key_cmp};
 ghost use Rattle.ut_prefix.specs.Lookup.{AreBelow};
@@ -18,6 +18,12 @@ use ut_key::{Key, KeyList, Steps, compare};
 /// How many keys a block has.
 pub(crate) const BLOCK: u32 = 16;
 
+/// The most bytes of a key.
+const MOST: usize = 255;
+
+/// How many bytes are copied at once.
+const AT_ONCE: usize = 8;
+
 /// The bytes from the start of block `i` on.
 pub(crate) fn block_of<'a>(bytes: &'a [u8], starts: &[usize], i: usize) -> &'a [u8]
     requires index { i < length starts.now }
@@ -28,6 +34,7 @@ pub(crate) fn block_of<'a>(bytes: &'a [u8], starts: &[usize], i: usize) -> &'a [
 }
 
 /// The first key of a block, and the bytes behind it.
+#[inline(always)]
 pub(crate) fn first_of(block: &[u8]) -> (&[u8], &[u8])
     requires { IsBlock 1 block.now }
     ensures key { result.0.now ≡ first_key block.now }
@@ -38,15 +45,43 @@ pub(crate) fn first_of(block: &[u8]) -> (&[u8], &[u8])
     (&block[1..end], &block[end..])
 }
 
+/// Keeps the first `shared` bytes of a key, and puts the first `count` of others behind them. Where
+/// these are few, eight are copied, since that takes one move and no call, and the others dropped.
+#[inline(always)]
+fn put_behind(key: &mut Key, shared: usize, bytes: &[u8], count: usize)
+    requires shared { shared ≤ length key.old }
+    requires count { count ≤ length bytes.now }
+    requires room { shared + count ≤ 255 }
+    ensures { key.new ≡ take shared key.old ++ take count bytes.now }
+{
+    if count <= AT_ONCE && AT_ONCE <= bytes.len() && shared <= MOST - AT_ONCE {
+        key.splice(shared, &bytes[..AT_ONCE]);
+        key.splice(shared + count, &[]);
+    } else {
+        put_long(key, shared, &bytes[..count]);
+    }
+}
+
+/// The same of all of `rest`, which may be long.
+#[inline(never)]
+pub(crate) fn put_long(key: &mut Key, shared: usize, rest: &[u8])
+    requires shared { shared ≤ length key.old }
+    requires room { shared + length rest.now ≤ 255 }
+    ensures { key.new ≡ take shared key.old ++ rest.now }
+{
+    key.splice(shared, rest);
+}
+
 /// Reads the key behind `key`, and gives the bytes behind it.
-fn read_next<'a>(key: &mut Key, bytes: &'a [u8]) -> &'a [u8]
+#[inline(always)]
+pub(crate) fn read_next<'a>(key: &mut Key, bytes: &'a [u8]) -> &'a [u8]
     requires { CanDecode 1 key.old bytes.now }
     ensures key { key.new ≡ next_key key.old bytes.now }
     ensures rest { result.now ≡ after_key bytes.now }
 {
     let shared = usize::from(bytes[0]);
     let count = usize::from(bytes[1]);
-    key.splice(shared, &bytes[2..2 + count]);
+    put_behind(key, shared, &bytes[2..], count);
     &bytes[2 + count..]
 }
 

@@ -3,6 +3,7 @@ ghost use Rattle.std.specs.Prelude.{◌≡◌, [], ◌∷◌, ◌+◌, ◌*◌, 
 ghost use Rattle.std.specs.Arc.{arc_value};
 ghost use Rattle.ut_prefix.specs.Chain.{chain_steps, end_to_end, ranges_between, shared_dicts, AddsRanges, IsChain, LacksAll};
 
+use crate::cursor::ChainCursor;
 use crate::dict::PrefixDict;
 use std::alloc::{AllocError, Global};
 use std::marker::Model;
@@ -206,6 +207,13 @@ impl DictChain {
         ensures step { steps.new ≡ steps.old + 1 }
     {
         key_in(self.dicts.as_slice(), code, steps)
+    }
+
+    /// A place before the first key.
+    pub fn cursor(&self) -> ChainCursor<'_>
+        ensures { result.left ≡ end_to_end self.now }
+    {
+        ChainCursor::new(self.dicts.as_slice())
     }
 
     /// The code of `key`, where a dictionary holds it. They are asked in order.

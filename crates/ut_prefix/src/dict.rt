@@ -7,6 +7,7 @@ ghost use Rattle.ut_prefix.specs.Reading.{keys_of, AreBlocks};
 ghost use Rattle.ut_prefix.specs.Lookup.{count_below, search_steps, IsSplit};
 
 use crate::block::{BLOCK, block_of, key_in_block, push_block};
+use crate::cursor::Cursor;
 use crate::parse::read_blocks;
 use crate::search::search;
 use crate::write::write_block;
@@ -130,6 +131,13 @@ impl PrefixDict {
         let mut keys = KeyList::with_capacity(alloc, self.len as usize, bytes.len())?;
         push_blocks(bytes, self.starts.as_slice(), self.len, &mut keys)?;
         Ok(keys)
+    }
+
+    /// A place before the first key.
+    pub fn cursor(&self) -> Cursor<'_>
+        ensures { result.left ≡ self.now }
+    {
+        Cursor::new(self.bytes.as_slice(), self.len)
     }
 
     /// Where a key stands.

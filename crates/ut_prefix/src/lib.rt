@@ -3,10 +3,12 @@
 
 mod block;
 mod chain;
+mod cursor;
 mod dict;
 mod parse;
 mod search;
 mod write;
 
 pub use chain::DictChain;
+pub use cursor::{ChainCursor, Cursor};
 pub use dict::PrefixDict;

@@ -1,5 +1,5 @@
 -- The operations of a delete.
-use Rattle.std.proofs.Common.{ℕ, suc, ◌<◌, ◌≤◌, ◌≡◌, true, false, List, [], ◌∷◌, length, map, Some, refl, sym, ap, ◌∙◌, subst, arith, IsTrue, lt-ltb, slice_get, slice_set}
+use Rattle.std.proofs.Common.{ℕ, suc, ◌<◌, ◌≤◌, ◌≡◌, true, false, List, [], ◌∷◌, length, map, Option, Some, refl, sym, ap, ◌∙◌, subst, arith, IsTrue, lt-ltb, slice_get, slice_set, unwrap_or}
 use Rattle.std.specs.List.{list_all}
 use Rattle.std.proofs.lemmas.List.Sums.{sum_by-cons}
 use Rattle.ut_value.specs.declared.value.Column.{Column}
@@ -9,7 +9,7 @@ use Rattle.ut_value.specs.Spelling.{is_op, is_u16, is_u32}
 use Rattle.ut_plain.specs.declared.statement.Statement.{Statement}
 use Rattle.ut_plain.specs.declared.statement.Statement.TheVariants as statements
 use Rattle.ut_plain.specs.declared.statement.Pred.{Pred}
-use Rattle.ut_plain.specs.Tables.{place_in, columns_in, columns_of}
+use Rattle.ut_plain.specs.Tables.{place_in, columns_in}
 use Rattle.ut_plain.specs.Names.{preds_known}
 use Rattle.ut_plain.specs.Condition.{found}
 use Rattle.ut_plain.specs.Made.{deletes_all}
@@ -20,18 +20,20 @@ use Rattle.ut_plain.proofs.BoolLemmas.{and_both}
 use Rattle.ut_plain.proofs.TableLemmas.{there_known}
 use Rattle.ut_stamps.specs.declared.place.Place.{Place}
 use Rattle.ut_scan.specs.declared.place.Found.{Found}
+use Rattle.ut_names.specs.declared.resolved.Selection.{Selection}
+use Rattle.ut_names.specs.Compiled.{Compiles}
 use Rattle.ut_staged.specs.Staged.{Staged}
 use Rattle.ut_table.specs.Finds.{hits_of}
 use Rattle.ut_store.specs.Held.{Held}
 use Rattle.ut_store.specs.Stands.{StandsFor}
 use Rattle.ut_store.specs.Hits.{plain_rows}
 use Rattle.ut_staged.specs.Staging.{Staging, written, AreFound}
-use Rattle.ut_store.specs.Changes.{op_fits, op_ends, ends_of, CanLook, Looked, MayChange, AreReady, IsWork}
+use Rattle.ut_store.specs.Changes.{op_fits, op_ends, ends_of, CanLook, Looked, MayChange, AreReady, IsDelete, IsWork}
 use Rattle.ut_store.proofs.HitLemmas.{found-is, first_taken-is}
 use Rattle.ut_store.proofs.MadeLemmas.{deletes-are, length-rows, deletes_fit, deletes_fit_alone}
 use Rattle.ut_staged.proofs.StagingLemmas.{staging-deletes, written-deletes}
 use Rattle.ut_store.proofs.KindLemmas.{early_tests, TableAt, table_at, next_small}
-use Rattle.ut_store.proofs.SearchLemmas.{known_in, can_look, place_view, hits_view, finds_free, AreGiven, FoundAt, found_places}
+use Rattle.ut_store.proofs.SearchLemmas.{can_look, looked_for, place_view, hits_view, finds_free, AreGiven, FoundAt, found_places}
 
 some_inside : (a b : Staged) → Some a ≡ Some b → a ≡ b
 some_inside a b h = cc
@@ -76,11 +78,6 @@ module _ (e : Held) (session n : ℕ) (name : List ℕ) (preds : List Pred) (m :
   delete_table : TableAt e n (columns_in e.tables name)
   delete_table = table_at e m.stands.plain name n m.stands.stands (there_known e.tables (preds_known preds) name (early_tests e session (statements.Delete name preds) m.early).0) is
 
-  look_of : CanLook e session n preds
-  look_of =
-      let tests = early_tests e session (statements.Delete name preds) m.early in
-      can_look e m.stands.plain session n name preds m.seat m.stands.stands delete_table (known_in (columns_of e.tables name) (preds_known preds) tests.0) tests.1
-
   module _ (hits : List (ℕ × Place)) (l : Looked e session n preds hits) where
     the_found : FoundAt e n hits
     the_found = found_places e m.stands.plain session n preds hits m.seat m.stands.stands l
@@ -118,25 +115,31 @@ module _ (e : Held) (session n : ℕ) (name : List ℕ) (preds : List Pred) (m :
 
 -- ---- the same of a statement that is a delete
 
-module _ (e : Held) (session n : ℕ) (st : Statement) (name : List ℕ) (preds : List Pred) (m : MayChange e session st) (h : st ≡ statements.Delete name preds) (is : n ≡ place_in e.tables name) where
-  that : MayChange e session (statements.Delete name preds)
-  that = subst (λ x. MayChange e session x) h m
+module _ (e : Held) (session : ℕ) (st : Statement) (rows : Selection) (m : MayChange e session st) (d : IsDelete e.tables st rows) where
+  that : MayChange e session (statements.Delete d.name d.preds)
+  that = subst (λ x. MayChange e session x) d.is m
 
-  pub delete_small : n < 65536
-  delete_small = (delete_table e session n name preds that is).small
+  is : rows.table ≡ place_in e.tables d.name
+  is = sym (ap (λ (o : Option ℕ). unwrap_or o 0) d.rows_are.table)
 
-  pub delete_look : CanLook e session n preds
-  delete_look = look_of e session n name preds that is
+  pub delete_small : rows.table < 65536
+  delete_small = (delete_table e session rows.table d.name d.preds that is).small
 
-  module _ (hits : List (ℕ × Place)) (l : Looked e session n preds hits) where
-    pub delete_rows : length hits ≤ 2147483649
-    delete_rows = let few = (the_found e session n name preds that is hits l).few in let next = next_small e m.stands.plain m.stands.stands in omega arith
+  pub delete_look : CanLook e session rows.table rows.preds.items
+  delete_look = can_look e m.stands.plain session rows.table d.name d.preds rows.preds.items m.seat m.stands.stands (delete_table e session rows.table d.name d.preds that is) d.rows_are.preds
 
-    pub delete_ready : (os : List Op) → os ≡ deletes_of n hits → AreReady e n hits os
-    delete_ready os made = subst (λ x. AreReady e n hits x) (sym made) (ready_of e session n name preds that is hits l)
+  pub delete_looked : (hits : List (ℕ × Place)) → ((table : Staged) (wanted : List Pred) → slice_get e.staged rows.table ≡ Some table → Compiles table.columns wanted rows.preds.items → Looked e session rows.table wanted hits) → Looked e session rows.table d.preds hits
+  delete_looked hits f = looked_for e m.stands.plain session rows.table d.name d.preds rows.preds.items m.seat m.stands.stands (delete_table e session rows.table d.name d.preds that is) d.rows_are.preds hits f
 
-    pub delete_work : (os : List Op) (rows : ℕ) → os ≡ deletes_of n hits → rows ≡ length hits → IsWork e session st n hits os rows (λ t s. written t os hits s)
-    delete_work os rows made count =
-        subst (λ x. IsWork e session x n hits os rows (λ t s. written t os hits s)) (sym h)
-        (subst (λ x. IsWork e session (statements.Delete name preds) n hits os x (λ t s. written t os hits s)) (sym count)
-        (subst (λ x. IsWork e session (statements.Delete name preds) n hits x (length hits) (λ t s. written t x hits s)) (sym made) (work_of e session n name preds that is hits l)))
+  module _ (hits : List (ℕ × Place)) (l : Looked e session rows.table d.preds hits) where
+    pub delete_few : length hits ≤ 2147483649
+    delete_few = let few = (the_found e session rows.table d.name d.preds that is hits l).few in let next = next_small e m.stands.plain m.stands.stands in omega arith
+
+    pub delete_ready : (os : List Op) → os ≡ deletes_of rows.table hits → AreReady e rows.table hits os
+    delete_ready os made = subst (λ x. AreReady e rows.table hits x) (sym made) (ready_of e session rows.table d.name d.preds that is hits l)
+
+    pub delete_work : (os : List Op) (count : ℕ) → os ≡ deletes_of rows.table hits → count ≡ length hits → IsWork e session st rows.table hits os count (λ t s. written t os hits s)
+    delete_work os count made many =
+        subst (λ x. IsWork e session x rows.table hits os count (λ t s. written t os hits s)) (sym d.is)
+        (subst (λ x. IsWork e session (statements.Delete d.name d.preds) rows.table hits os x (λ t s. written t os hits s)) (sym many)
+        (subst (λ x. IsWork e session (statements.Delete d.name d.preds) rows.table hits x (length hits) (λ t s. written t x hits s)) (sym made) (work_of e session rows.table d.name d.preds that is hits l)))

@@ -3,7 +3,6 @@ use Rattle.std.proofs.Common.{ℕ, ◌<◌, ◌≡◌, Bool, true, false, IsTrue
 use Rattle.std.specs.Option.{option_map}
 use Rattle.ut_plain.specs.declared.statement.Statement.{Statement}
 use Rattle.ut_plain.specs.declared.statement.Statement.TheVariants as statements
-use Rattle.ut_plain.specs.declared.statement.Query.{Query}
 use Rattle.ut_value.specs.declared.value.Column.{Column}
 use Rattle.ut_value.specs.declared.entry.MergeKind.{MergeKind}
 use Rattle.ut_plain.specs.declared.stage.PendingMerge.{PendingMerge}
@@ -19,7 +18,7 @@ use Rattle.ut_txn.specs.Seats.{opened_at}
 use Rattle.ut_store.specs.Held.{Held}
 use Rattle.ut_store.specs.Stands.{StandsFor}
 use Rattle.ut_store.specs.Early.{early_refusal}
-use Rattle.ut_store.specs.Standing.{changes_rows}
+use Rattle.ut_store.specs.Standing.{changes_rows, finds_rows}
 use Rattle.ut_store.specs.Allowed.{IsRefused}
 use Rattle.ut_store.proofs.ReadLemmas.{reads}
 
@@ -108,25 +107,25 @@ no_save_changes statements.SaveFlip h = cc
 no_save_changes statements.SaveDrop h = cc
 no_save_changes _ h = refl
 
--- each that is none of a savepoint and changes no row is one of these
-pub all_carried : {A : Type 0} (st : Statement) → is_save st ≡ false → changes_rows st ≡ false → ((name : List ℕ) (columns : List Column) → st ≡ statements.Create name columns → ⊥) → ((query : Query) → st ≡ statements.Ask query → ⊥)
+-- each that is none of a savepoint, changes no row and finds none is one of these
+pub all_carried : {A : Type 0} (st : Statement) → is_save st ≡ false → changes_rows st ≡ false → ((name : List ℕ) (columns : List Column) → st ≡ statements.Create name columns → ⊥) → finds_rows st ≡ false
     → (st ≡ statements.Begin → ⊥) → (st ≡ statements.Commit → ⊥) → (st ≡ statements.Abort → ⊥) → ((name : List ℕ) (n : ℕ) → st ≡ statements.MergeL1 name n → ⊥) → ((name : List ℕ) (kind : MergeKind) → st ≡ statements.MergeBegin name kind → ⊥)
     → (st ≡ statements.MergeEnd → ⊥) → ((name : List ℕ) → st ≡ statements.Shape name → ⊥) → A
-all_carried (statements.Create name columns) served keeps create ask begin commit abort moves starts ends shape = absurd (create name columns refl)
-all_carried (statements.Insert name values) served keeps create ask begin commit abort moves starts ends shape = cc
-all_carried (statements.Bulk name values) served keeps create ask begin commit abort moves starts ends shape = cc
-all_carried (statements.Update name column value preds) served keeps create ask begin commit abort moves starts ends shape = cc
-all_carried (statements.Delete name preds) served keeps create ask begin commit abort moves starts ends shape = cc
-all_carried (statements.Ask query) served keeps create ask begin commit abort moves starts ends shape = absurd (ask query refl)
-all_carried statements.Begin served keeps create ask begin commit abort moves starts ends shape = absurd (begin refl)
-all_carried statements.Commit served keeps create ask begin commit abort moves starts ends shape = absurd (commit refl)
-all_carried statements.Abort served keeps create ask begin commit abort moves starts ends shape = absurd (abort refl)
-all_carried (statements.MergeL1 name n) served keeps create ask begin commit abort moves starts ends shape = absurd (moves name n refl)
-all_carried (statements.MergeBegin name kind) served keeps create ask begin commit abort moves starts ends shape = absurd (starts name kind refl)
-all_carried statements.MergeEnd served keeps create ask begin commit abort moves starts ends shape = absurd (ends refl)
-all_carried (statements.Shape name) served keeps create ask begin commit abort moves starts ends shape = absurd (shape name refl)
-all_carried statements.SaveBegin served keeps create ask begin commit abort moves starts ends shape = cc
-all_carried (statements.SaveStep n) served keeps create ask begin commit abort moves starts ends shape = cc
-all_carried statements.SaveSeal served keeps create ask begin commit abort moves starts ends shape = cc
-all_carried statements.SaveFlip served keeps create ask begin commit abort moves starts ends shape = cc
-all_carried statements.SaveDrop served keeps create ask begin commit abort moves starts ends shape = cc
+all_carried (statements.Create name columns) served keeps create other begin commit abort moves starts ends shape = absurd (create name columns refl)
+all_carried (statements.Insert name values) served keeps create other begin commit abort moves starts ends shape = cc
+all_carried (statements.Bulk name values) served keeps create other begin commit abort moves starts ends shape = cc
+all_carried (statements.Update name column value preds) served keeps create other begin commit abort moves starts ends shape = cc
+all_carried (statements.Delete name preds) served keeps create other begin commit abort moves starts ends shape = cc
+all_carried (statements.Ask query) served keeps create other begin commit abort moves starts ends shape = cc
+all_carried statements.Begin served keeps create other begin commit abort moves starts ends shape = absurd (begin refl)
+all_carried statements.Commit served keeps create other begin commit abort moves starts ends shape = absurd (commit refl)
+all_carried statements.Abort served keeps create other begin commit abort moves starts ends shape = absurd (abort refl)
+all_carried (statements.MergeL1 name n) served keeps create other begin commit abort moves starts ends shape = absurd (moves name n refl)
+all_carried (statements.MergeBegin name kind) served keeps create other begin commit abort moves starts ends shape = absurd (starts name kind refl)
+all_carried statements.MergeEnd served keeps create other begin commit abort moves starts ends shape = absurd (ends refl)
+all_carried (statements.Shape name) served keeps create other begin commit abort moves starts ends shape = absurd (shape name refl)
+all_carried statements.SaveBegin served keeps create other begin commit abort moves starts ends shape = cc
+all_carried (statements.SaveStep n) served keeps create other begin commit abort moves starts ends shape = cc
+all_carried statements.SaveSeal served keeps create other begin commit abort moves starts ends shape = cc
+all_carried statements.SaveFlip served keeps create other begin commit abort moves starts ends shape = cc
+all_carried statements.SaveDrop served keeps create other begin commit abort moves starts ends shape = cc

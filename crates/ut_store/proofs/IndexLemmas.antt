@@ -19,7 +19,7 @@ on_err (Err e) P h = h
 abbrev pub stages_in : List TableValue → List Staged
 stages_in items = map (λ (t : TableValue). t.stages) items
 
-some_inside : (a b : Staged) → Some a ≡ Some b → a ≡ b
+pub some_inside : (a b : Staged) → Some a ≡ Some b → a ≡ b
 some_inside a b h = ap (λ o. unwrap_or o a) h
 
 pub stages_at_place : (items : List TableValue) (n : ℕ) (t : TableValue) (s : Staged) → slice_get (stages_in items) n ≡ Some s → t ≡ get_or items n t → t.stages ≡ s

@@ -17,11 +17,10 @@ pub mod NamedLemmas
 pub mod CreateLemmas
 pub mod PlaceTurnLemmas
 pub mod RestoredLemmas
+pub mod LookLemmas
 pub mod AskLemmas
+pub mod ResolvedLemmas
 pub mod SeenRowLemmas
-pub mod ShownLemmas
-pub mod QuestionLemmas
-pub mod ScanLemmas
 pub mod ListedLemmas
 pub mod WriteLemmas
 pub mod LimitLemmas
@@ -34,4 +33,3 @@ pub mod SuitLemmas
 pub mod UpdateLemmas
 pub mod LoadLemmas
 pub mod BulkLemmas
-pub mod TallyLemmas

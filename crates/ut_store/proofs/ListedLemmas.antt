@@ -1,7 +1,7 @@
 -- The rows that are listed are those of the journal.
 use Rattle.std.proofs.Common.{ℕ, ◌+◌, ◌<◌, ◌≡◌, Bool, true, cond, List, [], ◌∷◌, ◌++◌, filter, length, map, take, get_or, Option, None, Some, refl, sym, ap, ◌∙◌, subst, arith, slice_get, unwrap_or}
 use Rattle.std.proofs.lemmas.List.{take_more, map-append}
-use Rattle.std.proofs.lemmas.List.Elements.{All-cons}
+use Rattle.std.proofs.lemmas.List.Elements.{All-cons, All-nil}
 use Rattle.std.specs.Option.{option_map, IsSome}
 use Rattle.std.specs.FinMap as finmap
 use Rattle.ut_value.specs.declared.value.Value.{Value}
@@ -22,6 +22,10 @@ use Rattle.ut_staged.specs.Staged.{Staged, row_at}
 use Rattle.ut_table.specs.Finds.{AreThere, hits_of}
 use Rattle.ut_store.specs.Held.{Held}
 use Rattle.ut_store.specs.Hits.{Hits, plain_rows}
+use Rattle.ut_scan.specs.declared.place.ColumnPred.{ColumnPred}
+use Rattle.ut_store.specs.Changes.{CanLook}
+use Rattle.ut_store.proofs.NamedLemmas.{named_table}
+use Rattle.ut_store.proofs.SearchLemmas.{seen_once}
 use Rattle.ut_store.specs.Listed.{row_of, row_in, listed, Lists}
 use Rattle.ut_staged.specs.Staging.{AreFound}
 use Rattle.ut_store.specs.Stands.{StandsFor}
@@ -72,6 +76,16 @@ rows_same e n s (f ∷ fs) is = (λ i. row_same (row_at s f.place) (place_at e.s
 all_pass : (test : ℕ × Stored → Bool) (rows : List (ℕ × Stored)) → ((e : ℕ × Stored) → test e ≡ true) → filter test rows ≡ rows
 all_pass test [] h = refl
 all_pass test (e ∷ es) h = (λ i. cond (h e i) (e ∷ filter test es) (filter test es)) ∙ ap (λ (xs : List (ℕ × Stored)). e ∷ xs) (all_pass test es h)
+
+-- the look for all rows of a table
+pub all_look : (e : Held) (name : List ℕ) (n : ℕ) → Stands e → place_of e.tables name ≡ Some n → CanLook e 0 n []
+all_look e name n st at =
+    let t = named_table e name n st at in
+    record { seat = omega arith; table = t.0; at = t.1; columns = All-nil (λ (p : ColumnPred). p.column < length t.0.columns); once = seen_once e st.plain 0 n t.0 st.stands t.1 }
+
+-- the place of a name, the other way
+pub hits_named : (e : Held) (name : List ℕ) (n : ℕ) (found : List Found) → place_of e.tables name ≡ Some n → Hits e 0 n (meets (columns_in e.tables name) []) (hits_of found) → Hits e 0 (place_in e.tables name) (meets (columns_in e.tables name) []) (hits_of found)
+hits_named e name n found at h = subst (λ (k : ℕ). Hits e 0 k (meets (columns_in e.tables name) []) (hits_of found)) (sym (ap (λ (o : Option ℕ). unwrap_or o 0) at)) h
 
 pub hits_in : (e : Held) (name : List ℕ) (n : ℕ) (found : List Found) → place_of e.tables name ≡ Some n → Hits e 0 (place_in e.tables name) (meets (columns_in e.tables name) []) (hits_of found) → Hits e 0 n (meets (columns_in e.tables name) []) (hits_of found)
 hits_in e name n found at h = subst (λ (k : ℕ). Hits e 0 k (meets (columns_in e.tables name) []) (hits_of found)) (ap (λ (o : Option ℕ). unwrap_or o 0) at) h

@@ -5,11 +5,9 @@ use Rattle.std.specs.Ordering.{nat_cmp, is_lt}
 use Rattle.std.specs.FinMap.{is_sorted}
 use Rattle.std.specs.FinMap.Entries.{below_all}
 use Rattle.ut_value.specs.declared.value.Column.{Column}
-use Rattle.ut_value.specs.declared.value.Value.{Value}
 use Rattle.ut_plain.specs.declared.statement.Pred.{Pred}
 use Rattle.ut_plain.specs.Tables.{place_in, columns_in}
-use Rattle.ut_plain.specs.Names.{known, preds_known}
-use Rattle.ut_plain.specs.Kinds.{preds_fit}
+use Rattle.ut_plain.specs.Names.{known}
 use Rattle.ut_plain.specs.Condition.{meets}
 use Rattle.ut_plain.specs.Plain.{Plain}
 use Rattle.ut_plain.specs.View.{view}
@@ -18,10 +16,13 @@ use Rattle.ut_stamps.specs.declared.place.Place.{Place}
 use Rattle.ut_scan.specs.declared.place.Found.{Found}
 use Rattle.ut_exact.specs.Stamped.{Stamped}
 use Rattle.ut_exact.specs.Places.{stamped_in}
-use Rattle.ut_exact.specs.Scan.{IsScan}
+use Rattle.ut_scan.specs.declared.place.ColumnPred.{ColumnPred}
+use Rattle.ut_names.specs.Compiled.{Compiles}
+use Rattle.ut_names.proofs.CompiledLemmas.{compiled_below}
+use Rattle.ut_query.proofs.ShowLemmas.{scan_of}
 use Rattle.ut_exact.proofs.OrderLemmas.{T_first, T_second, less}
 use Rattle.ut_exact.proofs.ScanLemmas.{seen_is_live}
-use Rattle.ut_staged.specs.Staged.{Staged, row_at}
+use Rattle.ut_staged.specs.Staged.{Staged}
 use Rattle.ut_table.specs.Finds.{SeenOnce, Finds, hits_of}
 use Rattle.ut_store.specs.Held.{Held}
 use Rattle.ut_store.specs.Stands.{StandsFor}
@@ -30,7 +31,6 @@ use Rattle.ut_store.specs.Hits.{Hits, first_taken_of}
 use Rattle.ut_staged.specs.Staging.{AreFound}
 use Rattle.ut_store.specs.Changes.{AreThere, CanLook, Looked}
 use Rattle.ut_store.proofs.ReadLemmas.{reads}
-use Rattle.ut_staged.specs.Tables.{place_at}
 use Rattle.ut_store.proofs.HitLemmas.{dead_never, AreFound-hits}
 use Rattle.ut_store.proofs.MadeLemmas.{FindsFree}
 use Rattle.ut_store.proofs.KindLemmas.{TableAt}
@@ -50,26 +50,21 @@ seen_once e p session n table s at = record {
       (seen_is_live e.fates (looks_at e session) (own_at e session) (dead_never e p session s) b.stamp sees_b) same).1;
 }
 
-pub can_look : (e : Held) (p : Plain) (session n : ℕ) (name : List ℕ) (preds : List Pred) → session < 17 → StandsFor e p → TableAt e n (columns_in e.tables name)
-    → preds_known preds (columns_in e.tables name) ≡ true → preds_fit (columns_in e.tables name) preds ≡ true → CanLook e session n preds
-can_look e p session n name preds small s t names kinds = record {
-  seat = small;
-  table = t.table;
-  at = t.at;
-  known = ap (preds_known preds) t.has ∙ names;
-  fit = ap (λ cs. preds_fit cs preds) t.has ∙ kinds;
-  once = seen_once e p session n t.table s t.at;
-}
+module _ (e : Held) (p : Plain) (session n : ℕ) (name : List ℕ) (asked : List Pred) (preds : List ColumnPred) (small : session < 17) (s : StandsFor e p) (t : TableAt e n (columns_in e.tables name)) (h : Compiles (columns_in e.tables name) asked preds) where
+  pub can_look : CanLook e session n preds
+  can_look = record {
+    seat = small;
+    table = t.table;
+    at = t.at;
+    columns = compiled_below t.table.columns asked preds (subst (λ cs. Compiles cs asked preds) (sym t.has) h);
+    once = seen_once e p session n t.table s t.at;
+  }
+
+  -- what a look finds is what was asked for
+  pub looked_for : (hits : List (ℕ × Place)) → ((table : Staged) (wanted : List Pred) → slice_get e.staged n ≡ Some table → Compiles table.columns wanted preds → Looked e session n wanted hits) → Looked e session n asked hits
+  looked_for hits f = f t.table asked t.at (subst (λ cs. Compiles cs asked preds) (sym t.has) h)
 
 -- ---- from a table to all
-
-scan_there : (staged : List Staged) (n : ℕ) (table : Staged) (fates : List Fate) (k : ℕ) (own : Option ℕ) (test : List Value → Bool) (hits : List (ℕ × Place)) → slice_get staged n ≡ Some table
-    → IsScan (λ m p. row_at table p) 0 fates k own test hits → IsScan (place_at staged) n fates k own test hits
-scan_there staged n table fates k own test hits at scan = record {
-  sorted = scan.sorted;
-  sound = λ id p is. let f = scan.sound id p is in (f.0, here staged n table p at ∙ f.1, f.2, f.3, f.4);
-  complete = λ p row is seen passes. scan.complete p row (sym (here staged n table p at) ∙ is) seen passes;
-}
 
 pub looked : (e : Held) (session n : ℕ) (preds : List Pred) (table found_in : Staged) (fates : List Fate) (k : ℕ) (own : Option ℕ) (found : List Found) → slice_get e.staged n ≡ Some table → found_in ≡ table → fates ≡ e.fates → k ≡ looks_at e session → own ≡ own_at e session
     → Finds found_in fates k own preds found → Looked e session n preds (hits_of found)
@@ -78,7 +73,7 @@ looked e session n preds table found_in fates k own found at same_table same_fat
     subst (λ (t : Staged). Finds t e.fates (looks_at e session) (own_at e session) preds found) same_table
     (subst (λ (x : List Fate). Finds found_in x (looks_at e session) (own_at e session) preds found) same_fates
     (subst (λ x. Finds found_in fates x (own_at e session) preds found) same_look (subst (λ x. Finds found_in fates k x preds found) same_own f))) in
-    record { table = table; at = at; hits_are = record { scan = scan_there e.staged n table e.fates (looks_at e session) (own_at e session) (meets table.columns preds) (hits_of found) at g.scan } }
+    record { table = table; at = at; hits_are = record { scan = scan_of e.staged n table e.fates (looks_at e session) (own_at e session) (meets table.columns preds) (hits_of found) at g.scan } }
 
 -- ---- what was found, in the plain store's words
 

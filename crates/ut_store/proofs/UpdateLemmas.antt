@@ -1,5 +1,5 @@
 -- The operations of an update.
-use Rattle.std.proofs.Common.{ℕ, ◌+◌, ◌<◌, ◌≤◌, ◌≡◌, Bool, true, false, ◌&&◌, ◌||◌, List, [], ◌∷◌, length, map, Option, Some, refl, sym, ap, ◌∙◌, subst, arith, IsTrue, nat_eq, nat_le, lt-ltb, leb-true, eqb-true, slice_get, slice_set}
+use Rattle.std.proofs.Common.{ℕ, ◌+◌, ◌<◌, ◌≤◌, ◌≡◌, Bool, true, false, ◌&&◌, ◌||◌, List, [], ◌∷◌, length, map, Option, Some, refl, sym, ap, ◌∙◌, subst, arith, IsTrue, nat_eq, nat_le, lt-ltb, leb-true, eqb-true, slice_get, slice_set, unwrap_or}
 use Rattle.std.specs.List.{list_all}
 use Rattle.std.proofs.lemmas.List.Sums.{sum_by-cons}
 use Rattle.ut_value.specs.declared.value.Column.{Column}
@@ -30,6 +30,8 @@ use Rattle.ut_plain.proofs.TableLemmas.{there_known, fits_columns-set, are_value
 use Rattle.ut_plain.proofs.MadeLemmas.{suits_table}
 use Rattle.ut_stamps.specs.declared.place.Place.{Place}
 use Rattle.ut_exact.specs.Scan.{stored_in}
+use Rattle.ut_names.specs.declared.resolved.Target.{Target}
+use Rattle.ut_names.specs.Compiled.{Compiles}
 use Rattle.ut_staged.specs.Staged.{Staged}
 use Rattle.ut_plain.specs.declared.reply.Reply.TheVariants as replies
 use Rattle.ut_store.specs.declared.turn.Turn.TheVariants.{Answered}
@@ -38,7 +40,7 @@ use Rattle.ut_store.specs.Held.{Held}
 use Rattle.ut_store.specs.Stands.{StandsFor}
 use Rattle.ut_store.specs.Hits.{plain_rows}
 use Rattle.ut_staged.specs.Staging.{Staging, written, AreFound}
-use Rattle.ut_store.specs.Changes.{has_ids_for, late_refusal, updated_ops, op_fits, op_ends, ends_of, CanLook, Looked, MayChange, AreReady, IsWork}
+use Rattle.ut_store.specs.Changes.{has_ids_for, late_refusal, updated_ops, op_fits, op_ends, ends_of, CanLook, Looked, MayChange, AreReady, IsUpdate, IsWork}
 use Rattle.ut_store.proofs.ReadLemmas.{reads}
 use Rattle.ut_staged.specs.Tables.{place_at}
 use Rattle.ut_store.proofs.HitLemmas.{found-is, first_taken-is}
@@ -46,7 +48,7 @@ use Rattle.ut_store.proofs.MadeLemmas.{values_at, updates-are, length-rows, upda
 use Rattle.ut_staged.proofs.StagingLemmas.{updates_of, staging-updates, written-updates}
 use Rattle.ut_store.proofs.KindLemmas.{early_tests, TableAt, table_at, at_n, next_small}
 use Rattle.ut_store.proofs.FinishLemmas.{answers_refused}
-use Rattle.ut_store.proofs.SearchLemmas.{known_in, can_look, place_view, hits_view, finds_free, AreGiven, FoundAt, found_places}
+use Rattle.ut_store.proofs.SearchLemmas.{known_in, can_look, looked_for, place_view, hits_view, finds_free, AreGiven, FoundAt, found_places}
 use Rattle.ut_store.proofs.SuitLemmas.{AllSuit, all_suit}
 use Rattle.ut_staged.proofs.TableLemmas.{here}
 
@@ -136,9 +138,6 @@ module _ (e : Held) (session n : ℕ) (name column : List ℕ) (value : Value) (
   update_table : TableAt e n (columns_in e.tables name)
   update_table = table_at e m.stands.plain name n m.stands.stands (there_known e.tables (λ cs. has_column cs column && preds_known preds cs) name (early_tests e session (statements.Update name column value preds) m.early).0) is
 
-  look_of : CanLook e session n preds
-  look_of = can_look e m.stands.plain session n name preds m.seat m.stands.stands update_table (and_right (has_column (columns_in e.tables name) column) _ names_known_of) (and_right (has_kind value (kind_in (columns_in e.tables name) column)) _ kinds_of)
-
   module _ (hits : List (ℕ × Place)) (l : Looked e session n preds hits) where
     the_found : FoundAt e n hits
     the_found = found_places e m.stands.plain session n preds hits m.seat m.stands.stands l
@@ -198,36 +197,55 @@ module _ (e : Held) (session n : ℕ) (name column : List ℕ) (value : Value) (
 
 -- ---- the same of a statement that is an update
 
-module _ (e : Held) (session n : ℕ) (st : Statement) (name column : List ℕ) (value : Value) (preds : List Pred) (m : MayChange e session st) (h : st ≡ statements.Update name column value preds) (is : n ≡ place_in e.tables name) where
-  that : MayChange e session (statements.Update name column value preds)
-  that = subst (λ x. MayChange e session x) h m
+module _ (e : Held) (session : ℕ) (st : Statement) (target : Target) (value : Value) (m : MayChange e session st) (d : IsUpdate e.tables st target value) where
+  abbrev n : ℕ
+  n = target.rows.table
 
-  pub update_small : n < 65536
-  update_small = (update_table e session n name column value preds that is).small
+  that : MayChange e session (statements.Update d.name d.column value d.preds)
+  that = subst (λ x. MayChange e session x) d.is m
 
-  pub update_look : CanLook e session n preds
-  update_look = look_of e session n name column value preds that is
+  is : n ≡ place_in e.tables d.name
+  is = sym (ap (λ (o : Option ℕ). unwrap_or o 0) d.target_is.rows.table)
 
-  -- the columns of the table, as it has them
-  pub update_columns : (s : Staged) → slice_get e.staged n ≡ Some s → s.columns ≡ columns_in e.tables name
-  update_columns s at = let t = update_table e session n name column value preds that is in ap (λ (x : Staged). x.columns) (some_inside s t.table (sym at ∙ t.at)) ∙ t.has
+  table : TableAt e n (columns_in e.tables d.name)
+  table = update_table e session n d.name d.column value d.preds that is
 
-  module _ (hits : List (ℕ × Place)) (l : Looked e session n preds hits) where
-    pub update_found : FoundAt e n hits
-    update_found = the_found e session n name column value preds that is hits l
+  pub update_small : target.rows.table < 65536
+  update_small = table.small
 
-    pub update_ready : (os : List Op) → os ≡ update_of e n (changed_value (columns_in e.tables name) column value) e.next_id hits → has_ids_for e (length hits) ≡ true → AreReady e n hits os
-    update_ready os made ids = subst (λ x. AreReady e n hits x) (sym made) (ready_of e session n name column value preds that is hits l ids)
+  pub update_look : CanLook e session target.rows.table target.rows.preds.items
+  update_look = can_look e m.stands.plain session n d.name d.preds target.rows.preds.items m.seat m.stands.stands table d.target_is.rows.preds
 
-    pub update_work : (os : List Op) (rows : ℕ) → os ≡ update_of e n (changed_value (columns_in e.tables name) column value) e.next_id hits → rows ≡ length hits → IsWork e session st n hits os rows (λ t s. written t os hits s)
+  pub update_looked : (hits : List (ℕ × Place)) → ((s : Staged) (wanted : List Pred) → slice_get e.staged target.rows.table ≡ Some s → Compiles s.columns wanted target.rows.preds.items → Looked e session target.rows.table wanted hits) → Looked e session target.rows.table d.preds hits
+  update_looked hits f = looked_for e m.stands.plain session n d.name d.preds target.rows.preds.items m.seat m.stands.stands table d.target_is.rows.preds hits f
+
+  -- the place of the column is the one that is changed
+  pub update_change : (row : List Value) → slice_set row target.column value ≡ changed_value (columns_in e.tables d.name) d.column value row
+  update_change row = ap (λ (o : Option ℕ). slice_set row (unwrap_or o 0) value) (sym d.target_is.place)
+
+  module _ (hits : List (ℕ × Place)) (l : Looked e session target.rows.table d.preds hits) where
+    pub update_found : FoundAt e target.rows.table hits
+    update_found = the_found e session n d.name d.column value d.preds that is hits l
+
+    pub update_ready : (os : List Op) → os ≡ update_of e target.rows.table (changed_value (columns_in e.tables d.name) d.column value) e.next_id hits → has_ids_for e (length hits) ≡ true → AreReady e target.rows.table hits os
+    update_ready os made ids = subst (λ x. AreReady e n hits x) (sym made) (ready_of e session n d.name d.column value d.preds that is hits l ids)
+
+    pub update_work : (os : List Op) (rows : ℕ) → os ≡ update_of e target.rows.table (changed_value (columns_in e.tables d.name) d.column value) e.next_id hits → rows ≡ length hits → IsWork e session st target.rows.table hits os rows (λ t s. written t os hits s)
     update_work os rows made count =
-        subst (λ x. IsWork e session x n hits os rows (λ t s. written t os hits s)) (sym h)
-        (subst (λ x. IsWork e session (statements.Update name column value preds) n hits os x (λ t s. written t os hits s)) (sym count)
-        (subst (λ x. IsWork e session (statements.Update name column value preds) n hits x (length hits) (λ t s. written t x hits s)) (sym made) (work_of e session n name column value preds that is hits l)))
+        subst (λ x. IsWork e session x n hits os rows (λ t s. written t os hits s)) (sym d.is)
+        (subst (λ x. IsWork e session (statements.Update d.name d.column value d.preds) n hits os x (λ t s. written t os hits s)) (sym count)
+        (subst (λ x. IsWork e session (statements.Update d.name d.column value d.preds) n hits x (length hits) (λ t s. written t x hits s)) (sym made) (work_of e session n d.name d.column value d.preds that is hits l)))
 
     -- without ids it is refused
     pub update_full : (rows : ℕ) → rows ≡ length hits → has_ids_for e rows ≡ false → Answers e session st (Answered (replies.Refused refusals.Full)) e
     update_full rows count none =
-        let os = update_of e n (changed_value (columns_in e.tables name) column value) e.next_id hits in
+        let os = update_of e n (changed_value (columns_in e.tables d.name) d.column value) e.next_id hits in
         answers_refused e session st n hits os (length hits) (λ t s. written t os hits s) refusals.Full m (update_work os (length hits) refl refl)
         (no_ids e session n hits os (ap (has_ids_for e) (inserts-updates e n e.next_id _ hits ∙ sym count) ∙ none))
+
+    -- the operations that are made of the rows in the places
+    pub update_made : (os : List Op) (s : Staged) → slice_get e.staged target.rows.table ≡ Some s → os ≡ updated_ops s target.rows.table e.next_id target.column value hits
+        → os ≡ update_of e target.rows.table (changed_value (columns_in e.tables d.name) d.column value) e.next_id hits
+    update_made os s at made =
+        made ∙ updated-are e n e.next_id target.column value s hits at
+        ∙ (λ i. updates_of n e.next_id hits (map (λ (row : List Value). update_change row i) (values_at e n hits)))

@@ -1,5 +1,5 @@
 -- What a change of rows needs, and what it does to the store.
-use Rattle.std.specs.Prelude.{ℕ, ◌+◌, ◌≤◌, ◌<◌, ◌≡◌, ◌≢◌, Bool, true, ◌&&◌, ◌||◌, nat_eq, nat_le, nat_lt, is_some, IsTrue, IsSome, List, [], ◌∷◌, ◌++◌, length, map, Option, None, Some, slice_get, slice_set}
+use Rattle.std.specs.Prelude.{ℕ, ◌+◌, ◌≤◌, ◌<◌, ◌≡◌, ◌≢◌, Bool, true, ◌&&◌, ◌||◌, nat_eq, nat_le, nat_lt, is_some, IsTrue, IsSome, List, [], ◌∷◌, ◌++◌, length, map, Option, None, Some, All, slice_get, slice_set}
 use Rattle.std.specs.Option.{option_map}
 use Rattle.std.specs.List as lists
 use Rattle.std.specs.List.{list_all, sum_by}
@@ -10,13 +10,13 @@ use Rattle.ut_value.specs.declared.entry.Op.{Op}
 use Rattle.ut_value.specs.declared.entry.Op.TheVariants as ops
 use Rattle.ut_value.specs.declared.entry.Entry.TheVariants.{Txn}
 use Rattle.ut_value.specs.Spelling.{spelling, is_op, ops_len}
+use Rattle.ut_plain.specs.declared.table.Table.{Table}
 use Rattle.ut_plain.specs.declared.statement.Statement.{Statement}
+use Rattle.ut_plain.specs.declared.statement.Statement.TheVariants as statements
 use Rattle.ut_plain.specs.declared.statement.Pred.{Pred}
 use Rattle.ut_plain.specs.declared.reply.Refusal.{Refusal}
 use Rattle.ut_plain.specs.declared.reply.Refusal.TheVariants as refusals
 use Rattle.ut_plain.specs.Tables.{fits_columns}
-use Rattle.ut_plain.specs.Names.{preds_known}
-use Rattle.ut_plain.specs.Kinds.{preds_fit}
 use Rattle.ut_plain.specs.Condition.{meets}
 use Rattle.ut_plain.specs.Rows.{inserts_of}
 use Rattle.ut_plain.specs.Refusals.{unless, or_else, conflict}
@@ -35,6 +35,10 @@ use Rattle.ut_exact.specs.Places.{dead_number}
 use Rattle.ut_exact.specs.Scan.{stored_in}
 use Rattle.ut_staged.specs.Staged.{Staged, row_at, count_of, entered_l1, ended_in}
 use Rattle.ut_table.specs.Finds.{SeenOnce}
+use Rattle.ut_scan.specs.declared.place.ColumnPred.{ColumnPred}
+use Rattle.ut_names.specs.declared.resolved.Selection.{Selection}
+use Rattle.ut_names.specs.declared.resolved.Target.{Target}
+use Rattle.ut_names.specs.Resolved.{IsSelection, IsTarget}
 use Rattle.ut_txn.specs.declared.opened.Opened.{Opened}
 use Rattle.ut_txn.specs.Seats.{opened_at, payload_at, SeatSet, SeatsStay}
 use Rattle.ut_store.specs.Held.{Held}
@@ -174,13 +178,12 @@ inserts_all n rows = map (λ (r : Row). ops.Insert n r.id r.values) rows
 
 -- ---- what is looked for
 
--- The session can look for rows of the table at a place.
-pub record CanLook (e : Held) (session n : ℕ) (preds : List Pred) : Type 0 where
+-- The session can look for rows of the table at a place, by comparisons of its columns.
+pub record CanLook (e : Held) (session n : ℕ) (preds : List ColumnPred) : Type 0 where
   pub seat : session < 17
   pub table : Staged
   pub at : slice_get e.staged n ≡ Some table
-  pub known : IsTrue (preds_known preds table.columns)
-  pub fit : IsTrue (preds_fit table.columns preds)
+  pub columns : All (λ (p : ColumnPred). p.column < length table.columns) preds
   pub once : SeenOnce table e.fates (looks_at e session) (own_at e session)
 
 -- The rows of the table at a place that the session sees and that meet each comparison.
@@ -204,6 +207,21 @@ pub record MayChange (e : Held) (session : ℕ) (st : Statement) : Type 0 where
   pub stands : Stands e
   pub early : early_refusal e session st ≡ None
   pub kind : IsTrue (changes_rows st)
+
+-- The statement deletes the rows of this selection.
+pub record IsDelete (tables : List Table) (st : Statement) (rows : Selection) : Type 0 where
+  pub name : List ℕ
+  pub preds : List Pred
+  pub is : st ≡ statements.Delete name preds
+  pub rows_are : IsSelection tables name preds rows
+
+-- The statement gives the rows of this selection this value in a column.
+pub record IsUpdate (tables : List Table) (st : Statement) (target : Target) (value : Value) : Type 0 where
+  pub name : List ℕ
+  pub column : List ℕ
+  pub preds : List Pred
+  pub is : st ≡ statements.Update name column value preds
+  pub target_is : IsTarget tables name column value preds target
 
 -- Operations that suit the table at a place, where the rows that they end stand in these places.
 pub record AreReady (e : Held) (n : ℕ) (hits : List (ℕ × Place)) (os : List Op) : Type 0 where

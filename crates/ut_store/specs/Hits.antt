@@ -1,5 +1,5 @@
 -- What a scan for a statement of a session finds.
-use Rattle.std.specs.Prelude.{ℕ, Bool, ◌≡◌, List, length, map, slice_get, Option, None, Some}
+use Rattle.std.specs.Prelude.{ℕ, Bool, List, map, Option, None, Some}
 use Rattle.std.specs.Option.{option_map}
 use Rattle.std.specs.List as lists
 use Rattle.ut_value.specs.declared.value.Value.{Value}
@@ -7,12 +7,8 @@ use Rattle.ut_plain.specs.declared.table.Stored.{Stored}
 use Rattle.ut_stamps.specs.declared.visibility.Stamp.{Stamp}
 use Rattle.ut_stamps.specs.Stamps.{is_taken}
 use Rattle.ut_stamps.specs.declared.place.Place.{Place}
-use Rattle.ut_scan.specs.declared.place.Found.{Found}
 use Rattle.ut_exact.specs.Places.{StagedRow}
 use Rattle.ut_exact.specs.Scan.{IsScan, stored_in}
-use Rattle.ut_staged.specs.Staged.{Staged}
-use Rattle.ut_table.specs.Finds.{hits_of}
-use Rattle.ut_table.specs.Tallied.{IsTally}
 use Rattle.ut_store.specs.Held.{Held}
 use Rattle.ut_store.specs.Reads.{looks_at, own_at}
 use Rattle.ut_staged.specs.Tables.{place_at}
@@ -20,18 +16,6 @@ use Rattle.ut_staged.specs.Tables.{place_at}
 -- by ascending id, the places of a table whose rows the session sees and which pass a test
 pub record Hits (e : Held) (session n : ℕ) (test : List Value → Bool) (hits : List (ℕ × Place)) : Type 0 where
   pub scan : IsScan (place_at e.staged) n e.fates (looks_at e session) (own_at e session) test hits
-
--- so many places
-pub record CountsHits (e : Held) (session n : ℕ) (test : List Value → Bool) (count : ℕ) : Type 0 where
-  pub found : List Found
-  pub hits : Hits e session n test (hits_of found)
-  pub all : count ≡ length found
-
--- these places by the codes of a column, in the stages of the table
-pub record TalliesHits (e : Held) (session n column : ℕ) (test : List Value → Bool) (counts : List ℕ) (rest : List Found) : Type 0 where
-  pub found : List Found
-  pub hits : Hits e session n test (hits_of found)
-  pub tally : (s : Staged) → slice_get e.staged n ≡ Some s → IsTally s column found counts rest
 
 -- the rows in places, as the plain store has them
 abbrev pub plain_rows : Held → ℕ → List (ℕ × Place) → List (ℕ × Stored)

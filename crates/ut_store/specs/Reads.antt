@@ -11,6 +11,7 @@ use Rattle.ut_exact.specs.Stamped.{Stamped}
 use Rattle.ut_exact.specs.Exact.{shown_by, ended_by, may_take}
 use Rattle.ut_txn.specs.declared.opened.Opened.{Opened}
 use Rattle.ut_txn.specs.Seats.{opened_at, payload_at}
+use Rattle.ut_query.specs.Look.{Sight}
 use Rattle.ut_store.specs.Held.{Held}
 use Rattle.ut_store.specs.Stands.{opened_snapshot}
 
@@ -21,6 +22,10 @@ looks_at e session = unwrap_or (opened_snapshot (opened_at e.seats session)) e.e
 -- the number of a session's own transaction
 abbrev pub own_at : Held → ℕ → Option ℕ
 own_at e session = option_map (λ (o : Opened). o.number) (opened_at e.seats session)
+
+-- what a session looks at
+abbrev pub sight_of : Held → ℕ → Sight
+sight_of e session = record { tables = e.tables; staged = e.staged; fates = e.fates; snapshot = looks_at e session; own = own_at e session }
 
 -- whether a transaction's work is there for a session
 abbrev pub counts_for : Held → ℕ → ℕ → Bool

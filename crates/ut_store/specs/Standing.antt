@@ -41,6 +41,13 @@ changes_rows (statements.Update name column value preds) = true
 changes_rows (statements.Delete name preds) = true
 changes_rows _ = false
 
+-- whether a statement finds rows by comparisons, for which its names are resolved
+abbrev pub finds_rows : Statement → Bool
+finds_rows (statements.Ask query) = true
+finds_rows (statements.Update name column value preds) = true
+finds_rows (statements.Delete name preds) = true
+finds_rows _ = false
+
 -- session 0 has the statements of the store alone
 abbrev pub suits_session : ℕ → Statement → Bool
 suits_session zero st = is_of_store st

@@ -1,17 +1,17 @@
 //! Statements that change rows.
-ghost use Rattle.std.specs.Prelude.{◌≡◌, ◌<◌, None, IsTrue};
+ghost use Rattle.std.specs.Prelude.{◌≡◌, ◌<◌, false, None, IsTrue};
 ghost use Rattle.ut_plain.specs.Spelled.{is_spelled};
 ghost use Rattle.ut_plain.specs.Tables.{place_in};
 ghost use Rattle.ut_store.specs.Answers.{Answers};
 ghost use Rattle.ut_store.specs.Early.{early_refusal};
-ghost use Rattle.ut_store.specs.Standing.{Stands, changes_rows};
+ghost use Rattle.ut_store.specs.Standing.{Stands, changes_rows, finds_rows};
 
 use crate::{Store, Turn};
 use std::alloc::Global;
 use ut_plain::{Statement, Table, place_of};
 
 impl Store {
-    /// Insert, bulk, delete and update.
+    /// Insert and bulk.
     pub(crate) fn change(&mut self, alloc: Global, session: u8, st: &Statement) -> Turn
         requires seat { session < 17 }
         requires inside { 0 < session }
@@ -19,18 +19,12 @@ impl Store {
         requires stands { Stands self.old }
         requires early { early_refusal self.old session st.now ≡ None }
         requires kind { IsTrue (changes_rows st.now) }
+        requires other { finds_rows st.now ≡ false }
         ensures { Answers self.old session st.now result self.new }
     {
         match st {
             Statement::Insert { table, values } => self.insert(alloc, session, st, table, values),
             Statement::Bulk { table, values } => self.bulk(alloc, session, st, table, values),
-            Statement::Delete { table, preds } => self.delete(alloc, session, st, table, preds),
-            Statement::Update {
-                table,
-                column,
-                value,
-                preds,
-            } => self.update(alloc, session, st, table, column, value, preds),
             _ => unreachable!(),
         }
     }

@@ -1,14 +1,16 @@
 //! Delete: the rows that meet a condition end.
-ghost use Rattle.std.specs.Prelude.{◌≡◌, map, IfOk};
+ghost use Rattle.std.specs.Prelude.{◌≡◌, ◌<◌, map, IsTrue, IfOk};
+ghost use Rattle.ut_plain.specs.Spelled.{is_spelled};
 ghost use Rattle.ut_scan.specs.declared.place.Found.{Found};
 ghost use Rattle.ut_store.specs.Answers.{Answers};
-ghost use Rattle.ut_store.specs.Changes.{MayChange};
+ghost use Rattle.ut_store.specs.Standing.{Stands, suits_session};
+ghost use Rattle.ut_store.specs.Changes.{IsDelete, MayChange};
 
-use crate::change::place_in;
 use crate::finish::no_memory;
 use crate::{Store, Turn};
 use std::alloc::{AllocError, Global};
-use ut_plain::{Pred, Statement};
+use ut_names::{Selection, selection};
+use ut_plain::{Pred, Reply, Statement};
 use ut_scan::Found;
 use ut_value::{Name, Op, Seq};
 
@@ -21,19 +23,32 @@ impl Store {
         table: &Name,
         preds: &Seq<Pred>,
     ) -> Turn
-        requires may { MayChange self.old session st.now }
+        requires seat { session < 17 }
+        requires suits { IsTrue (suits_session session st.now) }
+        requires spelled { IsTrue (is_spelled st.now) }
+        requires stands { Stands self.old }
         requires is { st.now ≡ Statement.Delete table.now preds.now }
         ensures { Answers self.old session st.now result self.new }
     {
-        let place = place_in(&self.tables, table.as_slice());
-        let Ok(hits) = self.hits(alloc, session, place, preds.as_slice()) else {
+        match selection(alloc, &self.tables, table.as_slice(), preds.as_slice()) {
+            Ok(rows) => self.delete_rows(alloc, session, st, &rows),
+            Err(why) => Turn::Answered(Reply::Refused(why)),
+        }
+    }
+
+    fn delete_rows(&mut self, alloc: Global, session: u8, st: &Statement, rows: &Selection) -> Turn
+        requires may { MayChange self.old session st.now }
+        requires is { IsDelete self.old.tables st.now rows.now }
+        ensures { Answers self.old session st.now result self.new }
+    {
+        let Ok(hits) = self.hits(alloc, session, rows.table, rows.preds.as_slice()) else {
             return no_memory();
         };
-        let Ok(ops) = delete_ops(alloc, place as u16, &hits) else {
+        let Ok(ops) = delete_ops(alloc, rows.table as u16, &hits) else {
             return no_memory();
         };
-        let rows = hits.len() as u32;
-        self.finish(alloc, session, st, place, &hits, ops, rows)
+        let count = hits.len() as u32;
+        self.finish(alloc, session, st, rows.table, &hits, ops, count)
     }
 }
 

@@ -1,13 +1,15 @@
-//! The rows that a delete or an update is to end.
-ghost use Rattle.std.specs.Prelude.{IfOk};
+//! The rows of a table that a session sees.
+ghost use Rattle.std.specs.Prelude.{◌≡◌, List, Some, IfOk, slice_get};
+ghost use Rattle.ut_plain.specs.declared.statement.Pred.{Pred};
+ghost use Rattle.ut_staged.specs.Staged.{Staged};
 ghost use Rattle.ut_table.specs.Finds.{hits_of};
+ghost use Rattle.ut_names.specs.Compiled.{Compiles};
 ghost use Rattle.ut_store.specs.Changes.{CanLook, Looked};
 
 use crate::Store;
 use crate::limits::{looks_at, own_number};
 use std::alloc::{AllocError, Global};
-use ut_plain::Pred;
-use ut_scan::Found;
+use ut_scan::{ColumnPred, Found};
 
 impl Store {
     /// The rows of a table that the session sees and that meet each comparison, by ascending id.
@@ -16,10 +18,11 @@ impl Store {
         alloc: Global,
         session: u8,
         place: usize,
-        preds: &[Pred],
+        preds: &[ColumnPred],
     ) -> Result<Vec<Found>, AllocError>
         requires { CanLook self.now session place preds.now }
-        ensures { IfOk result (λ found. Looked self.now session place preds.now (hits_of found.items)) }
+        ensures { IfOk result (λ found. (s : Staged) (asked : List Pred) → slice_get self.now.staged place ≡ Some s
+            → Compiles s.columns asked preds.now → Looked self.now session place asked (hits_of found.items)) }
     {
         let opened = self.sessions.opened(session);
         let snapshot = looks_at(opened, self.entries);

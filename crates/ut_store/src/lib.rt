@@ -1,7 +1,6 @@
 //! The store in memory.
 #![tactic(auto)]
 
-mod ask;
 mod bulk;
 mod change;
 mod delete;
@@ -10,10 +9,10 @@ mod hits;
 mod insert;
 mod limits;
 mod load;
+mod look;
 mod merges;
 mod pending;
 mod readers;
-mod scan;
 mod statement;
 mod store;
 mod tables;

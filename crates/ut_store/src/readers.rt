@@ -25,7 +25,7 @@ impl Store {
         match place_of(&self.tables, name) {
             None => Ok(None),
             Some(place) => {
-                let found = self.scan(alloc, NOBODY, name, &[])?;
+                let found = self.hits(alloc, NOBODY, place, &[])?;
                 let rows = rows_found(alloc, &self.stages[place], &found)?;
                 Ok(Some(rows))
             }

@@ -1,11 +1,11 @@
 //! Statements: what refuses one before any row is looked at, and what answers it.
-ghost use Rattle.std.specs.Prelude.{◌≡◌, ◌<◌, false, None, is_some, option_map, IsTrue};
+ghost use Rattle.std.specs.Prelude.{◌≡◌, ◌<◌, true, false, None, is_some, option_map, IsTrue};
 ghost use Rattle.ut_plain.specs.declared.statement.Statement.TheVariants as statements;
 ghost use Rattle.ut_plain.specs.Refusals.{is_save, merge_why, state_why};
 ghost use Rattle.ut_plain.specs.Spelled.{is_spelled};
 ghost use Rattle.ut_txn.specs.Seats.{opened_at};
 ghost use Rattle.ut_store.specs.Early.{early_refusal};
-ghost use Rattle.ut_store.specs.Standing.{Stands, suits_session, changes_rows};
+ghost use Rattle.ut_store.specs.Standing.{Stands, suits_session, changes_rows, finds_rows};
 ghost use Rattle.ut_store.specs.Answers.{Answers};
 
 use crate::finish::no_memory;
@@ -13,6 +13,7 @@ use crate::store::Store;
 use crate::turn::Turn;
 use std::alloc::Global;
 use ut_plain::{Query, Refusal, Reply, Statement, kinds_fit, merge_why, names_known, state_why};
+use ut_query::ask;
 
 impl Store {
     /// Answers a statement of a session, but for those of a savepoint. Where the answer says so, the log has to append the store's frame
@@ -26,9 +27,34 @@ impl Store {
         requires stands { Stands self.old }
         ensures { Answers self.old session st.now result self.new }
     {
+        if finds_rows(st) {
+            return self.resolve(alloc, session, st);
+        }
         match self.early_refusal(session, st) {
             Some(why) => Turn::Answered(Reply::Refused(why)),
             None => self.carry_out(alloc, session, st),
+        }
+    }
+
+    // A statement that finds rows, whose names are resolved once: they refuse it, or say where it looks.
+    fn resolve(&mut self, alloc: Global, session: u8, st: &Statement) -> Turn
+        requires seat { session < 17 }
+        requires suits { IsTrue (suits_session session st.now) }
+        requires spelled { IsTrue (is_spelled st.now) }
+        requires stands { Stands self.old }
+        requires finds { finds_rows st.now ≡ true }
+        ensures { Answers self.old session st.now result self.new }
+    {
+        match st {
+            Statement::Ask(query) => self.tell(alloc, session, query),
+            Statement::Delete { table, preds } => self.delete(alloc, session, st, table, preds),
+            Statement::Update {
+                table,
+                column,
+                value,
+                preds,
+            } => self.update(alloc, session, st, table, column, value, preds),
+            _ => unreachable!(),
         }
     }
 
@@ -40,6 +66,7 @@ impl Store {
         requires spelled { IsTrue (is_spelled st.now) }
         requires stands { Stands self.old }
         requires early { early_refusal self.old session st.now ≡ None }
+        requires other { finds_rows st.now ≡ false }
         ensures { Answers self.old session st.now result self.new }
     {
         if changes_rows(st) {
@@ -47,7 +74,6 @@ impl Store {
         }
         match st {
             Statement::Create { table, columns } => self.create(alloc, session, table, columns),
-            Statement::Ask(query) => self.tell(alloc, session, query),
             Statement::Begin => self.begin(session),
             Statement::Commit => self.commit(session),
             Statement::Abort => self.abort(session),
@@ -61,17 +87,17 @@ impl Store {
         }
     }
 
-    // What is asked, or that memory ran out.
+    // What is asked, or why it isn't told.
     fn tell(&self, alloc: Global, session: u8, query: &Query) -> Turn
         requires seat { session < 17 }
         requires spelled { IsTrue (is_spelled (statements.Ask query.now)) }
         requires stands { Stands self.now }
-        requires early { early_refusal self.now session (statements.Ask query.now) ≡ None }
         ensures { Answers self.now session (statements.Ask query.now) result self.now }
     {
-        match self.ask(alloc, session, query) {
+        let look = self.look(session);
+        match ask(alloc, &look, query) {
             Ok(reply) => Turn::Answered(reply),
-            Err(_) => Turn::Answered(Reply::Refused(Refusal::Memory)),
+            Err(why) => Turn::Answered(Reply::Refused(why)),
         }
     }
 
@@ -121,6 +147,18 @@ fn changes_rows(st: &Statement) -> bool
     match st {
         Statement::Insert { .. } => true,
         Statement::Bulk { .. } => true,
+        Statement::Update { .. } => true,
+        Statement::Delete { .. } => true,
+        _ => false,
+    }
+}
+
+// Whether a statement finds rows by comparisons.
+fn finds_rows(st: &Statement) -> bool
+    ensures { result ≡ finds_rows st.now }
+{
+    match st {
+        Statement::Ask(_) => true,
         Statement::Update { .. } => true,
         Statement::Delete { .. } => true,
         _ => false,

@@ -1,20 +1,21 @@
 //! Update: the rows that meet a condition end, and a changed copy of each enters the first stage.
-ghost use Rattle.std.specs.Prelude.{◌≡◌, ◌+◌, ◌<◌, ◌≤◌, ◌^◌, IfOk, IsSome, length, slice_set, unwrap_or};
-ghost use Rattle.ut_plain.specs.Tables.{column_of};
+ghost use Rattle.std.specs.Prelude.{◌≡◌, ◌+◌, ◌<◌, ◌≤◌, ◌^◌, IfOk, IsSome, IsTrue, length, slice_set};
+ghost use Rattle.ut_plain.specs.Spelled.{is_spelled};
 ghost use Rattle.ut_exact.specs.Scan.{stored_in};
 ghost use Rattle.ut_staged.specs.Staged.{row_at};
 ghost use Rattle.ut_table.specs.Finds.{hits_of};
 ghost use Rattle.ut_store.specs.Answers.{Answers};
-ghost use Rattle.ut_store.specs.Changes.{MayChange, AreThere, updated_ops};
+ghost use Rattle.ut_store.specs.Changes.{AreThere, IsUpdate, MayChange, updated_ops};
+ghost use Rattle.ut_store.specs.Standing.{Stands, suits_session};
 
-use crate::change::place_in;
 use crate::finish::no_memory;
 use crate::{Store, Turn};
 use std::alloc::{AllocError, Global};
-use ut_plain::{Pred, Refusal, Reply, Statement, column_of};
+use ut_names::{Target, target};
+use ut_plain::{Pred, Refusal, Reply, Statement};
 use ut_scan::{Found, Place};
 use ut_table::Table as Stages;
-use ut_value::{Column, Name, Op, Seq, Value};
+use ut_value::{Name, Op, Seq, Value};
 
 impl Store {
     pub(crate) fn update(
@@ -27,22 +28,51 @@ impl Store {
         value: &Value,
         preds: &Seq<Pred>,
     ) -> Turn
-        requires may { MayChange self.old session st.now }
+        requires seat { session < 17 }
+        requires suits { IsTrue (suits_session session st.now) }
+        requires spelled { IsTrue (is_spelled st.now) }
+        requires stands { Stands self.old }
         requires is { st.now ≡ Statement.Update table.now column.now value.now preds.now }
         ensures { Answers self.old session st.now result self.new }
     {
-        let place = place_in(&self.tables, table.as_slice());
-        let Ok(hits) = self.hits(alloc, session, place, preds.as_slice()) else {
+        let target = target(
+            alloc,
+            &self.tables,
+            table.as_slice(),
+            column.as_slice(),
+            value,
+            preds.as_slice(),
+        );
+        match target {
+            Ok(target) => self.update_rows(alloc, session, st, &target, value),
+            Err(why) => Turn::Answered(Reply::Refused(why)),
+        }
+    }
+
+    fn update_rows(
+        &mut self,
+        alloc: Global,
+        session: u8,
+        st: &Statement,
+        target: &Target,
+        value: &Value,
+    ) -> Turn
+        requires may { MayChange self.old session st.now }
+        requires is { IsUpdate self.old.tables st.now target.now value.now }
+        ensures { Answers self.old session st.now result self.new }
+    {
+        let place = target.rows.table;
+        let Ok(hits) = self.hits(alloc, session, place, target.rows.preds.as_slice()) else {
             return no_memory();
         };
         if !self.has_ids_for(hits.len()) {
             return Turn::Answered(Reply::Refused(Refusal::Full));
         }
-        let stages = &self.stages[place];
         let change = Change {
             table: place as u16,
-            column: column_in(stages.columns(), column.as_slice()),
+            column: target.column,
         };
+        let stages = &self.stages[place];
         let Ok(ops) = update_ops(alloc, stages, change, self.next_id, value, &hits) else {
             return no_memory();
         };
@@ -56,15 +86,6 @@ impl Store {
 struct Change {
     table: u16,
     column: usize,
-}
-
-fn column_in(columns: &[Column], name: &[u8]) -> usize
-    ensures { result ≡ unwrap_or (column_of columns.now name.now) 0 }
-{
-    match column_of(columns, name) {
-        Some(place) => place,
-        None => 0,
-    }
 }
 
 fn update_ops(

@@ -1,10 +1,9 @@
 -- A row meets comparisons where its keys meet them.
-use Rattle.std.proofs.Common.{◌≡◌, ℕ, suc, ◌+◌, ◌<◌, Bool, true, false, ◌&&◌, ◌||◌, cond, not, List, [], ◌∷◌, length, map, get_or, All, IsTrue, None, Some, nat_lt, refl, sym, ◌∙◌, ap, subst, arith, true≢false}
+use Rattle.std.proofs.Common.{◌≡◌, suc, ◌+◌, ◌<◌, Bool, true, false, ◌&&◌, ◌||◌, cond, not, List, [], ◌∷◌, length, map, get_or, IsTrue, None, Some, nat_lt, refl, sym, ◌∙◌, ap, arith, true≢false}
 use Rattle.std.specs.Prelude.{slice_get}
 use Rattle.std.specs.Option.{unwrap_or, option_map, option_and_then}
 use Rattle.std.specs.List.{list_all, list_any, position, position_or_len, find}
 use Rattle.std.proofs.lemmas.Bool.{ltb-false}
-use Rattle.std.proofs.lemmas.List.Elements.{All-nil, All-cons}
 use Rattle.ut_key.specs.Keys.{key_cmp, allows, meets as key_meets}
 use Rattle.ut_value.specs.declared.value.Value.{Value}
 use Rattle.ut_value.specs.declared.value.Column.{Column}
@@ -22,7 +21,7 @@ use Rattle.ut_plain.proofs.BoolLemmas.{and_left, and_right}
 use Rattle.ut_l2.specs.KeyRows.{keyed, key_at}
 use Rattle.ut_scan.specs.declared.place.ColumnPred.{ColumnPred}
 use Rattle.ut_scan.specs.Finds.{passes}
-use Rattle.ut_table.specs.Compiled.{column_pred}
+use Rattle.ut_names.specs.Compiled.{column_pred, Compiles}
 use Rattle.ut_table.specs.Kept.{IsRow}
 
 -- the place of the first element that passes, if one does
@@ -34,7 +33,7 @@ found-within test (x ∷ xs) h = by (test x) (found-within test xs) h
     by true more h = omega arith
     by false more h = let lt : position_or_len test xs < length xs = more h in omega arith
 
-pub position-found : {X : Type 0} (test : X → Bool) (xs : List X) → list_any test xs ≡ true → position test xs ≡ Some (position_or_len test xs)
+position-found : {X : Type 0} (test : X → Bool) (xs : List X) → list_any test xs ≡ true → position test xs ≡ Some (position_or_len test xs)
 position-found test xs h = by (nat_lt (position_or_len test xs) (length xs)) refl
   where
     by : (b : Bool) → nat_lt (position_or_len test xs) (length xs) ≡ b → cond b (Some (position_or_len test xs)) None ≡ Some (position_or_len test xs)
@@ -68,7 +67,7 @@ module _ (pred : Pred) (rule : IsTrue (is_value pred.value)) where
           ∙ rec known fit
           ∙ sym (ap (λ k. value_meets pred (slice_get (v ∷ vs) k)) next)
 
-  pub met-pred : (columns : List Column) (row : Row) → IsRow columns row → has_column columns pred.column ≡ true → IsTrue (has_kind pred.value (kind_in columns pred.column))
+  met-pred : (columns : List Column) (row : Row) → IsRow columns row → has_column columns pred.column ≡ true → IsTrue (has_kind pred.value (kind_in columns pred.column))
       → let p = column_pred columns pred in key_meets p.op p.key (key_at p.column (keyed row)) ≡ value_meets pred (value_in columns row.values pred.column)
   met-pred columns row is known fit =
       let found = position-found (λ (c : Column). same_bytes c.name pred.column) columns known in
@@ -76,24 +75,13 @@ module _ (pred : Pred) (rule : IsTrue (is_value pred.value)) where
       ∙ met-keys columns row.values is.fits is.kept known fit
       ∙ sym (ap (λ o. value_meets pred (option_and_then (slice_get row.values) o)) found)
 
--- a row meets the compiled comparisons where it meets the others
-pub passes-compiled : (columns : List Column) (row : Row) → IsRow columns row → (preds : List Pred) → IsTrue (preds_known preds columns) → IsTrue (preds_fit columns preds) → IsTrue (list_all (λ (p : Pred). is_value p.value) preds)
-    → passes (map (column_pred columns) preds) (keyed row) ≡ meets columns preds row.values
-passes-compiled columns row is [] known fit rules = refl
-passes-compiled columns row is (p ∷ ps) known fit rules = λ i.
+met-preds : (columns : List Column) (row : Row) → IsRow columns row → (asked : List Pred) → IsTrue (preds_known asked columns) → IsTrue (preds_fit columns asked) → IsTrue (list_all (λ (p : Pred). is_value p.value) asked)
+    → passes (map (column_pred columns) asked) (keyed row) ≡ meets columns asked row.values
+met-preds columns row is [] known fit rules = refl
+met-preds columns row is (p ∷ ps) known fit rules = λ i.
     met-pred p (and_left (is_value p.value) _ rules) columns row is (and_left (has_column columns p.column) _ known) (and_left (has_kind p.value (kind_in columns p.column)) _ fit) i
-    && passes-compiled columns row is ps (and_right (has_column columns p.column) _ known) (and_right (has_kind p.value (kind_in columns p.column)) _ fit) (and_right (is_value p.value) _ rules) i
+    && met-preds columns row is ps (and_right (has_column columns p.column) _ known) (and_right (has_kind p.value (kind_in columns p.column)) _ fit) (and_right (is_value p.value) _ rules) i
 
--- each compiled comparison names a column
-columns-of-preds : (columns : List Column) (preds : List Pred) → IsTrue (preds_known preds columns) → All (λ (p : ColumnPred). p.column < length columns) (map (column_pred columns) preds)
-columns-of-preds columns [] known = All-nil (λ (p : ColumnPred). p.column < length columns)
-columns-of-preds columns (p ∷ ps) known =
-    All-cons (λ (q : ColumnPred). q.column < length columns) (column_pred columns p) (map (column_pred columns) ps)
-    (let here = and_left (has_column columns p.column) (preds_known ps columns) known in
-    let place = found-within (λ (c : Column). same_bytes c.name p.column) columns here in
-    subst (λ o. unwrap_or o 0 < length columns) (sym (position-found (λ (c : Column). same_bytes c.name p.column) columns here)) place)
-    (columns-of-preds columns ps (and_right (has_column columns p.column) (preds_known ps columns) known))
-
-pub compiled-within : (columns : List Column) (preds : List Pred) (width : ℕ) (list : List ColumnPred) → width ≡ length columns → list ≡ map (column_pred columns) preds → IsTrue (preds_known preds columns) → All (λ (p : ColumnPred). p.column < width) list
-compiled-within columns preds width list e is known =
-    subst (λ w. All (λ (p : ColumnPred). p.column < w) list) (sym e) (subst (All (λ (p : ColumnPred). p.column < length columns)) (sym is) (columns-of-preds columns preds known))
+-- a row meets the compiled comparisons where it meets those that were asked for
+pub passes-compiled : (columns : List Column) (row : Row) → IsRow columns row → (asked : List Pred) (preds : List ColumnPred) → Compiles columns asked preds → passes preds (keyed row) ≡ meets columns asked row.values
+passes-compiled columns row is asked preds c = ap (λ ps. passes ps (keyed row)) c.are ∙ met-preds columns row is asked c.known c.fit c.rules.each

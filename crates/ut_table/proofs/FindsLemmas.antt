@@ -1,5 +1,5 @@
 -- What a scan of the stages finds, in the order of the ids, is what a contract says.
-use Rattle.std.proofs.Common.{◌≡◌, inl, inr, ℕ, suc, ◌+◌, ◌<◌, ◌≤◌, Bool, T, true, cond, ◌&&◌, nat_eq, List, [], ◌++◌, length, map, get_or, All, IsTrue, Option, Some, is_some, refl, sym, ◌∙◌, ap, subst, arith}
+use Rattle.std.proofs.Common.{◌≡◌, inl, inr, ℕ, suc, ◌+◌, ◌<◌, ◌≤◌, Bool, T, true, cond, ◌&&◌, nat_eq, List, [], ◌++◌, length, get_or, All, Option, Some, is_some, refl, sym, ◌∙◌, ap, subst, arith}
 use Rattle.std.specs.Prelude.{slice_get}
 use Rattle.std.specs.List.Sorted.{IsPermutation, IsNonDecreasingBy}
 use Rattle.std.specs.Ordering.{nat_cmp}
@@ -10,8 +10,6 @@ use Rattle.std.proofs.lemmas.List.Sorted.{IsPermutation-sym, Contains-permutatio
 use Rattle.std.proofs.lemmas.Option.{same_Some, slice_get_within}
 use Rattle.ut_value.specs.declared.value.Column.{Column}
 use Rattle.ut_plain.specs.declared.statement.Pred.{Pred}
-use Rattle.ut_plain.specs.Names.{preds_known}
-use Rattle.ut_plain.specs.Kinds.{preds_fit}
 use Rattle.ut_plain.specs.Condition.{meets}
 use Rattle.ut_plain.proofs.BoolLemmas.{and_left, and_right, and_both}
 use Rattle.ut_stamps.specs.declared.fates.Fate.{Fate}
@@ -20,12 +18,13 @@ use Rattle.ut_stamps.specs.declared.place.Place.{Place}
 use Rattle.ut_stamps.specs.declared.place.Place.TheVariants.{L1, L2, Closed, Main}
 use Rattle.ut_stamps.specs.Stamps.{sees}
 use Rattle.ut_l2.specs.KeyRows.{KeyRow, no_row}
+use Rattle.ut_scan.specs.declared.place.ColumnPred.{ColumnPred}
 use Rattle.ut_scan.specs.declared.place.Found.{Found}
 use Rattle.ut_scan.specs.Finds.{passes, found_at, is_hit, found_in}
 use Rattle.ut_scan.specs.StampLists.{no_stamp}
 use Rattle.ut_exact.specs.Places.{StagedRow}
 use Rattle.ut_exact.specs.Scan.{IsScan}
-use Rattle.ut_table.specs.Compiled.{column_pred, KeepRules}
+use Rattle.ut_names.specs.Compiled.{Compiles}
 use Rattle.ut_table.specs.Decoded.{decoded_row}
 use Rattle.ut_table.specs.Contents.{held}
 use Rattle.ut_table.specs.Finds.{SeenOnce, Finds, hits_of, AreThere}
@@ -35,12 +34,6 @@ use Rattle.ut_table.proofs.StampedLemmas.{held-length, held-at}
 use Rattle.ut_table.proofs.CompiledLemmas.{passes-compiled}
 use Rattle.ut_table.proofs.OrderLemmas.{In, In-contains, contains-In, count_id, rising, find-in, found-in}
 use Rattle.ut_table.proofs.PartLemmas.{In-append, In-left, In-right, count_id-append, In-part, part-In, part-once}
-
--- a scan, over columns and comparisons that name them
-pub record Asked (columns : List Column) (preds : List Pred) : Type 0 where
-  pub known : IsTrue (preds_known preds columns)
-  pub fit : IsTrue (preds_fit columns preds)
-  pub rules : KeepRules preds
 
 -- the stages by numbers
 abbrev pub stage_of : Place → ℕ
@@ -61,9 +54,9 @@ pub record IsStage (columns : List Column) (s : Staged) (place : ℕ → Place) 
   pub stamped : length stamps ≡ length rows
   pub reads : (i : ℕ) → row_at s (place i) ≡ slice_get (held columns rows stamps) i
 
-module _ (fates : List Fate) (snapshot : ℕ) (own : Option ℕ) (columns : List Column) (preds : List Pred) (asked : Asked columns preds) (s : Staged) where
+module _ (fates : List Fate) (snapshot : ℕ) (own : Option ℕ) (columns : List Column) (asked : List Pred) (preds : List ColumnPred) (compiles : Compiles columns asked preds) (s : Staged) where
   abbrev pub good : StagedRow → Bool
-  good row = meets columns preds row.values && sees fates snapshot own row.stamp
+  good row = meets columns asked row.values && sees fates snapshot own row.stamp
 
   -- the seen rows of the stages from one on and up to another that meet the comparisons, each once
   pub record Covers (from to : ℕ) (fs : List Found) : Type 0 where
@@ -77,10 +70,10 @@ module _ (fates : List Fate) (snapshot : ℕ) (own : Option ℕ) (columns : List
     found i = found_at place rows i
 
     abbrev test : ℕ → Bool
-    test i = is_hit fates snapshot own (map (column_pred columns) preds) rows stamps i
+    test i = is_hit fates snapshot own preds rows stamps i
 
     abbrev found_here : List Found
-    found_here = found_in fates snapshot own (map (column_pred columns) preds) place rows stamps
+    found_here = found_in fates snapshot own preds place rows stamps
 
     -- the row at a place, and what the scan takes for it
     record IsAt (i : ℕ) : Type 0 where
@@ -97,8 +90,8 @@ module _ (fates : List Fate) (snapshot : ℕ) (own : Option ℕ) (columns : List
           row = stamped_row (get_or stamps i no_stamp) (decoded_row columns k);
           is = h.reads i ∙ held-at columns rows stamps i h.stamped lt;
           gives = refl;
-          tells = ap (λ x. passes (map (column_pred columns) preds) x && sees fates snapshot own (get_or stamps i no_stamp)) (sym is_held.keys)
-              ∙ ap (λ b. b && sees fates snapshot own (get_or stamps i no_stamp)) (passes-compiled columns (decoded_row columns k) is_held.fit preds asked.known asked.fit asked.rules.each);
+          tells = ap (λ x. passes preds x && sees fates snapshot own (get_or stamps i no_stamp)) (sym is_held.keys)
+              ∙ ap (λ b. b && sees fates snapshot own (get_or stamps i no_stamp)) (passes-compiled columns (decoded_row columns k) is_held.fit asked preds compiles);
         }
 
     within : (i : ℕ) (row : StagedRow) → row_at s (place i) ≡ Some row → i < length rows
@@ -116,7 +109,7 @@ module _ (fates : List Fate) (snapshot : ℕ) (own : Option ℕ) (columns : List
         (part-In found test i 0 (length rows) (omega arith) (omega (arith, lt)) (a.tells ∙ ap good row_is ∙ passes))
 
     seen_good : (row : StagedRow) → good row ≡ true → sees fates snapshot own row.stamp ≡ true
-    seen_good row e = and_right (meets columns preds row.values) (sees fates snapshot own row.stamp) e
+    seen_good row e = and_right (meets columns asked row.values) (sees fates snapshot own row.stamp) e
 
     pub Covers-stage : SeenOnce s fates snapshot own → Covers n (suc n) found_here
     Covers-stage once = record {
@@ -160,7 +153,7 @@ module _ (fates : List Fate) (snapshot : ℕ) (own : Option ℕ) (columns : List
         let r = x.shown f in_f in
         let q = y.shown g in_g in
         let place : f.place ≡ g.place = once.each f.place g.place r.0 q.0 r.1 q.1
-        (and_right (meets columns preds (r.0).values) (sees fates snapshot own (r.0).stamp) r.3) (and_right (meets columns preds (q.0).values) (sees fates snapshot own (q.0).stamp) q.3)
+        (and_right (meets columns asked (r.0).values) (sees fates snapshot own (r.0).stamp) r.3) (and_right (meets columns asked (q.0).values) (sees fates snapshot own (q.0).stamp) q.3)
         (r.2 ∙ same ∙ sym q.2) in
         omega (arith, ap stage_of place, r.5, q.4));
   }
@@ -170,18 +163,18 @@ module _ (fates : List Fate) (snapshot : ℕ) (own : Option ℕ) (columns : List
     ordered = rising list up (λ id. subst (λ n. n ≤ 1) (sym (sum_by-IsPermutation (λ (f : Found). cond (nat_eq f.id id) 1 0) fs list rows)) (c.single id))
 
     -- all stages, in the order of the ids
-    pub finds-scan : IsScan (λ n p. row_at s p) 0 fates snapshot own (meets columns preds) (hits_of list)
+    pub finds-scan : IsScan (λ n p. row_at s p) 0 fates snapshot own (meets columns asked) (hits_of list)
     finds-scan = record {
       sorted = ordered;
       sound = λ id p e.
           let g : Found = record { id = id; place = p } in
           let in' = contains-In g fs (Contains-permutation list fs g (IsPermutation-sym fs list rows) (In-contains g list (found-in list id p e))) in
           let r = c.shown g in' in
-          (r.0, r.1, r.2, and_right (meets columns preds (r.0).values) (sees fates snapshot own (r.0).stamp) r.3, and_left (meets columns preds (r.0).values) (sees fates snapshot own (r.0).stamp) r.3);
+          (r.0, r.1, r.2, and_right (meets columns asked (r.0).values) (sees fates snapshot own (r.0).stamp) r.3, and_left (meets columns asked (r.0).values) (sees fates snapshot own (r.0).stamp) r.3);
       complete = λ p row e seen passes.
           let g : Found = record { id = row.id; place = p } in
           find-in list g ordered
-          (contains-In g list (Contains-permutation fs list g rows (In-contains g fs (c.all p row (omega arith) (ends p row e) e (and_both (meets columns preds row.values) (sees fates snapshot own row.stamp) passes seen)))));
+          (contains-In g list (Contains-permutation fs list g rows (In-contains g fs (c.all p row (omega arith) (ends p row e) e (and_both (meets columns asked row.values) (sees fates snapshot own row.stamp) passes seen)))));
     }
 
 -- a row stands at each place that was found

@@ -1,22 +1,29 @@
 -- What the stages that a table lends hold.
-use Rattle.std.proofs.Common.{◌≡◌, ℕ, List, length, map, All, Option, None, Some, IfSome, refl, sym, ◌∙◌, ap, subst}
+use Rattle.std.proofs.Common.{◌≡◌, ◌<◌, ℕ, List, length, map, All, Option, None, Some, IfSome, refl, sym, ◌∙◌, ap, subst}
 use Rattle.std.specs.Option.{option_map}
+use Rattle.std.specs.List.Sorted.{IsPermutation, IsNonDecreasingBy}
 use Rattle.std.proofs.lemmas.Option.{same_Some}
 use Rattle.ut_value.specs.declared.value.Row.{Row}
+use Rattle.ut_plain.specs.declared.statement.Pred.{Pred}
 use Rattle.ut_stamps.specs.declared.fates.Fate.{Fate}
 use Rattle.ut_l2.specs.KeyRows.{keyed}
 use Rattle.ut_l2.specs.Delta.{Delta}
 use Rattle.ut_main.specs.Parts.{MainValue}
 use Rattle.ut_scan.specs.declared.place.ColumnPred.{ColumnPred}
+use Rattle.ut_scan.specs.declared.place.Found.{Found}
 use Rattle.ut_scan.specs.declared.stages.Stages.{Stages}
 use Rattle.ut_scan.specs.StampLists.{StampLists}
 use Rattle.ut_scan.specs.StageRows.{AreStamped, rows_in, found_in_parts, found_outside, found_rows, asked_for}
 use Rattle.ut_scan.specs.Tallies.{Tallies}
 use Rattle.ut_staged.specs.Staged.{Staged}
+use Rattle.ut_names.specs.Compiled.{Compiles}
 use Rattle.ut_table.specs.Contents.{Contents, PendingValue}
+use Rattle.ut_table.specs.Finds.{SeenOnce, Counts, Finds}
 use Rattle.ut_table.specs.Lent.{AreLent}
+use Rattle.ut_table.specs.Tallied.{Tallied}
 use Rattle.ut_table.proofs.ReadLemmas.{rows-wide}
-use Rattle.ut_table.proofs.ScanLemmas.{rows_of}
+use Rattle.ut_table.proofs.ScanLemmas.{rows_of, scan-finds, scan-counts}
+use Rattle.ut_table.proofs.TallyLemmas.{scan-tallies}
 
 through : {A B C : Type 0} (f : A → B) (g : B → C) (o : Option A) → option_map (λ a. g (f a)) o ≡ option_map g (option_map f o)
 through f g None = refl
@@ -56,14 +63,32 @@ module _ {s : Staged} {stages : Stages} (a : AreLent s stages) where
     parts = (a.main i).parts;
   }
 
-  pub lent-rows : (fates : List Fate) (snapshot : ℕ) (own : Option ℕ) (preds : List ColumnPred) → asked_for fates snapshot own preds stages ≡ found_rows fates snapshot own preds (rows_of t) t.stamps
-  lent-rows fates snapshot own preds = λ i. found_rows fates snapshot own preds (rows-are i) (a.stamps i)
+  -- the columns that are named are there in the stages too
+  pub lent-columns : (preds : List ColumnPred) → All (λ (p : ColumnPred). p.column < length s.columns) preds → All (λ (p : ColumnPred). p.column < stages.l2.now.width) preds
+  lent-columns preds h = subst (λ n. All (λ (p : ColumnPred). p.column < n) preds) (ap (λ (x : Staged). length x.columns) (sym a.view) ∙ sym lent-width) h
 
-  pub lent-outside : (fates : List Fate) (snapshot : ℕ) (own : Option ℕ) (preds : List ColumnPred) → found_outside fates snapshot own preds (rows_in stages) stages.stamps.now ≡ found_outside fates snapshot own preds (rows_of t) t.stamps
-  lent-outside fates snapshot own preds = λ i. found_outside fates snapshot own preds (rows-are i) (a.stamps i)
+  -- what a scan of the stages answers, as the contract of a table says it
+  module _ (fates : List Fate) (snapshot : ℕ) (own : Option ℕ) (preds : List ColumnPred) (once : SeenOnce s fates snapshot own) (asked : List Pred) (compiles : Compiles s.columns asked preds) where
+    compiles-there : Compiles t.columns asked preds
+    compiles-there = subst (λ (x : Staged). Compiles x.columns asked preds) (sym a.view) compiles
 
-  pub lent-tallies : (fates : List Fate) (snapshot : ℕ) (own : Option ℕ) (preds : List ColumnPred) (column : ℕ) (counts : List ℕ) → Tallies stages.main.now column (found_in_parts fates snapshot own preds stages.main.now.parts stages.stamps.now.parts) counts
-      → Tallies t.main column (found_in_parts fates snapshot own preds t.main.parts t.stamps.parts) counts
-  lent-tallies fates snapshot own preds column counts told =
-      subst (λ (x : StampLists). Tallies t.main column (found_in_parts fates snapshot own preds t.main.parts x.parts) counts) a.stamps
-      (subst (λ (m : MainValue). Tallies m column (found_in_parts fates snapshot own preds m.parts stages.stamps.now.parts) counts) a.main told)
+    rows-lent : asked_for fates snapshot own preds stages ≡ found_rows fates snapshot own preds (rows_of t) t.stamps
+    rows-lent = λ i. found_rows fates snapshot own preds (rows-are i) (a.stamps i)
+
+    pub lent-finds : (found : List Found) → IsPermutation (asked_for fates snapshot own preds stages) found → IsNonDecreasingBy (λ (f : Found). f.id) found → Finds s fates snapshot own asked found
+    lent-finds found rows up = scan-finds a.kept a.view fates snapshot own asked preds compiles-there once found (subst (λ l. IsPermutation l found) rows-lent rows) up
+
+    pub lent-counts : (count : ℕ) → count ≡ length (asked_for fates snapshot own preds stages) → Counts s fates snapshot own asked count
+    lent-counts count is = scan-counts a.kept a.view fates snapshot own asked preds compiles-there once count (is ∙ ap length rows-lent)
+
+    tallies-lent : (column : ℕ) (counts : List ℕ) → Tallies stages.main.now column (found_in_parts fates snapshot own preds stages.main.now.parts stages.stamps.now.parts) counts
+        → Tallies t.main column (found_in_parts fates snapshot own preds t.main.parts t.stamps.parts) counts
+    tallies-lent column counts told =
+        subst (λ (x : StampLists). Tallies t.main column (found_in_parts fates snapshot own preds t.main.parts x.parts) counts) a.stamps
+        (subst (λ (m : MainValue). Tallies m column (found_in_parts fates snapshot own preds m.parts stages.stamps.now.parts) counts) a.main told)
+
+    pub lent-tallied : (column : ℕ) → column < length s.columns → (counts : List ℕ) (rest : List Found) → Tallies stages.main.now column (found_in_parts fates snapshot own preds stages.main.now.parts stages.stamps.now.parts) counts
+        → rest ≡ found_outside fates snapshot own preds (rows_in stages) stages.stamps.now → Tallied s fates snapshot own asked column counts rest
+    lent-tallied column wide counts rest told is =
+        scan-tallies a.kept a.view fates snapshot own asked preds compiles-there once column wide counts rest (tallies-lent column counts told)
+        (is ∙ (λ i. found_outside fates snapshot own preds (rows-are i) (a.stamps i)))

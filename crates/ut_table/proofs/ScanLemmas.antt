@@ -12,10 +12,11 @@ use Rattle.ut_stamps.specs.declared.place.Place.{Place}
 use Rattle.ut_stamps.specs.declared.place.Place.TheVariants.{L1, L2, Closed, Main}
 use Rattle.ut_exact.specs.Places.{StagedRow}
 use Rattle.ut_l2.specs.KeyRows.{keyed}
+use Rattle.ut_scan.specs.declared.place.ColumnPred.{ColumnPred}
 use Rattle.ut_scan.specs.declared.place.Found.{Found}
 use Rattle.ut_scan.specs.StageRows.{StageRows, found_rows, found_in_part}
 use Rattle.ut_staged.specs.Staged.{Staged, row_at, row_in}
-use Rattle.ut_table.specs.Compiled.{column_pred}
+use Rattle.ut_names.specs.Compiled.{Compiles}
 use Rattle.ut_table.specs.Contents.{Contents, PendingValue, closed_rows, stamped_rows, held, staged}
 use Rattle.ut_table.specs.Finds.{SeenOnce, Counts, Finds}
 use Rattle.ut_table.specs.Kept.{IsTable}
@@ -23,7 +24,7 @@ use Rattle.ut_table.proofs.DecodedLemmas.{decoded_rows-keyed, All-keyed}
 use Rattle.ut_table.proofs.StampedLemmas.{parts-same, part-at}
 use Rattle.ut_table.proofs.PlaceLemmas.{closed-lengths, place-within, part-there, rows-held}
 use Rattle.ut_table.proofs.SortLemmas.{ordered}
-use Rattle.ut_table.proofs.FindsLemmas.{Asked, AreIn, IsStage, stage_of, Covers, Covers-stage, Covers-none, Covers-append, finds-scan}
+use Rattle.ut_table.proofs.FindsLemmas.{AreIn, IsStage, stage_of, Covers, Covers-stage, Covers-none, Covers-append, finds-scan}
 
 -- ---- the places of each stage
 
@@ -113,28 +114,28 @@ module _ {t : Contents} (h : IsTable t) where
   last-stage (Closed i) row e = omega arith
   last-stage (Main p i) row e = omega (arith, part-there t.main.parts p i (place-within h (Main p i) (subst IsSome (sym e) refl)))
 
-  module _ (fates : List Fate) (snapshot : ℕ) (own : Option ℕ) (preds : List Pred) (asked : Asked t.columns preds) (once : SeenOnce (staged t) fates snapshot own) where
+  module _ (fates : List Fate) (snapshot : ℕ) (own : Option ℕ) (asked : List Pred) (preds : List ColumnPred) (compiles : Compiles t.columns asked preds) (once : SeenOnce (staged t) fates snapshot own) where
     abbrev there : ℕ → ℕ → List Found → Type 0
-    there from to found = Covers fates snapshot own t.columns preds asked (staged t) from to found
+    there from to found = Covers fates snapshot own t.columns asked preds compiles (staged t) from to found
 
-    covers-parts : (p n : ℕ) → p + n ≤ length t.main.parts → there (3 + p) (3 + (p + n)) (flat_map (found_in_part fates snapshot own (map (column_pred t.columns) preds) t.main.parts t.stamps.parts) (range_with_len p n))
-    covers-parts p zero le = Covers-none fates snapshot own t.columns preds asked (staged t) (3 + p) (3 + (p + 0)) (λ q row lo hi e. absurd (omega (arith, lo, hi)))
+    covers-parts : (p n : ℕ) → p + n ≤ length t.main.parts → there (3 + p) (3 + (p + n)) (flat_map (found_in_part fates snapshot own preds t.main.parts t.stamps.parts) (range_with_len p n))
+    covers-parts p zero le = Covers-none fates snapshot own t.columns asked preds compiles (staged t) (3 + p) (3 + (p + 0)) (λ q row lo hi e. absurd (omega (arith, lo, hi)))
     covers-parts p (suc n) le =
         let next : 3 + (p + 1) ≡ suc (3 + p) = omega arith in
         let end : 3 + (p + 1 + n) ≡ 3 + (p + suc n) = omega arith in
         let rest = covers-parts (p + 1) n (omega (arith, le)) in
-        let found = flat_map (found_in_part fates snapshot own (map (column_pred t.columns) preds) t.main.parts t.stamps.parts) (range_with_len (p + 1) n) in
-        Covers-append fates snapshot own t.columns preds asked (staged t) once (3 + p) (suc (3 + p)) (3 + (p + suc n)) _ found (omega arith) (omega arith)
-        (Covers-stage fates snapshot own t.columns preds asked (staged t) (Main p) (3 + p) (in-part p) (get_or t.main.parts p []) (get_or t.stamps.parts p []) (is-part p (omega (arith, le))) once)
+        let found = flat_map (found_in_part fates snapshot own preds t.main.parts t.stamps.parts) (range_with_len (p + 1) n) in
+        Covers-append fates snapshot own t.columns asked preds compiles (staged t) once (3 + p) (suc (3 + p)) (3 + (p + suc n)) _ found (omega arith) (omega arith)
+        (Covers-stage fates snapshot own t.columns asked preds compiles (staged t) (Main p) (3 + p) (in-part p) (get_or t.main.parts p []) (get_or t.stamps.parts p []) (is-part p (omega (arith, le))) once)
         (subst (λ k. there k (3 + (p + suc n)) found) next (subst (λ k. there (3 + (p + 1)) k found) end rest))
 
-    covers : there 0 (3 + length t.main.parts) (found_rows fates snapshot own (map (column_pred t.columns) preds) (rows_of t) t.stamps)
+    covers : there 0 (3 + length t.main.parts) (found_rows fates snapshot own preds (rows_of t) t.stamps)
     covers =
-        let append = Covers-append fates snapshot own t.columns preds asked (staged t) once in
-        let stage = Covers-stage fates snapshot own t.columns preds asked (staged t) in
+        let append = Covers-append fates snapshot own t.columns asked preds compiles (staged t) once in
+        let stage = Covers-stage fates snapshot own t.columns asked preds compiles (staged t) in
         let first : 3 + 0 ≡ 3 = omega arith in
         let last : 3 + (0 + length t.main.parts) ≡ 3 + length t.main.parts = omega arith in
-        let in_main = flat_map (found_in_part fates snapshot own (map (column_pred t.columns) preds) t.main.parts t.stamps.parts) (range_with_len 0 (length t.main.parts)) in
+        let in_main = flat_map (found_in_part fates snapshot own preds t.main.parts t.stamps.parts) (range_with_len 0 (length t.main.parts)) in
         append 0 3 (3 + length t.main.parts) _ _ (omega arith) (omega arith)
         (append 0 2 3 _ _ (omega arith) (omega arith)
         (append 0 1 2 _ _ (omega arith) (omega arith) (stage L2 0 in-l2 t.l2.rows t.stamps.l2.items is-l2 once) (stage L1 1 in-l1 (map keyed t.l1) t.stamps.l1.items is-l1 once))
@@ -142,17 +143,17 @@ module _ {t : Contents} (h : IsTable t) where
         (subst (λ k. there 3 k in_main) last (subst (λ k. there k (3 + (0 + length t.main.parts)) in_main) first (covers-parts 0 (length t.main.parts) (omega arith))))
 
 -- the answer of a scan, as the contract of a table says it
-pub scan-finds : {t : Contents} (h : IsTable t) {s : Staged} (view : staged t ≡ s) (fates : List Fate) (snapshot : ℕ) (own : Option ℕ) (preds : List Pred) → Asked t.columns preds → SeenOnce s fates snapshot own
-    → (list : List Found) → IsPermutation (found_rows fates snapshot own (map (column_pred t.columns) preds) (rows_of t) t.stamps) list → IsNonDecreasingBy (λ (f : Found). f.id) list → Finds s fates snapshot own preds list
-scan-finds {t} h {s} view fates snapshot own preds asked once list rows up =
+pub scan-finds : {t : Contents} (h : IsTable t) {s : Staged} (view : staged t ≡ s) (fates : List Fate) (snapshot : ℕ) (own : Option ℕ) (asked : List Pred) (preds : List ColumnPred) → Compiles t.columns asked preds → SeenOnce s fates snapshot own
+    → (list : List Found) → IsPermutation (found_rows fates snapshot own preds (rows_of t) t.stamps) list → IsNonDecreasingBy (λ (f : Found). f.id) list → Finds s fates snapshot own asked list
+scan-finds {t} h {s} view fates snapshot own asked preds compiles once list rows up =
     let before = subst (λ (x : Staged). SeenOnce x fates snapshot own) (sym view) once in
-    subst (λ (x : Staged). Finds x fates snapshot own preds list) view
-    (record { scan = finds-scan fates snapshot own t.columns preds asked (staged t) (3 + length t.main.parts) _ list (covers h fates snapshot own preds asked before) (last-stage h) rows up })
+    subst (λ (x : Staged). Finds x fates snapshot own asked list) view
+    (record { scan = finds-scan fates snapshot own t.columns asked preds compiles (staged t) (3 + length t.main.parts) _ list (covers h fates snapshot own asked preds compiles before) (last-stage h) rows up })
 
 -- the answer of a count, as the contract of a table says it: some list in the order of the ids is what a scan finds
-pub scan-counts : {t : Contents} (h : IsTable t) {s : Staged} (view : staged t ≡ s) (fates : List Fate) (snapshot : ℕ) (own : Option ℕ) (preds : List Pred) → Asked t.columns preds → SeenOnce s fates snapshot own
-    → (count : ℕ) → count ≡ length (found_rows fates snapshot own (map (column_pred t.columns) preds) (rows_of t) t.stamps) → Counts s fates snapshot own preds count
-scan-counts {t} h {s} view fates snapshot own preds asked once count is =
-    let rows = found_rows fates snapshot own (map (column_pred t.columns) preds) (rows_of t) t.stamps in
+pub scan-counts : {t : Contents} (h : IsTable t) {s : Staged} (view : staged t ≡ s) (fates : List Fate) (snapshot : ℕ) (own : Option ℕ) (asked : List Pred) (preds : List ColumnPred) → Compiles t.columns asked preds → SeenOnce s fates snapshot own
+    → (count : ℕ) → count ≡ length (found_rows fates snapshot own preds (rows_of t) t.stamps) → Counts s fates snapshot own asked count
+scan-counts {t} h {s} view fates snapshot own asked preds compiles once count is =
+    let rows = found_rows fates snapshot own preds (rows_of t) t.stamps in
     let r = ordered (λ (f : Found). f.id) rows in
-    record { found = r.list; finds = scan-finds h view fates snapshot own preds asked once r.list r.same r.up; all = is ∙ sym (length_permutation rows r.list r.same) }
+    record { found = r.list; finds = scan-finds h view fates snapshot own asked preds compiles once r.list r.same r.up; all = is ∙ sym (length_permutation rows r.list r.same) }

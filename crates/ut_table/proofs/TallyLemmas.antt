@@ -20,15 +20,14 @@ use Rattle.ut_scan.specs.StageRows.{found_in_part, found_in_parts, found_outside
 use Rattle.ut_scan.specs.Tallies.{key_in, Tallies}
 use Rattle.ut_scan.proofs.RangeLemmas.{range-within}
 use Rattle.ut_staged.specs.Staged.{Staged}
+use Rattle.ut_names.specs.Compiled.{Compiles}
 use Rattle.ut_table.specs.Coded.{no_column}
-use Rattle.ut_table.specs.Compiled.{column_pred}
 use Rattle.ut_table.specs.Contents.{Contents, staged}
 use Rattle.ut_table.specs.Finds.{SeenOnce}
 use Rattle.ut_table.specs.Kept.{IsTable}
 use Rattle.ut_table.specs.Tallied.{value_at, Tallied}
 use Rattle.ut_table.proofs.CodedLemmas.{main-is}
 use Rattle.ut_table.proofs.DecodedLemmas.{held-value}
-use Rattle.ut_table.proofs.FindsLemmas.{Asked}
 use Rattle.ut_table.proofs.PlaceLemmas.{key_row_at, at-place, row-held}
 use Rattle.ut_table.proofs.ScanLemmas.{rows_of, scan-finds}
 use Rattle.ut_table.proofs.SortLemmas.{ordered}
@@ -37,9 +36,10 @@ each-same : {X Y : Type 0} (f g : X → Y) (xs : List X) → All (λ x. f x ≡ 
 each-same f g [] h = refl
 each-same f g (x ∷ xs) h = λ i. All-head (λ y. f y ≡ g y) x xs h i ∷ each-same f g xs (All-tail (λ y. f y ≡ g y) x xs h) i
 
-pub both-ok : {X E : Type 0} (r : Result X E) (P Q R : X → Type 0) → ((x : X) → P x → Q x → R x) → IfOk r P → IfOk r Q → IfOk r R
-both-ok (Ok x) P Q R f p q = f x p q
-both-ok (Err e) P Q R f p q = tt
+-- what follows from two clauses on an answer
+pub both-ok : {X E : Type 0} (r : Result X E) {P Q R : X → Type 0} → ((x : X) → P x → Q x → R x) → IfOk r P → IfOk r Q → IfOk r R
+both-ok (Ok x) f p q = f x p q
+both-ok (Err e) f p q = tt
 
 module _ {t : Contents} (h : IsTable t) (column : ℕ) (wide : column < length t.columns) where
   -- a row of main has the key of its value
@@ -68,19 +68,18 @@ module _ {t : Contents} (h : IsTable t) (column : ℕ) (wide : column < length t
     in-parts p (suc n) = All-append HasKey (found_in_part fates snapshot own preds t.main.parts stamps p) (flat_map (found_in_part fates snapshot own preds t.main.parts stamps) (range_with_len (p + 1) n)) (in-part p) (in-parts (p + 1) n)
 
 -- the answer of a tally, as the contract of a table says it
-pub scan-tallies : {t : Contents} (h : IsTable t) {s : Staged} (view : staged t ≡ s) (fates : List Fate) (snapshot : ℕ) (own : Option ℕ) (preds : List Pred) → Asked t.columns preds → SeenOnce s fates snapshot own
+pub scan-tallies : {t : Contents} (h : IsTable t) {s : Staged} (view : staged t ≡ s) (fates : List Fate) (snapshot : ℕ) (own : Option ℕ) (asked : List Pred) (preds : List ColumnPred) → Compiles t.columns asked preds → SeenOnce s fates snapshot own
     → (column : ℕ) → column < length s.columns → (counts : List ℕ) (rest : List Found)
-    → Tallies t.main column (found_in_parts fates snapshot own (map (column_pred t.columns) preds) t.main.parts t.stamps.parts) counts
-    → rest ≡ found_outside fates snapshot own (map (column_pred t.columns) preds) (rows_of t) t.stamps → Tallied s fates snapshot own preds column counts rest
-scan-tallies {t} h {s} view fates snapshot own preds asked once column wide counts rest told is =
-    let compiled = map (column_pred t.columns) preds in
-    let in_main = found_in_parts fates snapshot own compiled t.main.parts t.stamps.parts in
-    let r = ordered (λ (f : Found). f.id) (found_rows fates snapshot own compiled (rows_of t) t.stamps) in
+    → Tallies t.main column (found_in_parts fates snapshot own preds t.main.parts t.stamps.parts) counts
+    → rest ≡ found_outside fates snapshot own preds (rows_of t) t.stamps → Tallied s fates snapshot own asked column counts rest
+scan-tallies {t} h {s} view fates snapshot own asked preds compiles once column wide counts rest told is =
+    let in_main = found_in_parts fates snapshot own preds t.main.parts t.stamps.parts in
+    let r = ordered (λ (f : Found). f.id) (found_rows fates snapshot own preds (rows_of t) t.stamps) in
     let small : column < length t.columns = subst (λ (x : Staged). column < length x.columns) (sym view) wide in
-    let keys = each-same (λ (f : Found). Some (key_in t.main column f.place)) (λ (f : Found). option_map key_of (value_at (staged t) column f)) in_main (in-parts h column small fates snapshot own compiled t.stamps.parts 0 (length t.main.parts)) in
+    let keys = each-same (λ (f : Found). Some (key_in t.main column f.place)) (λ (f : Found). option_map key_of (value_at (staged t) column f)) in_main (in-parts h column small fates snapshot own preds t.stamps.parts 0 (length t.main.parts)) in
     record {
       found = r.list;
-      finds = scan-finds h view fates snapshot own preds asked once r.list r.same r.up;
+      finds = scan-finds h view fates snapshot own asked preds compiles once r.list r.same r.up;
       tally = record {
         in_main = in_main;
         all = subst (λ (l : List Found). IsPermutation (l ++ in_main) r.list) (sym is) r.same;

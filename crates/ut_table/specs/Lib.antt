@@ -7,8 +7,8 @@ pub mod Pending
 pub mod Places
 pub mod Flags
 pub mod Lent
-pub mod Compiled
 pub mod Numbered
 pub mod Filled
 pub mod Coded
 pub mod Tallied
+pub use Rattle.ut_prefix.specs.Walk

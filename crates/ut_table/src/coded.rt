@@ -12,6 +12,7 @@ use std::alloc::{AllocError, Global};
 use ut_key::KeyList;
 use ut_l2::L2;
 use ut_main::{Main, Part};
+use ut_prefix::ChainCursor;
 use ut_scan::Place;
 
 /// How many codes the dictionaries of main have in a column.
@@ -40,6 +41,19 @@ fn main_keys(alloc: Global, main: &Main, column: usize) -> Result<KeyList, Alloc
         keys = joined(keys, more)?;
     }
     Ok(keys)
+}
+
+/// A place before the keys of main in a column.
+fn main_cursor(main: &Main, column: usize) -> ChainCursor<'_>
+    requires column { column < main.now.width }
+    requires narrow { main.now.width ≤ 64 }
+    ensures { result.left ≡ keys_in main.now column }
+{
+    let parts = main.parts();
+    if parts == 0 {
+        return ChainCursor::end();
+    }
+    main.chain(column as u8, parts - 1).cursor()
 }
 
 /// Keys and others behind them: where there are none, the others as they are.
@@ -81,6 +95,14 @@ impl Table {
         ensures { IfOk result (λ keys. keys ≡ keys_in (keyed_main self.now.stages) column) }
     {
         main_keys(alloc, &self.main, column)
+    }
+
+    /// A place before the keys of main's codes in a column. There is no list of them.
+    pub fn main_cursor(&self, column: usize) -> ChainCursor<'_>
+        requires { column < length self.now.stages.columns }
+        ensures { result.left ≡ keys_in (keyed_main self.now.stages) column }
+    {
+        main_cursor(&self.main, column)
     }
 
     /// How many codes main and the second stage have in a column.

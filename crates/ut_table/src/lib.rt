@@ -2,7 +2,7 @@
 #![tactic(auto)]
 
 mod coded;
-mod compiled;
+mod counted;
 mod filling;
 mod flags;
 mod kept;
@@ -16,3 +16,4 @@ mod standing;
 mod table;
 
 pub use table::Table;
+pub use ut_prefix::ChainCursor;

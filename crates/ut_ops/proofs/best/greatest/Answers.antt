@@ -1,15 +1,14 @@
 use Rattle.std.proofs.Common.{sym, ap, ◌∙◌, Some}
 use Rattle.std.specs.Ordering.{is_gt}
-use Rattle.ut_plain.specs.Tables.{column_of}
 use Rattle.ut_plain.specs.Query.{best}
-use Rattle.ut_table.specs.Finds.{rows_at}
-use Rattle.ut_ops.proofs.ColumnLemmas.{values_none, values_some}
+use Rattle.ut_ops.proofs.ColumnLemmas.{values_some}
 use Rattle.ut_ops.proofs.best.greatest.Goals as goal
 
-pub returns-in_default : goal.returns-in_default
-returns-in_default c n = sym (ap (best is_gt) (values_none c.args.table.now.stages.columns c.args.column.now (rows_at n c.args.table.now.stages c.args.hits.now) (ap (λ cs. column_of cs c.args.column.now) (sym c.columns.ensures) ∙ sym c.in_default.ensures)))
+pub returns-in-None : goal.returns-in-None
+returns-in-None c = λ n name at.
+    c.in-None.ensures.greatest ∙ sym (ap (best is_gt) (values_some n c.args.table.now.stages name c.args.column c.args.hits.now c.requires.fit at))
 
-pub returns-in_ok-value_at-in-Some-greatest_at : goal.returns-in_ok-value_at-in-Some-greatest_at
-returns-in_ok-value_at-in-Some-greatest_at c n =
-    ap Some c.in_ok-value_at-in-Some-greatest_at.ensures ∙ c.in-Some-greatest_at.ensures.greatest
-    ∙ sym (ap (best is_gt) (values_some n c.args.table.now.stages c.args.column.now c.in-Some.place c.args.hits.now c.requires (ap (λ cs. column_of cs c.args.column.now) (sym c.columns.ensures) ∙ sym c.in-Some.ensures)))
+pub returns-in_ok-value_at-in-Some : goal.returns-in_ok-value_at-in-Some
+returns-in_ok-value_at-in-Some c = λ n name at.
+    ap Some c.in_ok-value_at-in-Some.ensures ∙ c.in-Some.ensures.greatest
+    ∙ sym (ap (best is_gt) (values_some n c.args.table.now.stages name c.args.column c.args.hits.now c.requires.fit at))

@@ -1,27 +1,23 @@
-use Rattle.std.proofs.Common.{ℕ, ◌<◌, sym, ap, ◌∙◌, map, subst, Some, List, length, Option}
-use Rattle.std.specs.List.{filter_map, All}
-use Rattle.ut_plain.specs.declared.table.Stored.{Stored}
-use Rattle.ut_plain.specs.Tables.{column_of}
-use Rattle.ut_plain.specs.Query.{picked}
-use Rattle.ut_table.specs.Finds.{rows_at}
+use Rattle.std.proofs.Common.{◌<◌, sym, ap, ◌∙◌, map, subst, length}
+use Rattle.std.specs.List.{All}
 use Rattle.ut_ops.specs.Fit.{cell}
-use Rattle.ut_ops.proofs.ColumnLemmas.{places_below, all_values, picked_rows}
+use Rattle.ut_names.specs.Resolved.{AreColumns}
+use Rattle.ut_ops.specs.Named.{AreWithin}
+use Rattle.ut_ops.proofs.NamedLemmas.{rows-whole, rows-picked}
 use Rattle.ut_ops.proofs.columns.select.Goals as goal
 
 pub some_columns-requires-clause-places : goal.some_columns-requires-clause-places
 some_columns-requires-clause-places c =
-    let places = c.as_slice-in-Some.ensures.value ∙ c.in_ok-places-in-Some.ensures ∙ ap (λ cs. filter_map (column_of cs) c.as_slice.result.now) c.columns.ensures in
-    subst (All (λ place. place < length c.args.table.now.stages.columns)) (sym places) (places_below c.args.table.now.stages.columns c.as_slice.result.now)
+    let columns = c.args.table.now.stages.columns in
+    subst (All (λ place. place < length columns)) (sym c.as_slice.ensures.value) (subst (AreWithin columns) c.in-Named.is c.requires.places)
 
-pub returns-in_ok-rows-in-None : goal.returns-in_ok-rows-in-None
-returns-in_ok-rows-in-None c n =
-    c.in_ok-rows-in-None.ensures ∙ sym (all_values n c.args.table.now.stages c.args.hits.now)
-    ∙ ap (λ (o : Option (List (List ℕ))). map (λ (e : ℕ × Stored). picked c.args.table.now.stages.columns o e.1.values) (rows_at n c.args.table.now.stages c.args.hits.now)) (sym c.in-None.is)
+pub returns-in_ok-rows-in-All : goal.returns-in_ok-rows-in-All
+returns-in_ok-rows-in-All c = λ n names named.
+    let s = c.args.table.now.stages in
+    c.in_ok-rows-in-All.ensures ∙ rows-whole n s names c.args.hits.now (subst (AreColumns s.columns names) c.in-All.is named)
 
-pub returns-in_ok-rows-in-Some : goal.returns-in_ok-rows-in-Some
-returns-in_ok-rows-in-Some c n =
-    let places = c.as_slice-in-Some.ensures.value ∙ c.in_ok-places-in-Some.ensures ∙ ap (λ cs. filter_map (column_of cs) c.as_slice.result.now) c.columns.ensures in
-    c.in_ok-rows-in-Some.ensures
-    ∙ ap (λ ps. map (λ f. map (λ place. cell c.args.table.now.stages place f) ps) c.args.hits.now) places
-    ∙ sym (picked_rows n c.args.table.now.stages c.as_slice.result.now c.args.hits.now c.requires)
-    ∙ ap (λ (o : Option (List (List ℕ))). map (λ (e : ℕ × Stored). picked c.args.table.now.stages.columns o e.1.values) (rows_at n c.args.table.now.stages c.args.hits.now)) (ap Some c.as_slice.ensures ∙ sym c.in-Some.is)
+pub returns-in_ok-rows-in-Named : goal.returns-in_ok-rows-in-Named
+returns-in_ok-rows-in-Named c = λ n names named.
+    let s = c.args.table.now.stages in
+    c.in_ok-rows-in-Named.ensures ∙ ap (λ ps. map (λ f. map (λ place. cell s place f) ps) c.args.hits.now) c.as_slice.ensures.value
+    ∙ rows-picked n s names c.in-Named.places c.args.hits.now c.requires.fit (subst (AreColumns s.columns names) c.in-Named.is named)

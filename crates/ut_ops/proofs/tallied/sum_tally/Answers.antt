@@ -12,13 +12,13 @@ pub returns : goal.returns
 returns c = λ n name found at fit tally.
     let s = c.args.table.now.stages in
     let column = c.args.column in
-    let keys = c.in_ok-keys.keys in
+    let keys = c.main_cursor.result.left in
     let counts = c.args.tally.now.counts.items in
     let rest = c.args.tally.now.rest.items in
     let first : to_z w128 (of_z w128 c.sum_counted-counted.result) ≡ c.sum_counted-counted.result = grind (arith, ints, to_z-of_z) in
     let second : to_z w128 (of_z w128 c.sum_noted.result) ≡ c.sum_noted.result = grind (arith, ints, to_z-of_z) in
     let both : to_z w128 (of_z w128 (c.sum_counted-counted.result +ℤ c.sum_noted.result)) ≡ c.sum_counted-counted.result +ℤ c.sum_noted.result = grind (arith, ints, to_z-of_z) in
     (λ i. to_z w128 (of_z w128 (first i +ℤ second i))) ∙ both
-    ∙ tally-total s column n name found counts rest keys c.sum_counted-counted.result c.sum_noted.result c.requires.numbers at fit tally c.in_ok-keys.ensures
+    ∙ tally-total s column n name found counts rest keys c.sum_counted-counted.result c.sum_noted.result c.requires.numbers at fit tally c.main_cursor.ensures
     (c.sum_counted-counted.ensures.sum ∙ ap (λ (l : List ℕ). weighed (counted l) keys (min (length keys) (length l))) c.as_slice.ensures.value)
     (c.sum_noted.ensures.sum ∙ ap (λ (l : List Found). total (map (cell s column) l)) c.as_slice-2.ensures.value)

@@ -16,4 +16,4 @@ returns-in-MergeEnd c =
 pub unreachable-requires : goal.unreachable-requires
 unreachable-requires c =
     all_carried c.args.st.now c.requires.served (sym c.changes_rows.ensures ∙ c.if-changes_rows.false)
-    c.in_default.not-Create c.in_default.not-Ask c.in_default.not-Begin c.in_default.not-Commit c.in_default.not-Abort c.in_default.not-MergeL1 c.in_default.not-MergeBegin c.in_default.not-MergeEnd c.in_default.not-Shape
+    c.in_default.not-Create c.requires.other c.in_default.not-Begin c.in_default.not-Commit c.in_default.not-Abort c.in_default.not-MergeL1 c.in_default.not-MergeBegin c.in_default.not-MergeEnd c.in_default.not-Shape

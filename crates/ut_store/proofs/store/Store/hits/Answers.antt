@@ -1,11 +1,13 @@
-use Rattle.std.proofs.Common.{◌≡◌, ◌∙◌, Some, slice_get, ap, unwrap_or}
+use Rattle.std.proofs.Common.{◌≡◌, ◌∙◌, Some, slice_get, ap, sym, subst, unwrap_or}
 use Rattle.std.proofs.lemmas.Result.{IfOk-weaker}
 use Rattle.std.specs.Option.{option_map}
 use Rattle.ut_txn.specs.declared.opened.Opened.{Opened}
 use Rattle.ut_store.specs.Held.{Held}
 use Rattle.ut_store.specs.Stands.{opened_snapshot}
 use Rattle.ut_store.specs.Reads.{looks_at, own_at}
-use Rattle.ut_store.proofs.IndexLemmas.{stages_in, stages_at_place}
+use Rattle.ut_staged.specs.Staged.{Staged}
+use Rattle.ut_names.specs.Compiled.{Compiles}
+use Rattle.ut_store.proofs.IndexLemmas.{some_inside, stages_in, stages_at_place}
 use Rattle.ut_store.proofs.SearchLemmas.{looked}
 use Rattle.ut_store.proofs.store.Store.hits.Goals as goal
 
@@ -19,5 +21,8 @@ returns c =
     let own : c.own_number-own.result ≡ own_at c.args.self.now c.args.session =
     c.own_number-own.ensures ∙ ap (λ o. option_map (λ (x : Opened). x.number) o) c.opened-opened.ensures ∙ ap (λ (h : Held). own_at h c.args.session) c.self.view_is in
     IfOk-weaker c.scan.result _ _
-    (λ found f. looked c.args.self.now c.args.session c.args.place c.args.preds.now c.requires.table c.index.result.now.stages c.self.inside.fates c.looks_at-snapshot.result c.own_number-own.result found.items c.requires.at here (ap (λ (h : Held). h.fates) c.self.view_is) look own f)
+    (λ found f s asked there comp.
+    let same : c.index.result.now.stages ≡ s = here ∙ some_inside c.requires.table s (sym c.requires.at ∙ there) in
+    looked c.args.self.now c.args.session c.args.place asked s c.index.result.now.stages c.self.inside.fates c.looks_at-snapshot.result c.own_number-own.result found.items there same (ap (λ (h : Held). h.fates) c.self.view_is) look own
+    (f asked (subst (λ (t : Staged). Compiles t.columns asked c.args.preds.now) (sym same) comp)))
     c.scan.ensures

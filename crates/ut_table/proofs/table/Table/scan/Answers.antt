@@ -1,50 +1,15 @@
-use Rattle.std.proofs.Common.{◌∙◌, map, List, IfOk, IsTrue, IsPermutation, Result, Ok, Err, ap, sym, subst}
-use Rattle.ut_value.specs.declared.value.Column.{Column}
-use Rattle.ut_plain.specs.Names.{preds_known}
-use Rattle.ut_plain.specs.Kinds.{preds_fit}
-use Rattle.ut_scan.specs.declared.place.ColumnPred.{ColumnPred}
-use Rattle.ut_scan.specs.StageRows.{found_rows}
-use Rattle.ut_staged.specs.Staged.{Staged}
-use Rattle.ut_table.specs.Compiled.{column_pred}
-use Rattle.ut_table.specs.Contents.{TableValue}
-use Rattle.ut_table.proofs.CompiledLemmas.{compiled-within}
-use Rattle.ut_table.proofs.FindsLemmas.{Asked}
-use Rattle.ut_table.proofs.ScanLemmas.{rows_of, scan-finds}
-use Rattle.ut_table.proofs.LentLemmas.{lent-stamped, lent-width, lent-rows}
+use Rattle.ut_table.proofs.LentLemmas.{lent-stamped, lent-columns, lent-finds}
+use Rattle.ut_table.proofs.TallyLemmas.{both-ok}
 use Rattle.ut_table.proofs.table.Table.scan.Goals as goal
 
 pub counted_scan-requires-clause-stamped : goal.counted_scan-requires-clause-stamped
 counted_scan-requires-clause-stamped c = lent-stamped c.stages-stages.ensures
 
 pub counted_scan-requires-clause-columns : goal.counted_scan-requires-clause-columns
-counted_scan-requires-clause-columns c =
-    let lent = c.stages-stages.ensures in
-    let columns_are = ap (λ (v : TableValue). v.stages.columns) c.self.view_is ∙ sym (ap (λ (x : Staged). x.columns) lent.view) in
-    let list = c.as_slice-2.ensures.value ∙ c.in_ok-compiled.ensures ∙ ap (λ (cs : List Column). map (column_pred cs) c.args.preds.now) (c.as_slice.ensures ∙ columns_are) in
-    let known : IsTrue (preds_known c.args.preds.now lent.table.columns) = subst (λ (x : Staged). IsTrue (preds_known c.args.preds.now x.columns)) (sym lent.view) c.requires.known in
-    compiled-within lent.table.columns c.args.preds.now c.stages-stages.result.l2.now.width c.as_slice-2.result.now (lent-width lent) list known
-
--- what follows from two clauses on an answer
-both : {X E : Type 0} (r : Result X E) {P Q R : X → Type 0} → ((x : X) → P x → Q x → R x) → IfOk r P → IfOk r Q → IfOk r R
-both (Ok x) f p q = f x p q
-both (Err e) f p q = tt
+counted_scan-requires-clause-columns c = lent-columns c.stages-stages.ensures c.args.preds.now c.requires.columns
 
 pub returns : goal.returns
 returns c =
-    let lent = c.stages-stages.ensures in
-    let preds = c.args.preds.now in
-    let columns_are = ap (λ (v : TableValue). v.stages.columns) c.self.view_is ∙ sym (ap (λ (x : Staged). x.columns) lent.view) in
-    let list = c.as_slice-2.ensures.value ∙ c.in_ok-compiled.ensures ∙ ap (λ (cs : List Column). map (column_pred cs) c.args.preds.now) (c.as_slice.ensures ∙ columns_are) in
-    let asked : Asked lent.table.columns c.args.preds.now = record {
-      known = subst (λ (x : Staged). IsTrue (preds_known c.args.preds.now x.columns)) (sym lent.view) c.requires.known;
-      fit = subst (λ (x : Staged). IsTrue (preds_fit x.columns c.args.preds.now)) (sym lent.view) c.requires.fit;
-      rules = c.preds_keep_rules.ensures;
-    } in
-    both c.counted_scan.result
-    (λ found rows up.
-    scan-finds lent.kept lent.view c.args.fates.now c.args.snapshot c.args.own preds asked c.requires.once found.items
-    (subst (λ l. IsPermutation l found.items)
-    (lent-rows lent c.args.fates.now c.args.snapshot c.args.own c.as_slice-2.result.now
-    ∙ ap (λ (ps : List ColumnPred). found_rows c.args.fates.now c.args.snapshot c.args.own ps (rows_of lent.table) lent.table.stamps) list)
-    rows) up)
+    both-ok c.counted_scan.result
+    (λ found rows up asked compiles. lent-finds c.stages-stages.ensures c.args.fates.now c.args.snapshot c.args.own c.args.preds.now c.requires.once asked compiles found.items rows up)
     c.counted_scan.ensures.rows c.counted_scan.ensures.ascending

@@ -1,0 +1,205 @@
+//! Questions by the places of what they name.
+ghost use Rattle.std.specs.Prelude.{◌≡◌, IfOk, IfErr, IfSome};
+ghost use Rattle.ut_plain.specs.declared.statement.Query.TheVariants.{Select, Count, Sum, Min, Max, Group, Join};
+ghost use Rattle.ut_plain.specs.Names.{query_known};
+ghost use Rattle.ut_plain.specs.Kinds.{query_fits, same_kind};
+ghost use Rattle.ut_names.specs.Resolved.{AreNarrow, Resolves, Hinders};
+
+use crate::Question;
+use crate::places::{column_at, columns_at, number_at, table_at};
+use crate::refusing::why;
+use crate::selecting::rows;
+use std::alloc::Global;
+use ut_plain::{Pred, Query, Refusal, Table, query_fits, query_known};
+use ut_value::{Kind, Name, Seq};
+
+/// The question by the places of what it names.
+pub fn question(alloc: Global, tables: &[Table], query: &Query) -> Result<Question, Refusal>
+    requires narrow { AreNarrow tables.now }
+    ensures ok { IfOk result (Resolves tables.now query.now) }
+    ensures err { IfErr result (Hinders (query_known tables.now query.now)
+        (query_fits tables.now query.now)) }
+{
+    match resolved(alloc, tables, query) {
+        Some(question) => Ok(question),
+        None => Err(why(query_known(tables, query), query_fits(tables, query))),
+    }
+}
+
+fn resolved(alloc: Global, tables: &[Table], query: &Query) -> Option<Question>
+    requires { AreNarrow tables.now }
+    ensures { IfSome result (Resolves tables.now query.now) }
+{
+    match query {
+        Query::Select {
+            table,
+            columns,
+            preds,
+        } => select(alloc, tables, table, columns, preds.as_slice()),
+        Query::Count { table, preds } => count(alloc, tables, table, preds.as_slice()),
+        Query::Sum {
+            table,
+            column,
+            preds,
+        } => sum(alloc, tables, table, column, preds.as_slice()),
+        Query::Min {
+            table,
+            column,
+            preds,
+        } => min(alloc, tables, table, column, preds.as_slice()),
+        Query::Max {
+            table,
+            column,
+            preds,
+        } => max(alloc, tables, table, column, preds.as_slice()),
+        Query::Group {
+            table,
+            key,
+            sum,
+            preds,
+        } => group(alloc, tables, table, key, sum, preds.as_slice()),
+        Query::Join {
+            left,
+            left_column,
+            right,
+            right_column,
+        } => join(tables, left, left_column, right, right_column),
+    }
+}
+
+fn select(
+    alloc: Global,
+    tables: &[Table],
+    name: &Name,
+    names: &Option<Seq<Name>>,
+    preds: &[Pred],
+) -> Option<Question>
+    requires { AreNarrow tables.now }
+    ensures { IfSome result (Resolves tables.now (Select name.now names.now preds.now)) }
+{
+    let table = table_at(tables, name.as_slice())?;
+    let columns = columns_at(alloc, table.columns, names)?;
+    let rows = rows(alloc, &table, preds)?;
+    Some(Question::Select { rows, columns })
+}
+
+fn count(alloc: Global, tables: &[Table], name: &Name, preds: &[Pred]) -> Option<Question>
+    requires { AreNarrow tables.now }
+    ensures { IfSome result (Resolves tables.now (Count name.now preds.now)) }
+{
+    let table = table_at(tables, name.as_slice())?;
+    let rows = rows(alloc, &table, preds)?;
+    Some(Question::Count { rows })
+}
+
+fn sum(
+    alloc: Global,
+    tables: &[Table],
+    name: &Name,
+    column: &Name,
+    preds: &[Pred],
+) -> Option<Question>
+    requires { AreNarrow tables.now }
+    ensures { IfSome result (Resolves tables.now (Sum name.now column.now preds.now)) }
+{
+    let table = table_at(tables, name.as_slice())?;
+    let column = number_at(table.columns, column.as_slice())?;
+    let rows = rows(alloc, &table, preds)?;
+    Some(Question::Sum { rows, column })
+}
+
+fn min(
+    alloc: Global,
+    tables: &[Table],
+    name: &Name,
+    column: &Name,
+    preds: &[Pred],
+) -> Option<Question>
+    requires { AreNarrow tables.now }
+    ensures { IfSome result (Resolves tables.now (Min name.now column.now preds.now)) }
+{
+    let table = table_at(tables, name.as_slice())?;
+    let column = column_at(table.columns, column.as_slice())?;
+    let rows = rows(alloc, &table, preds)?;
+    Some(Question::Min {
+        rows,
+        column: column.place,
+    })
+}
+
+fn max(
+    alloc: Global,
+    tables: &[Table],
+    name: &Name,
+    column: &Name,
+    preds: &[Pred],
+) -> Option<Question>
+    requires { AreNarrow tables.now }
+    ensures { IfSome result (Resolves tables.now (Max name.now column.now preds.now)) }
+{
+    let table = table_at(tables, name.as_slice())?;
+    let column = column_at(table.columns, column.as_slice())?;
+    let rows = rows(alloc, &table, preds)?;
+    Some(Question::Max {
+        rows,
+        column: column.place,
+    })
+}
+
+fn group(
+    alloc: Global,
+    tables: &[Table],
+    name: &Name,
+    key: &Name,
+    sum: &Name,
+    preds: &[Pred],
+) -> Option<Question>
+    requires { AreNarrow tables.now }
+    ensures { IfSome result (Resolves tables.now (Group name.now key.now sum.now preds.now)) }
+{
+    let table = table_at(tables, name.as_slice())?;
+    let key = column_at(table.columns, key.as_slice())?;
+    let sum = number_at(table.columns, sum.as_slice())?;
+    let rows = rows(alloc, &table, preds)?;
+    Some(Question::Group {
+        rows,
+        key: key.place,
+        sum,
+    })
+}
+
+fn join(
+    tables: &[Table],
+    left: &Name,
+    left_column: &Name,
+    right: &Name,
+    right_column: &Name,
+) -> Option<Question>
+    requires { AreNarrow tables.now }
+    ensures { IfSome result (Resolves tables.now (Join left.now left_column.now right.now right_column.now)) }
+{
+    let left = table_at(tables, left.as_slice())?;
+    let right = table_at(tables, right.as_slice())?;
+    let left_column = column_at(left.columns, left_column.as_slice())?;
+    let right_column = column_at(right.columns, right_column.as_slice())?;
+    if !same_kind(left_column.kind, right_column.kind) {
+        return None;
+    }
+    Some(Question::Join {
+        left: left.place,
+        left_column: left_column.place,
+        right: right.place,
+        right_column: right_column.place,
+    })
+}
+
+fn same_kind(left: Kind, right: Kind) -> bool
+    ensures { result ≡ same_kind (Some left) (Some right) }
+{
+    match (left, right) {
+        (Kind::Int, Kind::Int) => true,
+        (Kind::Text, Kind::Text) => true,
+        (Kind::Int, Kind::Text) => false,
+        (Kind::Text, Kind::Int) => false,
+    }
+}

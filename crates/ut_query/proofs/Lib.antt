@@ -1,0 +1,4 @@
+pub mod ShowLemmas
+pub mod RowLemmas
+pub mod QuestionLemmas
+pub mod TellLemmas

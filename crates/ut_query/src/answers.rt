@@ -1,0 +1,165 @@
+//! What a question is answered, by the operator that it asks for.
+ghost use Rattle.std.specs.Prelude.{◌≡◌, [], IfOk};
+ghost use Rattle.ut_names.specs.declared.resolved.Question.TheVariants as questions;
+ghost use Rattle.ut_query.specs.Look.{CanLook, sight};
+ghost use Rattle.ut_query.specs.Tells.{IsAsked, Tells};
+
+use crate::look::Look;
+use crate::rows::{count, found, tally};
+use std::alloc::{AllocError, Global};
+use ut_names::{Columns, Selection};
+use ut_ops::{greatest, group, join, least, select, sum, sum_tally, tallied_column};
+use ut_plain::Reply;
+
+pub(crate) fn select_rows(
+    alloc: Global,
+    look: &Look<'_>,
+    rows: &Selection,
+    columns: &Columns,
+) -> Result<Reply, AllocError>
+    requires looks { CanLook (sight look.now) }
+    requires asked { IsAsked look.now.tables.now (questions.Select rows.now columns.now) }
+    ensures { IfOk result (Tells (sight look.now) (questions.Select rows.now columns.now)) }
+{
+    let hits = found(alloc, look, rows)?;
+    let table = &look.stages[rows.table];
+    let rows = select(alloc, table, columns, hits.as_slice())?;
+    Ok(Reply::Rows(rows))
+}
+
+pub(crate) fn count_rows(
+    alloc: Global,
+    look: &Look<'_>,
+    rows: &Selection,
+) -> Result<Reply, AllocError>
+    requires looks { CanLook (sight look.now) }
+    requires asked { IsAsked look.now.tables.now (questions.Count rows.now) }
+    ensures { IfOk result (Tells (sight look.now) (questions.Count rows.now)) }
+{
+    let count = count(alloc, look, rows)?;
+    Ok(Reply::Count(count as u32))
+}
+
+pub(crate) fn sum_of(
+    alloc: Global,
+    look: &Look<'_>,
+    rows: &Selection,
+    column: usize,
+) -> Result<Reply, AllocError>
+    requires looks { CanLook (sight look.now) }
+    requires asked { IsAsked look.now.tables.now (questions.Sum rows.now column) }
+    ensures { IfOk result (Tells (sight look.now) (questions.Sum rows.now column)) }
+{
+    let table = &look.stages[rows.table];
+    if tallied_column(table, column, !rows.preds.is_empty()) {
+        return sum_of_codes(alloc, look, rows, column);
+    }
+    let hits = found(alloc, look, rows)?;
+    let total = sum(alloc, table, column, hits.as_slice());
+    Ok(Reply::Sum(total))
+}
+
+/// The sum of a column by its codes.
+fn sum_of_codes(
+    alloc: Global,
+    look: &Look<'_>,
+    rows: &Selection,
+    column: usize,
+) -> Result<Reply, AllocError>
+    requires looks { CanLook (sight look.now) }
+    requires asked { IsAsked look.now.tables.now (questions.Sum rows.now column) }
+    ensures { IfOk result (Tells (sight look.now) (questions.Sum rows.now column)) }
+{
+    let tally = tally(alloc, look, rows, column)?;
+    let table = &look.stages[rows.table];
+    let total = sum_tally(alloc, table, column, &tally)?;
+    Ok(Reply::Sum(total))
+}
+
+pub(crate) fn least_of(
+    alloc: Global,
+    look: &Look<'_>,
+    rows: &Selection,
+    column: usize,
+) -> Result<Reply, AllocError>
+    requires looks { CanLook (sight look.now) }
+    requires asked { IsAsked look.now.tables.now (questions.Min rows.now column) }
+    ensures { IfOk result (Tells (sight look.now) (questions.Min rows.now column)) }
+{
+    let hits = found(alloc, look, rows)?;
+    let table = &look.stages[rows.table];
+    let value = least(alloc, table, column, hits.as_slice())?;
+    Ok(Reply::Min(value))
+}
+
+pub(crate) fn greatest_of(
+    alloc: Global,
+    look: &Look<'_>,
+    rows: &Selection,
+    column: usize,
+) -> Result<Reply, AllocError>
+    requires looks { CanLook (sight look.now) }
+    requires asked { IsAsked look.now.tables.now (questions.Max rows.now column) }
+    ensures { IfOk result (Tells (sight look.now) (questions.Max rows.now column)) }
+{
+    let hits = found(alloc, look, rows)?;
+    let table = &look.stages[rows.table];
+    let value = greatest(alloc, table, column, hits.as_slice())?;
+    Ok(Reply::Max(value))
+}
+
+pub(crate) fn groups_of(
+    alloc: Global,
+    look: &Look<'_>,
+    rows: &Selection,
+    key: usize,
+    sum: usize,
+) -> Result<Reply, AllocError>
+    requires looks { CanLook (sight look.now) }
+    requires asked { IsAsked look.now.tables.now (questions.Group rows.now key sum) }
+    ensures { IfOk result (Tells (sight look.now) (questions.Group rows.now key sum)) }
+{
+    let hits = found(alloc, look, rows)?;
+    let table = &look.stages[rows.table];
+    let groups = group(alloc, table, key, sum, hits.as_slice())?;
+    Ok(Reply::Groups(groups))
+}
+
+/// One side of a join: all rows of a table.
+fn all_of(alloc: Global, table: usize) -> Selection
+    ensures table { result.table ≡ table }
+    ensures all { result.preds.items ≡ [] }
+{
+    Selection {
+        table,
+        preds: Vec::new(alloc),
+    }
+}
+
+pub(crate) fn pairs_of(
+    alloc: Global,
+    look: &Look<'_>,
+    left: usize,
+    left_column: usize,
+    right: usize,
+    right_column: usize,
+) -> Result<Reply, AllocError>
+    requires looks { CanLook (sight look.now) }
+    requires asked { IsAsked look.now.tables.now (questions.Join left left_column right right_column) }
+    ensures { IfOk result (Tells (sight look.now) (questions.Join left left_column right right_column)) }
+{
+    let lefts = all_of(alloc, left);
+    let rights = all_of(alloc, right);
+    let left_hits = found(alloc, look, &lefts)?;
+    let right_hits = found(alloc, look, &rights)?;
+    let rows = join(
+        alloc,
+        &look.stages[lefts.table],
+        left_column,
+        left_hits.as_slice(),
+        &look.stages[rights.table],
+        right_column,
+        right_hits.as_slice(),
+    )?;
+    Ok(Reply::Rows(rows))
+}
