@@ -1,11 +1,11 @@
 //! Runs of crowds over a disk and streams in memory, and what they leave.
-use check_run::run::{RUN, run_on};
+use check_run::run::{RUN, copy_of, run_on};
 use check_run::saved::QUESTION;
 use std::alloc::{AllocError, Global};
 use std::sync::Wait;
 use std::thread::Threads;
 use ut_app::{Status, top};
-use ut_outside::{AckList, MemDisk, MemSink, MemSource, NoHook, Which};
+use ut_outside::{AckList, MemDisk, MemSink, MemSource, NoHook};
 
 /// The words that answer a crowd with merges of few rows, in a store that is there and in one that is made.
 pub const CROWD: &[&str] = &["ut", "crowd", "--l1", "2"];
@@ -65,15 +65,6 @@ pub fn left_on(
         Status::Done => Left::Answers(ran.replies),
         _ => Left::Else,
     })
-}
-
-fn copy_of(alloc: Global, disk: &MemDisk) -> Result<MemDisk, AllocError> {
-    MemDisk::of(
-        alloc,
-        disk.bytes(Which::Redo),
-        disk.bytes(Which::Redo2),
-        disk.bytes(Which::Pages),
-    )
 }
 
 /// Opens a store and asks it nothing: how many entries its journal has, if it is a store.

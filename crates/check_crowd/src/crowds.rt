@@ -153,7 +153,8 @@ fn lines_are_answered_while_a_merge_is_built(rt: HostRuntime) -> Result<(), Fail
 fn each_line_has_its_turn(rt: HostRuntime) -> Result<(), Fail> {
     let alloc = rt.alloc();
     let mut disk = MemDisk::of(alloc, &[], &[], &[])?;
-    let came = run(&rt, alloc, &mut disk, of_four(alloc)?, 2, &NoHook)?;
+    let watch = Watch::new(); // the store has a turn before the twentieth line is past
+    let came = run(&rt, alloc, &mut disk, of_four(alloc)?, 2, &watch)?;
     assert!(rt; came.all && !came.down);
     let book = came.book.as_slice();
     let mut text = Vec::new(alloc);

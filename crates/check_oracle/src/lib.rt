@@ -14,10 +14,8 @@ mod saves;
 mod session;
 mod shapes;
 mod sight;
-mod spelled;
 mod step;
 mod taken;
 mod writes;
 
 pub use oracle::Oracle;
-pub use spelled::is_spelled;

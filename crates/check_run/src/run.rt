@@ -3,7 +3,7 @@ use std::alloc::{AllocError, Global};
 use std::sync::Wait;
 use std::thread::Threads;
 use ut_app::{Status, top};
-use ut_outside::{AckList, MemDisk, MemSink, MemSource, NoHook, Tear};
+use ut_outside::{AckList, MemDisk, MemSink, MemSource, NoHook, Tear, Which};
 
 /// The words that open a store, and those that make one.
 pub const RUN: &[&str] = &["ut", "run"];
@@ -161,6 +161,16 @@ pub fn run_between(
         replies: Vec::from_slice(alloc, sink.bytes())?,
         acks: report.acks,
     })
+}
+
+/// A disk with the same files, all of it durable.
+pub fn copy_of(alloc: Global, disk: &MemDisk) -> Result<MemDisk, AllocError> {
+    MemDisk::of(
+        alloc,
+        disk.bytes(Which::Redo),
+        disk.bytes(Which::Redo2),
+        disk.bytes(Which::Pages),
+    )
 }
 
 /// Opens the store of a script, and sees what there is of it.

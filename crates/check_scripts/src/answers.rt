@@ -1,7 +1,7 @@
-//! Stores that answer lines, and the first line that is answered otherwise than a table says.
-use crate::rows::Row;
+//! Stores that answer lines, and the first line that two of them answer otherwise.
 use crate::scripts::{LINES, StoreLines, script_line};
-use check_oracle::{Oracle, is_spelled};
+use crate::spelled::is_spelled;
+use check_oracle::Oracle;
 use std::alloc::{AllocError, Global};
 use ut_plain::{Parsed, Refusal, Reply, Statement};
 use ut_reply::put_reply;
@@ -85,30 +85,6 @@ fn reply_to(
 fn pages_of(store: &Oracle) -> u32 {
     let parts = u32::try_from(store.parts()).unwrap_or(u32::MAX);
     parts.saturating_add(1)
-}
-
-/// The place of the first row of a table whose line is answered otherwise.
-pub fn first_wrong<S: Answers>(
-    alloc: Global,
-    store: &mut S,
-    table: &[Row],
-) -> Result<Option<usize>, AllocError> {
-    for (place, (line, want)) in table.iter().enumerate() {
-        let mut out = Vec::new(alloc);
-        store.answer(alloc, line.as_bytes(), &mut out)?;
-        if !is_line(out.as_slice(), want.as_bytes()) {
-            return Ok(Some(place));
-        }
-    }
-    Ok(None)
-}
-
-/// Whether bytes are a text and a line end.
-fn is_line(bytes: &[u8], text: &[u8]) -> bool {
-    match bytes {
-        [front @ .., b'\n'] => front == text,
-        _ => false,
-    }
 }
 
 /// The first line of the script of a seed that two stores answer otherwise.

@@ -1,19 +1,15 @@
-//! Worked rows: lines and their replies, to be run on a store.
+//! Lines for stores that answer lines: worked scripts and random ones.
 #![tactic(auto)]
 
-pub mod answer_rows;
 mod answers;
 pub mod merge_rows;
-pub mod refusal_rows;
 pub mod rows;
 pub mod save_rows;
 mod scripts;
-pub mod stage_rows;
+mod spelled;
 
-pub use answers::{Answers, first_apart, first_wrong};
+pub use answers::{Answers, first_apart};
 pub use scripts::{LINES, StoreLines, script_line};
 
 #[cfg(test)]
 mod script_tests;
-#[cfg(test)]
-mod tests;

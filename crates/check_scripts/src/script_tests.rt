@@ -107,6 +107,50 @@ const ANSWERS_OF_SAVES: [(&str, usize); 11] = [
 /// How often questions of a transaction must be answered otherwise than outside one.
 const VIEWS_APART: usize = 15;
 
+/// What scripts must have, and how often in all of them at least.
+#[derive(Clone, Copy)]
+struct Wanted {
+    of_store: StoreLines,
+    words: &'static [(&'static str, usize)],
+    answers: &'static [(&'static str, usize)],
+}
+
+const WANTED: [Wanted; 3] = [
+    Wanted {
+        of_store: StoreLines::OfDelta,
+        words: &WORDS,
+        answers: &ANSWERS,
+    },
+    Wanted {
+        of_store: StoreLines::OfMain,
+        words: &WORDS_OF_MAIN,
+        answers: &ANSWERS_OF_MAIN,
+    },
+    Wanted {
+        of_store: StoreLines::OfSaves,
+        words: &WORDS_OF_SAVES,
+        answers: &ANSWERS_OF_SAVES,
+    },
+];
+
+/// The line of a number of the script of a seed.
+fn line_of(
+    alloc: Global,
+    of_store: StoreLines,
+    seed: u64,
+    number: u32,
+) -> Result<Vec<u8>, AllocError> {
+    let mut line = Vec::new(alloc);
+    script_line(of_store, seed, number, &mut line)?;
+    Ok(line)
+}
+
+fn answer_to(alloc: Global, store: &mut Oracle, line: &[u8]) -> Result<Vec<u8>, AllocError> {
+    let mut answer = Vec::new(alloc);
+    store.answer(alloc, line, &mut answer)?;
+    Ok(answer)
+}
+
 fn has(bytes: &[u8], text: &str) -> bool {
     let word = text.as_bytes();
     for at in 0..bytes.len() {
@@ -124,53 +168,67 @@ fn counted(texts: &[Vec<u8>], word: &str) -> usize {
         .count()
 }
 
-fn check_grammar(rt: &impl Abort, alloc: Global, lines: StoreLines) -> Result<(), AllocError> {
+/// Whether texts have each word so often.
+fn check_counts(rt: &impl Abort, of_store: StoreLines, texts: &[Vec<u8>], words: &[(&str, usize)]) {
+    for (word, least) in words {
+        let count = counted(texts, word);
+        assert!(rt; count >= *least, "{of_store:?}, {word}: {count} times");
+    }
+}
+
+/// Whether a line is of the grammar.
+fn is_good(alloc: Global, line: &[u8]) -> bool {
+    matches!(parse_line(alloc, line, false), Ok(Parsed::Good(_, _)))
+}
+
+fn check_grammar(rt: &impl Abort, alloc: Global, of_store: StoreLines) -> Result<(), AllocError> {
     for seed in 0..SCRIPTS {
         for number in 0..LINES {
-            let mut line = Vec::new(alloc);
-            script_line(lines, seed, number, &mut line)?;
-            match parse_line(alloc, line.as_slice(), false) {
-                Ok(Parsed::Good(_, _)) => {}
-                _ => assert!(rt; false, "line {number}"),
-            }
+            let line = line_of(alloc, of_store, seed, number)?;
+            let is_good = is_good(alloc, &line);
+            assert!(rt; is_good, "{of_store:?}, seed {seed}, line {number}");
         }
     }
     Ok(())
 }
 
-/// Whether texts have each word so often.
-fn check_counts(rt: &impl Abort, texts: &[Vec<u8>], words: &[(&str, usize)]) {
-    for (word, least) in words {
-        let count = counted(texts, word);
-        assert!(rt; count >= *least, "{word}: {count} times");
-    }
-}
-
 #[test]
 fn scripts_are_lines_of_the_grammar(rt: HostRuntime) -> Result<(), Fail> {
-    for lines in [StoreLines::OfDelta, StoreLines::OfMain, StoreLines::OfSaves] {
-        check_grammar(&rt, rt.alloc(), lines)?;
+    for wanted in WANTED {
+        check_grammar(&rt, rt.alloc(), wanted.of_store)?;
     }
     Ok(())
 }
 
+/// Two stores that are alike.
+#[derive(Drop)]
+struct Two {
+    one: Oracle,
+    other: Oracle,
+}
+
+fn alike(alloc: Global) -> Result<Two, AllocError> {
+    Ok(Two {
+        one: Oracle::new(alloc, AMPLE)?,
+        other: Oracle::new(alloc, AMPLE)?,
+    })
+}
+
 #[test]
 fn alike_stores_answer_alike(rt: HostRuntime) -> Result<(), Fail> {
-    let mut one = Oracle::new(rt.alloc(), AMPLE)?;
-    let mut other = Oracle::new(rt.alloc(), AMPLE)?;
-    let apart = first_apart(rt.alloc(), &mut one, &mut other, StoreLines::OfSaves, 7)?;
+    let mut two = alike(rt.alloc())?;
+    let of_store = StoreLines::OfSaves;
+    let apart = first_apart(rt.alloc(), &mut two.one, &mut two.other, of_store, 7)?;
     assert_eq!(rt; apart, None);
     Ok(())
 }
 
 /// All lines of the scripts but the first ones.
-fn all_lines(alloc: Global, lines: StoreLines) -> Result<Vec<Vec<u8>>, AllocError> {
+fn all_lines(alloc: Global, of_store: StoreLines) -> Result<Vec<Vec<u8>>, AllocError> {
     let mut all = Vec::new(alloc);
     for seed in 0..SCRIPTS {
         for number in 6..LINES {
-            let mut line = Vec::new(alloc);
-            script_line(lines, seed, number, &mut line)?;
-            all.push(line)?;
+            all.push(line_of(alloc, of_store, seed, number)?)?;
         }
     }
     Ok(all)
@@ -178,22 +236,10 @@ fn all_lines(alloc: Global, lines: StoreLines) -> Result<Vec<Vec<u8>>, AllocErro
 
 #[test]
 fn scripts_have_each_statement_and_comparison(rt: HostRuntime) -> Result<(), Fail> {
-    let lines = all_lines(rt.alloc(), StoreLines::OfDelta)?;
-    check_counts(&rt, lines.as_slice(), &WORDS);
-    Ok(())
-}
-
-#[test]
-fn scripts_have_each_kind_of_merge(rt: HostRuntime) -> Result<(), Fail> {
-    let lines = all_lines(rt.alloc(), StoreLines::OfMain)?;
-    check_counts(&rt, lines.as_slice(), &WORDS_OF_MAIN);
-    Ok(())
-}
-
-#[test]
-fn scripts_have_each_statement_of_savepoints(rt: HostRuntime) -> Result<(), Fail> {
-    let lines = all_lines(rt.alloc(), StoreLines::OfSaves)?;
-    check_counts(&rt, lines.as_slice(), &WORDS_OF_SAVES);
+    for wanted in WANTED {
+        let lines = all_lines(rt.alloc(), wanted.of_store)?;
+        check_counts(&rt, wanted.of_store, lines.as_slice(), wanted.words);
+    }
     Ok(())
 }
 
@@ -201,50 +247,59 @@ fn scripts_have_each_statement_of_savepoints(rt: HostRuntime) -> Result<(), Fail
 /// outside one.
 #[derive(Drop)]
 struct Met {
+    store: Oracle,
     answers: Vec<Vec<u8>>,
     apart: usize,
 }
 
-fn met_by(alloc: Global, lines: StoreLines) -> Result<Met, AllocError> {
-    let mut answers = Vec::new(alloc);
-    let mut apart: usize = 0;
+impl Met {
+    fn new(alloc: Global) -> Result<Met, AllocError> {
+        Ok(Met {
+            store: Oracle::new(alloc, AMPLE)?,
+            answers: Vec::new(alloc),
+            apart: 0,
+        })
+    }
+
+    fn begin(&mut self, alloc: Global) -> Result<(), AllocError> {
+        self.store = Oracle::new(alloc, AMPLE)?;
+        Ok(())
+    }
+
+    fn meet(&mut self, alloc: Global, line: &[u8]) -> Result<(), AllocError> {
+        if is_seen_apart(alloc, &mut self.store, line)? {
+            self.apart = self.apart.saturating_add(1);
+        }
+        let answer = answer_to(alloc, &mut self.store, line)?;
+        self.answers.push(answer)?;
+        Ok(())
+    }
+}
+
+fn met_by(alloc: Global, of_store: StoreLines) -> Result<Met, AllocError> {
+    let mut met = Met::new(alloc)?;
     for seed in 0..SCRIPTS {
-        let mut store = Oracle::new(alloc, AMPLE)?;
+        met.begin(alloc)?;
         for number in 0..LINES {
-            let mut line = Vec::new(alloc);
-            script_line(lines, seed, number, &mut line)?;
-            if is_seen_apart(alloc, &mut store, line.as_slice())? {
-                apart = apart.saturating_add(1);
-            }
-            let mut answer = Vec::new(alloc);
-            store.answer(alloc, line.as_slice(), &mut answer)?;
-            answers.push(answer)?;
+            let line = line_of(alloc, of_store, seed, number)?;
+            met.meet(alloc, &line)?;
         }
     }
-    Ok(Met { answers, apart })
+    Ok(met)
 }
 
 #[test]
-fn scripts_meet_conflicts_and_snapshots(rt: HostRuntime) -> Result<(), Fail> {
-    let Met { answers, apart } = met_by(rt.alloc(), StoreLines::OfDelta)?;
-    check_counts(&rt, answers.as_slice(), &ANSWERS);
-    assert!(rt; apart >= VIEWS_APART, "{apart} times");
-    Ok(())
-}
-
-#[test]
-fn scripts_meet_merges_and_their_refusals(rt: HostRuntime) -> Result<(), Fail> {
-    let Met { answers, apart } = met_by(rt.alloc(), StoreLines::OfMain)?;
-    check_counts(&rt, answers.as_slice(), &ANSWERS_OF_MAIN);
-    assert!(rt; apart >= VIEWS_APART, "{apart} times");
-    Ok(())
-}
-
-#[test]
-fn scripts_meet_savepoints_in_each_phase(rt: HostRuntime) -> Result<(), Fail> {
-    let Met { answers, apart } = met_by(rt.alloc(), StoreLines::OfSaves)?;
-    check_counts(&rt, answers.as_slice(), &ANSWERS_OF_SAVES);
-    assert!(rt; apart >= VIEWS_APART, "{apart} times");
+fn scripts_meet_conflicts_snapshots_merges_and_savepoints(rt: HostRuntime) -> Result<(), Fail> {
+    for wanted in WANTED {
+        let met = met_by(rt.alloc(), wanted.of_store)?;
+        check_counts(&rt, wanted.of_store, met.answers.as_slice(), wanted.answers);
+        let apart = met.apart;
+        assert!(rt;
+            apart >= VIEWS_APART,
+            "{:?}: {apart} times",
+            wanted.of_store
+        );
+    }
     Ok(())
 }
 
@@ -262,10 +317,7 @@ fn is_seen_apart(alloc: Global, store: &mut Oracle, line: &[u8]) -> Result<bool,
     if !is_question {
         return Ok(false);
     }
-    let mut inside = Vec::new(alloc);
-    store.answer(alloc, line, &mut inside)?;
-    let mut outside = Vec::new(alloc);
-    let other = as_outside(alloc, line)?;
-    store.answer(alloc, other.as_slice(), &mut outside)?;
+    let inside = answer_to(alloc, store, line)?;
+    let outside = answer_to(alloc, store, &as_outside(alloc, line)?)?;
     Ok(inside.get(1..) != outside.get(1..))
 }

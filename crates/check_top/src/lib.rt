@@ -10,10 +10,8 @@ mod kept;
 #[cfg(test)]
 mod replies;
 #[cfg(test)]
-mod rows;
+mod scripts;
 #[cfg(test)]
 mod sizes;
 #[cfg(test)]
 mod streams;
-#[cfg(test)]
-mod words;

@@ -40,20 +40,3 @@ fn a_row_is_written_and_there_again(rt: HostRuntime) -> Result<(), Fail> {
     assert_eq!(rt; opened.replies.as_slice(), wanted.as_slice());
     Ok(())
 }
-
-#[test]
-fn a_store_is_made_once_and_opened_where_it_is(rt: HostRuntime) -> Result<(), Fail> {
-    let alloc = rt.alloc();
-    let mut disk = MemDisk::of(alloc, &[], &[], &[])?;
-    let opened = run_on(&rt, alloc, RUN, SCRIPT, &mut disk)?;
-    assert_eq!(rt; opened.status, Status::NoStore);
-    assert_eq!(rt; opened.replies.len(), 0);
-    assert_eq!(rt;
-        run_on(&rt, alloc, RUN_NEW, SCRIPT, &mut disk)?.status,
-        Status::Done
-    );
-    let made = run_on(&rt, alloc, RUN_NEW, SCRIPT, &mut disk)?;
-    assert_eq!(rt; made.status, Status::Exists);
-    assert_eq!(rt; made.replies.len(), 0);
-    Ok(())
-}

@@ -1,0 +1,95 @@
+//! The random scripts of `check_scripts`, answered by the program.
+use check_oracle::Oracle;
+use check_run::run::{RUN, RUN_NEW, run_on};
+use check_scripts::{Answers, LINES, StoreLines, script_line};
+use std::alloc::{AllocError, Global};
+use std::process::Abort;
+use std::sync::Wait;
+use std::test::Fail;
+use std::thread::Threads;
+use ut_app::Status;
+use ut_outside::MemDisk;
+
+/// Ids enough for any script.
+const AMPLE: u32 = 1000;
+
+/// Which statements of the store the random scripts have.
+const STORE_LINES: StoreLines = StoreLines::OfSaves;
+
+/// A script, and its replies.
+#[derive(Drop)]
+struct Script {
+    lines: Vec<u8>,
+    replies: Vec<u8>,
+}
+
+/// The script of a seed, and what the slow store replies.
+fn scripted(alloc: Global, store: &mut Oracle, seed: u64) -> Result<Script, AllocError> {
+    let mut lines = Vec::new(alloc);
+    let mut replies = Vec::new(alloc);
+    for number in 0..LINES {
+        let start = lines.len();
+        script_line(STORE_LINES, seed, number, &mut lines)?;
+        store.answer(alloc, lines.get(start..).unwrap_or(&[]), &mut replies)?;
+        lines.push(b'\n')?;
+    }
+    Ok(Script { lines, replies })
+}
+
+/// The slow store and the program's disk.
+#[derive(Drop)]
+struct Both {
+    store: Oracle,
+    disk: MemDisk,
+}
+
+impl Both {
+    fn new(alloc: Global) -> Result<Both, AllocError> {
+        Ok(Both {
+            store: Oracle::new(alloc, AMPLE)?,
+            disk: MemDisk::of(alloc, &[], &[], &[])?,
+        })
+    }
+
+    /// Opens the slow store again. The program does so in each run.
+    fn open_again(&mut self, alloc: Global) -> Result<(), AllocError> {
+        self.store = self.store.reopened(alloc, AMPLE)?;
+        Ok(())
+    }
+
+    /// Runs the script of a seed on both.
+    fn run(
+        &mut self,
+        rt: &(impl Abort + Threads + Wait + Sync),
+        alloc: Global,
+        words: &[&str],
+        seed: u64,
+    ) -> Result<(), AllocError> {
+        let script = scripted(alloc, &mut self.store, seed)?;
+        let ran = run_on(rt, alloc, words, &script.lines, &mut self.disk)?;
+        assert_eq!(rt; ran.status, Status::Done, "seed {seed}");
+        let told = ran.replies.as_slice();
+        assert_eq!(rt; told, script.replies.as_slice(), "seed {seed}");
+        Ok(())
+    }
+}
+
+/// A store is opened again after its script, and answers another.
+fn check_seed(
+    rt: &(impl Abort + Threads + Wait + Sync),
+    alloc: Global,
+    seed: u64,
+) -> Result<(), AllocError> {
+    let mut both = Both::new(alloc)?;
+    both.run(rt, alloc, RUN_NEW, seed)?;
+    both.open_again(alloc)?;
+    both.run(rt, alloc, RUN, seed.saturating_add(100))
+}
+
+#[test]
+fn scripts_are_answered_as_by_the_slow_store(rt: HostRuntime) -> Result<(), Fail> {
+    for seed in 1..8 {
+        check_seed(&rt, rt.alloc(), seed)?;
+    }
+    Ok(())
+}
