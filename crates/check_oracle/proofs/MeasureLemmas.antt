@@ -23,6 +23,7 @@ use Rattle.ut_plain.specs.Reached.{IsPlain}
 use Rattle.ut_plain.specs.Stages.{with_inserts}
 use Rattle.ut_plain.specs.Refusals.{state_why, merge_why, save_why, unless, or_else, conflict, refusal}
 use Rattle.ut_plain.specs.Step.{Stepped, step, step_by, effect_of, with_made, changed, is_bulk, committed, committed_by, merge_ended, save_written, save_sealed, save_flipped, said_changed}
+use Rattle.ut_plain.proofs.SaveLaws.{IsPlain-measured}
 use Rattle.check_oracle.specs.Store.{Gives}
 
 -- the state with another measure of images
@@ -156,21 +157,4 @@ gives_measured f p session st reply q h g =
 
 -- no rule of a plain state asks for it
 pub plain_measured : (f : Directory → ℕ) (p : Plain) → IsPlain p → IsPlain (measured f p)
-plain_measured f p h = record {
-  base = h.base;
-  journal = h.journal;
-  short = h.short;
-  opened = h.opened;
-  limit = h.limit;
-  next = h.next;
-  last = h.last;
-  load = h.load;
-  seats = h.seats;
-  running = λ session t o. let is = h.running session t o in record { since = is.since; until = is.until; own = is.own };
-  apart = h.apart;
-  staged = h.staged;
-  places = h.places;
-  mains = h.mains;
-  merges = h.merges;
-  saving = h.saving;
-}
+plain_measured f p h = IsPlain-measured p f p.phase p.root_pages h h.saving

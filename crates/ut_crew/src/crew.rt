@@ -1,5 +1,5 @@
 //! The crew: its members, and the threads in which they work.
-ghost use Rattle.std.specs.Prelude.{◌≡◌, ◌+◌, ◌<◌, ◌≤◌, [], ◌∷◌, ◌++◌, None, All, IfOk, IfErr, length, map, reverse, vec_len, vec_capacity, MatchResult};
+ghost use Rattle.std.specs.Prelude.{◌≡◌, ◌+◌, ◌<◌, ◌≤◌, [], ◌∷◌, ◌++◌, None, All, IfOk, IfErr, length, map, reverse, vec_len, vec_capacity};
 ghost use Rattle.ut_gate.specs.declared.held.Slip.{Slip};
 ghost use Rattle.ut_crew.specs.Work.{CanAlways};
 ghost use Rattle.ut_crew.specs.declared.role.Role.TheVariants.{Session, Merger, Saver};
@@ -147,10 +147,10 @@ fn each<
 fn start_and_join<
     's,
     X,
-    E: Held,
-    A: Act<E, Answer = Went> + Between + Send + Drop,
-    M: Act<E, Answer = Kept> + Build<E> + Send + Drop,
-    S: Act<E, Answer = Kept> + Send + Drop,
+    E: Held + 's,
+    A: Act<E, Answer = Went> + Between + Send + Drop + 's,
+    M: Act<E, Answer = Kept> + Build<E> + Send + Drop + 's,
+    S: Act<E, Answer = Kept> + Send + Drop + 's,
     R: Threads + Wait + Sync,
 >(
     scope: &Scope<'s, X>,
@@ -160,11 +160,6 @@ fn start_and_join<
     members: Vec<Member<E, A, M, S>>,
     done: Vec<Pass<E>>,
 ) -> Vec<Pass<E>>
-where
-    E: 's,
-    A: 's,
-    M: 's,
-    S: 's,
     requires own { All (λ m. m.pass.gate ≡ floor.now.gate) members.items }
     requires done { done.items ≡ [] }
     requires room { vec_len members ≤ vec_capacity done }
@@ -184,10 +179,10 @@ where
 fn start_all<
     's,
     X,
-    E: Held,
-    A: Act<E, Answer = Went> + Between + Send + Drop,
-    M: Act<E, Answer = Kept> + Build<E> + Send + Drop,
-    S: Act<E, Answer = Kept> + Send + Drop,
+    E: Held + 's,
+    A: Act<E, Answer = Went> + Between + Send + Drop + 's,
+    M: Act<E, Answer = Kept> + Build<E> + Send + Drop + 's,
+    S: Act<E, Answer = Kept> + Send + Drop + 's,
     R: Threads + Wait + Sync,
 >(
     scope: &Scope<'s, X>,
@@ -197,11 +192,6 @@ fn start_all<
     mut handles: Vec<PromisedHandle<Pass<E>, OfFloor<'s, E>>>,
     mut done: Vec<Pass<E>>,
 ) -> (Vec<PromisedHandle<Pass<E>, OfFloor<'s, E>>>, Vec<Pass<E>>)
-where
-    E: 's,
-    A: 's,
-    M: 's,
-    S: 's,
     requires own { All (λ m. m.pass.gate ≡ floor.now.gate) members.items }
     requires handles { (handles.items ≡ []) × (vec_len members ≤ vec_capacity handles) }
     requires done { (done.items ≡ []) × (vec_len members ≤ vec_capacity done) }
@@ -212,46 +202,16 @@ where
     ensures room { vec_len members ≤ vec_capacity result.1 }
 {
     while let Some(member) = members.pop() {
-        match start(scope, rt, floor, member) {
+        let theirs = move || -> Pass<E>
+            requires { (member.pass.gate ≡ floor.now.gate) × CanAlways A.asks M.asks M.ready S.asks }
+            ensures { result.gate ≡ floor.entry.now.gate }
+        { work(rt, floor, member) };
+        match scope.spawn_with(OfFloor(floor), theirs) {
             Ok(child) => handles.push_reserved(child),
-            Err(pass) => done.push_reserved(pass),
+            Err(refused) => done.push_reserved((refused.value)()),
         }
     }
     (handles, done)
-}
-
-// Starts a thread for the member, or has it work at once where none can be made.
-fn start<
-    's,
-    X,
-    E: Held,
-    A: Act<E, Answer = Went> + Between + Send + Drop,
-    M: Act<E, Answer = Kept> + Build<E> + Send + Drop,
-    S: Act<E, Answer = Kept> + Send + Drop,
-    R: Threads + Wait + Sync,
->(
-    scope: &Scope<'s, X>,
-    rt: &'s R,
-    floor: &'s Floor<E>,
-    member: Member<E, A, M, S>,
-) -> Result<PromisedHandle<Pass<E>, OfFloor<'s, E>>, Pass<E>>
-where
-    E: 's,
-    A: 's,
-    M: 's,
-    S: 's,
-    requires own { member.pass.gate ≡ floor.now.gate }
-    requires can { CanAlways A.asks M.asks M.ready S.asks }
-    ensures { MatchResult result (λ h. h.promise.0.now.gate ≡ floor.now.gate) (λ p. p.gate ≡ floor.now.gate) }
-{
-    let theirs = move || -> Pass<E>
-        requires { (member.pass.gate ≡ floor.now.gate) × CanAlways A.asks M.asks M.ready S.asks }
-        ensures { result.gate ≡ floor.entry.now.gate }
-    { work(rt, floor, member) };
-    match scope.spawn_with(OfFloor(floor), theirs) {
-        Ok(child) => Ok(child),
-        Err(refused) => Err((refused.value)()),
-    }
 }
 
 // Has all members work, one after the other, where no thread's handle can be kept.

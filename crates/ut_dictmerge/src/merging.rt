@@ -2,10 +2,12 @@
 ghost use Rattle.std.specs.Prelude.{◌≡◌, ◌+◌, ◌^◌, ◌<◌, ◌≤◌, length, IfOk};
 ghost use Rattle.ut_dictmerge.specs.Merge.{AreSources, IsMerge};
 
-use crate::cut::Cut;
-use crate::parallel::merge_pieces;
+use crate::cut::{Cut, cuts};
+use crate::joining::join_pieces;
+use crate::parallel::{bases_of, write_at};
 use crate::piece::{Merged, write_piece};
 use std::alloc::{AllocError, Global};
+use std::thread;
 use std::thread::Threads;
 use ut_key::KeyList;
 
@@ -33,7 +35,18 @@ pub fn merge<R: Threads + Sync>(
     if pieces == 1 || a.len() + b.len() < FEW_KEYS {
         return merge_whole(alloc, a, used_a, b, used_b);
     }
-    merge_pieces(rt, alloc, a, used_a, b, used_b, pieces)
+    let all = cuts(alloc, a, b, pieces)?;
+    let cuts = all.as_slice();
+    let count = pieces as usize;
+    let sums = bases_of(rt, alloc, a, used_a, b, used_b, cuts, count)?;
+    let bases = sums.as_slice();
+    let parts = thread::map_indices(
+        rt,
+        alloc,
+        count,
+        &|k: usize| { write_at(alloc, a, used_a, b, used_b, cuts, bases, count, k) },
+    )?;
+    join_pieces(rt, alloc, a, used_a, b, used_b, cuts, parts.as_slice())
 }
 
 /// The merge as one piece.

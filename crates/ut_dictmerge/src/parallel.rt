@@ -1,48 +1,18 @@
-//! A merge in pieces: count each piece, add the counts up, write each piece, lay them end to end.
+//! The pieces of a merge: where the keys of each begin, by their counts, and one of them written.
 ghost use Rattle.std.specs.Prelude.{◌≡◌, ℕ, ◌+◌, ◌^◌, ◌<◌, ◌≤◌, length, IfOk, slice_index, take};
 ghost use Rattle.ut_dictmerge.specs.Merge.{AreSources, IsMerge};
 ghost use Rattle.ut_dictmerge.specs.Cuts.{AreCuts, cut_at};
 ghost use Rattle.ut_dictmerge.specs.Pieces.{IsPart, between, front, total};
 
-use crate::cut::{Cut, cuts};
-use crate::joining::join_pieces;
+use crate::cut::Cut;
 use crate::piece::{Merged, count_piece, write_piece};
 use std::alloc::{AllocError, Global};
 use std::thread;
 use std::thread::Threads;
 use ut_key::KeyList;
 
-/// The merge in so many pieces.
-pub fn merge_pieces<R: Threads + Sync>(
-    rt: &R,
-    alloc: Global,
-    a: &KeyList,
-    used_a: &[bool],
-    b: &KeyList,
-    used_b: &[bool],
-    pieces: u32,
-) -> Result<Merged, AllocError>
-    requires lists { AreSources a.now used_a.now b.now used_b.now }
-    requires room { length a.now + length b.now < 2 ^ 31 }
-    requires pieces { (1 ≤ pieces) × (pieces ≤ 64) }
-    ensures { IfOk result (λ m. IsMerge a.now used_a.now b.now used_b.now m.keys m.from_a.items m.from_b.items) }
-{
-    let all = cuts(alloc, a, b, pieces)?;
-    let cuts = all.as_slice();
-    let count = pieces as usize;
-    let sums = bases_of(rt, alloc, a, used_a, b, used_b, cuts, count)?;
-    let bases = sums.as_slice();
-    let parts = thread::map_indices(
-        rt,
-        alloc,
-        count,
-        &|k: usize| { write_at(alloc, a, used_a, b, used_b, cuts, bases, count, k) },
-    )?;
-    join_pieces(rt, alloc, a, used_a, b, used_b, cuts, parts.as_slice())
-}
-
 /// The place of the first key of each piece.
-fn bases_of<R: Threads + Sync>(
+pub(crate) fn bases_of<R: Threads + Sync>(
     rt: &R,
     alloc: Global,
     a: &KeyList,
@@ -59,34 +29,13 @@ fn bases_of<R: Threads + Sync>(
     ensures count { IfOk result (λ v. length v.items ≡ pieces) }
     ensures bases { IfOk result (λ v. (i : ℕ) → i < pieces → slice_index v.items i ≡ length (front a.now used_a.now b.now used_b.now (cut_at cuts.now i))) }
 {
-    let counts = counts_of(rt, alloc, a, used_a, b, used_b, cuts, pieces)?;
-    sums(alloc, counts.as_slice())
-}
-
-/// How many used keys each piece has.
-fn counts_of<R: Threads + Sync>(
-    rt: &R,
-    alloc: Global,
-    a: &KeyList,
-    used_a: &[bool],
-    b: &KeyList,
-    used_b: &[bool],
-    cuts: &[Cut],
-    pieces: usize,
-) -> Result<Vec<u32>, AllocError>
-    requires lists { AreSources a.now used_a.now b.now used_b.now }
-    requires room { length a.now + length b.now < 2 ^ 31 }
-    requires pieces { 1 ≤ pieces }
-    requires cuts { AreCuts a.now b.now pieces cuts.now }
-    ensures count { IfOk result (λ v. length v.items ≡ pieces) }
-    ensures counts { IfOk result (λ v. (i : ℕ) → i < pieces → slice_index v.items i ≡ length (between a.now used_a.now b.now used_b.now (cut_at cuts.now i) (cut_at cuts.now (i + 1)))) }
-{
-    thread::map_indices(
+    let counts = thread::map_indices(
         rt,
         alloc,
         pieces,
         &|k: usize| { count_at(a, used_a, b, used_b, cuts, pieces, k) },
-    )
+    )?;
+    sums(alloc, counts.as_slice())
 }
 
 /// How many used keys the piece behind cut `k` has.
@@ -125,7 +74,7 @@ fn sums(alloc: Global, counts: &[u32]) -> Result<Vec<u32>, AllocError>
 }
 
 /// The piece behind cut `k`.
-fn write_at(
+pub(crate) fn write_at(
     alloc: Global,
     a: &KeyList,
     used_a: &[bool],

@@ -46,9 +46,6 @@ row-same p q = λ k. record { id = p k; keys = q k }
 
 module _ (ids : List ℕ) (cols news : List (List (List ℕ))) (is : IsDelta ids cols) (rows : List KeyRow) (wide : (i : ℕ) → i < length rows → length (get_or rows i no_row).keys ≡ length cols)
     (same : length news ≡ length cols) (more : (j : ℕ) → j < length cols → get_or news j [] ≡ get_or cols j [] ++ cells_at j rows) where
-  all_ids : List ℕ
-  all_ids = ids ++ map (λ r. r.id) rows
-
   early : (i : ℕ) → i < length ids → row_at (ids ++ map (λ r. r.id) rows) news i ≡ row_at ids cols i
   early i lt = row-same (get_or_append_left ids (map (λ r. r.id) rows) 0 i lt)
       (ext_get_or [] (map (λ c. get_or c i []) news) (map (λ c. get_or c i []) cols) (length-map news (λ c. get_or c i []) ∙ same ∙ sym (length-map cols (λ c. get_or c i []))) (λ j l.

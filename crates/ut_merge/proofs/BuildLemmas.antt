@@ -1,12 +1,13 @@
 -- The new part is of the new rows, and main with it is main behind the merge.
 use Rattle.std.proofs.Common.{◌≡◌, inl, inr, ℕ, ◌+◌, ◌<◌, ◌≤◌, List, [], ◌∷◌, ◌++◌, length, map, get_or, sym, ◌∙◌, ap, subst, arith}
+use Rattle.std.specs.Global.{Vec}
 use Rattle.std.proofs.lemmas.Bool.{cases_lt}
 use Rattle.std.proofs.lemmas.List.{get_or-map, get_or_append_left, get_or_at, get_or_default, ext_get_or, same_lists, length-append, length-map}
 use Rattle.std.proofs.lemmas.List.Sorted.{length_permutation}
 use Rattle.ut_bits.specs.Bits.{AllBelow}
 use Rattle.ut_codes.specs.Reached.{Reached}
 use Rattle.ut_own.specs.Own.{own_dict, cells_of}
-use Rattle.ut_prefix.specs.Chain.{end_to_end}
+use Rattle.ut_prefix.specs.Chain.{end_to_end, shared_dicts}
 use Rattle.ut_prefix.proofs.ChainLemmas.{end_to_end-push}
 use Rattle.ut_l2.specs.KeyRows.{KeyRow, cells_at, key_at, no_row}
 use Rattle.ut_l2.specs.Delta.{row_at, rows_of}
@@ -14,11 +15,14 @@ use Rattle.ut_l2.proofs.DeltaLemmas.{rows-length, row-get}
 use Rattle.ut_main.specs.Columns.{Chain, ColumnValue, no_column, StandsBehind}
 use Rattle.ut_main.specs.Parts.{MainValue, dicts_behind, first_parts, part_value, rows_in, AreWide, IsPart}
 use Rattle.ut_main.proofs.MainLemmas.{length-dicts_behind}
+use Rattle.ut_main.proofs.OwnLemmas.{own-length}
 use Rattle.ut_merge.specs.declared.arranging.NewRows.{NewRows}
 use Rattle.ut_merge.specs.Jobs.{JobValue, kept_olds, kept_rows, main_of, new_rows, row_of, stay_of, IsJob}
-use Rattle.ut_merge.specs.Columns.{main_before, staying_chain, staying_keys, IsColumn}
+use Rattle.ut_merge.specs.Columns.{codes_in, main_before, staying_chain, staying_keys, IsColumn}
 use Rattle.ut_merge.specs.NewRows.{AreColumns, AreNewRows}
-use Rattle.ut_merge.proofs.KeptLemmas.{kept-few, kept-low, rows-olds}
+use Rattle.ut_merge.proofs.GatherLemmas.{coded-size}
+use Rattle.ut_merge.proofs.KeptLemmas.{kept-few, kept-low, rows-olds, staying-le}
+use Rattle.ut_merge.proofs.LayoutLemmas.{staying-few}
 
 -- ---- a column behind those that stay
 
@@ -134,3 +138,51 @@ new-low job new is h = omega (arith, new-count job new h, kept-low job is)
 -- main with the new part
 pub main-built : (job : JobValue) (staying main : MainValue) (rows : List KeyRow) → staying ≡ first_parts (stay_of job) (main_before job) → rows ≡ new_rows job → main ≡ record staying { parts = staying.parts ++ rows ∷ [] } → main ≡ main_of job
 main-built job staying main rows at same e = e ∙ (λ i. record { width = (at i).width; parts = (at i).parts ++ same i ∷ [] })
+
+-- ---- a column, as its dictionary and its codes are read
+
+module _ (job : JobValue) (n : ℕ) (new : NewRows) (staying : MainValue) (is_job : IsJob job) (at : staying ≡ first_parts (stay_of job) (main_before job)) (h : AreNewRows job (new_rows job) new) (lt : n < job.width)
+    (dict : List (List ℕ)) (own : dict ≡ get_or (shared_dicts new.dicts.items) n []) where
+  stays : stay_of job ≤ length job.parts
+  stays = staying-le job.head.kind (length job.parts)
+
+  chain : get_or (dicts_behind staying) n [] ≡ staying_chain job n
+  chain = ap (λ (m : MainValue). get_or (dicts_behind m) n []) at
+
+  few : rows_in staying + length (new_rows job) ≤ 2147483647
+  few = new-few job new staying is_job stays at h
+
+  -- how far its codes may reach
+  module _ (first more : ℕ) (starts : first ≡ length (end_to_end (get_or (dicts_behind staying) n []))) (counts : more ≡ length dict) where
+    start : first ≡ length (staying_keys job n)
+    start = starts ∙ ap (λ (c : Chain). length (end_to_end c)) chain
+
+    pub reach-few : first + more ≤ 2147483647
+    reach-few =
+        let keys = staying-few job n lt stays in
+        let short = own-length (staying_keys job n) (cells_at n (new_rows job)) in
+        omega (arith, start, counts, keys, short, few, ap (λ (l : List (List ℕ)). length l) (own ∙ (h.columns n lt).own), length-map (new_rows job) (key_at n), ap (λ (m : MainValue). rows_in m) at)
+
+  module _ (list : Vec ℕ) (codes : List ℕ) (listed : list ≡ get_or new.codes.items n list) (codes_are : codes ≡ list.items) where
+    here : IsColumn job n (new_rows job) dict codes
+    here =
+        let is : codes ≡ get_or (codes_in new.codes.items) n [] = codes_are ∙ ap (λ (v : Vec ℕ). v.items) listed ∙ sym (get_or-map (λ (v : Vec ℕ). v.items) new.codes.items n list [] (omega (arith, lt, h.codes_count))) in
+        subst (λ (d : List (List ℕ)). IsColumn job n (new_rows job) d codes) (sym own) (subst (λ (l : List ℕ). IsColumn job n (new_rows job) (get_or (shared_dicts new.dicts.items) n []) l) (sym is) (h.columns n lt))
+
+    pub codes-few : rows_in staying + length codes ≤ 2147483647
+    codes-few =
+        let size = coded-size (staying_keys job n ++ dict) (cells_at n (new_rows job)) codes here.coded in
+        omega (arith, size, length-map (new_rows job) (key_at n), few)
+
+    module _ (first more : ℕ) (starts : first ≡ length (end_to_end (get_or (dicts_behind staying) n []))) (counts : more ≡ length dict) where
+      pub codes-below : AllBelow (first + more) codes
+      codes-below =
+          let reach : length (staying_keys job n ++ dict) ≡ first + more = omega (arith, start first more starts counts, counts, length-append (staying_keys job n) dict) in
+          subst (λ m. AllBelow m codes) reach here.coded.below
+
+      module _ (v : Reached) (reach : v.reach ≡ first + more) (same : v.codes ≡ codes) where
+        pub column-stands : StandsBehind (get_or (dicts_behind staying) n []) dict v
+        column-stands = stands job n (new_rows job) dict codes (get_or (dicts_behind staying) n []) v chain here (reach ∙ (λ i. starts i + counts i)) same
+
+        pub column-made : cells_of (end_to_end (get_or (dicts_behind staying) n [] ++ dict ∷ [])) v.codes ≡ cells_at n (new_rows job)
+        column-made = column-cells job n (new_rows job) dict codes (get_or (dicts_behind staying) n []) v chain here (reach ∙ (λ i. starts i + counts i)) same

@@ -17,8 +17,9 @@ use Rattle.std.specs.declared.cmp.Ordering.TheVariants.{Less, Equal, Greater}
 use Rattle.ut_key.specs.Keys.{key_cmp}
 use Rattle.ut_merge.specs.declared.uniting.United.{United}
 use Rattle.ut_merge.specs.Jobs.{JobValue, stay_of, IsJob}
-use Rattle.ut_main.specs.Parts.{dicts_behind}
-use Rattle.ut_merge.specs.Columns.{chain_in, closed_keys, laid_keys, main_before, rebuilt_keys, staying_keys, AreCoded, IsColumn, IsRecoding}
+use Rattle.ut_main.specs.Columns.{Chain}
+use Rattle.ut_main.specs.Parts.{MainValue, dicts_behind}
+use Rattle.ut_merge.specs.Columns.{chain_in, closed_keys, laid_keys, main_before, rebuilt_keys, staying_chain, staying_keys, AreCoded, IsColumn, IsRecoding}
 use Rattle.ut_merge.specs.Uniting.{chosen, chosen_all, new_flags, entries_of, AddsDict, AreFound, IsUnited, IsUpTo}
 use Rattle.ut_merge.proofs.LayoutLemmas.{keys-few, laid-parts, parts-distinct, rebuilt-next}
 use Rattle.ut_merge.proofs.OwnLemmas.{united-leads, united-own}
@@ -123,6 +124,24 @@ module _ (job : JobValue) (column : ℕ) (wide : column < job.width) (stays : st
 
   pub main-size : length (end_to_end (get_or (dicts_behind (main_before job)) column [])) ≡ length (staying_keys job column) + length (rebuilt_keys job column (length job.parts))
   main-size = omega (arith, laid-size, length-append (end_to_end (get_or (dicts_behind (main_before job)) column [])) (closed_keys job column))
+
+-- ---- how many keys there are
+
+-- of the keys that stay, of all in main, and of the closed stage there are so many
+pub record AreCounted (job : JobValue) (column first total last : ℕ) : Type 0 where
+  pub stay : first ≡ length (staying_keys job column)
+  pub all : total ≡ length (staying_keys job column) + length (rebuilt_keys job column (length job.parts))
+  pub others : total - first ≡ length (rebuilt_keys job column (length job.parts))
+  pub closed : last ≡ length (closed_keys job column)
+  pub laid : length (laid_keys job column) ≡ first + (total - first + last)
+
+pub keys-counted : (job : JobValue) (column : ℕ) → column < job.width → stay_of job ≤ length job.parts → (chain : Chain) (main : MainValue) (keys : List (List ℕ)) (first total last : ℕ) → chain ≡ staying_chain job column → main ≡ main_before job → keys ≡ closed_keys job column
+    → first ≡ length (end_to_end chain) → total ≡ length (end_to_end (get_or (dicts_behind main) column [])) → last ≡ length keys → AreCounted job column first total last
+keys-counted job column wide stays chain main keys first total last chain_is main_is keys_are first_is total_is last_is =
+    let stay : first ≡ length (staying_keys job column) = first_is ∙ ap (λ (l : Chain). length (end_to_end l)) chain_is in
+    let all : total ≡ length (staying_keys job column) + length (rebuilt_keys job column (length job.parts)) = total_is ∙ ap (λ (m : MainValue). length (end_to_end (get_or (dicts_behind m) column []))) main_is ∙ main-size job column wide stays in
+    let closed : last ≡ length (closed_keys job column) = last_is ∙ ap (λ (l : List (List ℕ)). length l) keys_are in
+    record { stay = stay; all = all; others = omega (arith, stay, all); closed = closed; laid = omega (arith, laid-size job column wide stays, stay, all, closed) }
 
 -- ---- marks
 

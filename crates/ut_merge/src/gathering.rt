@@ -101,36 +101,8 @@ fn join(alloc: Global, lists: &[Vec<u32>], count: usize) -> Result<Vec<u32>, All
     Ok(codes)
 }
 
-/// The codes at old places, which are cut into so many pieces. Each piece may have a thread of its
-/// own.
-fn gather_pieces<R: Threads + Sync>(
-    rt: &R,
-    alloc: Global,
-    sources: &Sources<'_>,
-    olds: &[Old],
-    pieces: u32,
-) -> Result<Vec<u32>, AllocError>
-    requires are { HasCodes sources.now }
-    requires places { All (IsOld sources.now.job.now) olds.now }
-    requires few { length olds.now ≤ 2147483647 }
-    requires pieces { 1 ≤ pieces }
-    ensures { IfOk result (λ codes. AreGathered sources.now olds.now codes.items) }
-{
-    let lists = olds
-        .par_chunks(olds.len() / pieces as usize + 1)
-        .map(
-            |piece: &[Old]| -> Result<Vec<u32>, AllocError>
-                requires are { HasCodes sources.now }
-                requires places { All (IsOld sources.now.job.now) piece.now }
-                ensures { IfOk result (λ codes. AreGathered sources.entry.now piece.now codes.items) }
-            { codes_at(alloc, sources, piece) },
-        )
-        .collect::<Result<Vec<Vec<u32>>, AllocError>>(rt, alloc)??;
-    join(alloc, lists.as_slice(), olds.len())
-}
-
-/// The codes at old places, in the order of these. The list is the same for every number of
-/// pieces.
+/// The codes at old places, in the order of these, in so many pieces, each of which may have a
+/// thread of its own. The list is the same for every number of pieces.
 pub(crate) fn gather<R: Threads + Sync>(
     rt: &R,
     alloc: Global,
@@ -147,5 +119,15 @@ pub(crate) fn gather<R: Threads + Sync>(
     if pieces == 1 || olds.len() < FEW_ROWS {
         return codes_at(alloc, sources, olds);
     }
-    gather_pieces(rt, alloc, sources, olds, pieces)
+    let lists = olds
+        .par_chunks(olds.len() / pieces as usize + 1)
+        .map(
+            |piece: &[Old]| -> Result<Vec<u32>, AllocError>
+                requires are { HasCodes sources.now }
+                requires places { All (IsOld sources.now.job.now) piece.now }
+                ensures { IfOk result (λ codes. AreGathered sources.entry.now piece.now codes.items) }
+            { codes_at(alloc, sources, piece) },
+        )
+        .collect::<Result<Vec<Vec<u32>>, AllocError>>(rt, alloc)??;
+    join(alloc, lists.as_slice(), olds.len())
 }

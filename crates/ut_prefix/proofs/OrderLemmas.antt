@@ -62,12 +62,6 @@ absent keys key place below above h =
     greater_equal : Greater ≡ Equal → ⊥
     greater_equal e = cc
 
-pub equal_less : Equal ≡ Less → ⊥
-equal_less e = cc
-
-pub greater_less : Greater ≡ Less → ⊥
-greater_less e = cc
-
 -- what holds of either answer
 pub either : {P : Type 0} (b : Bool) → (b ≡ true → P) → (b ≡ false → P) → P
 either true f g = f refl

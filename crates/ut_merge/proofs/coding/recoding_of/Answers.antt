@@ -8,7 +8,7 @@ use Rattle.ut_prefix.specs.Chain.{end_to_end}
 use Rattle.ut_unsorted.specs.FirstSeen.{first_seen}
 use Rattle.ut_merge.specs.Columns.{closed_keys, laid_keys, rebuilt_keys, staying_keys}
 use Rattle.ut_merge.specs.Uniting.{new_flags, entries_of, AreFound, IsUpTo}
-use Rattle.ut_merge.proofs.CodingLemmas.{laid-size, main-size, marks-are, places-few, recoding-is}
+use Rattle.ut_merge.proofs.CodingLemmas.{keys-counted, main-size, marks-are, places-few, recoding-is}
 use Rattle.ut_merge.proofs.KeptLemmas.{staying-le}
 use Rattle.ut_merge.proofs.LayoutLemmas.{keys-few}
 use Rattle.ut_merge.proofs.OwnLemmas.{length-new_flags, length-places}
@@ -30,12 +30,10 @@ overflow_add-rebuilt g c =
     let column = c.args.column in
     let le = staying-le job.head.kind (length job.parts) in
     let chain = c.in_ok-chain.ensures.dicts ∙ ap (λ (m : MainValue). get_or (dicts_behind m) column []) c.requires.staying in
-    let stay = c.len.ensures.len ∙ ap (λ (l : Chain). length (end_to_end l)) chain in
-    let all = c.keys_in.ensures ∙ ap (λ (m : MainValue). length (end_to_end (get_or (dicts_behind m) column []))) c.main.ensures ∙ main-size job column c.requires.column le in
     let keys = c.dict-closed.ensures.keys ∙ ap (λ (l : Delta). first_seen (cells_at column l.rows)) c.closed.ensures in
-    let closed = c.len-3.ensures ∙ ap (λ (l : List (List ℕ)). length l) keys in
+    let counted = keys-counted job column c.requires.column le c.in_ok-chain.chain c.main.result.now c.dict-closed.result.now c.len.result c.keys_in.result c.len-3.result chain c.main.ensures keys c.len.ensures.len c.keys_in.ensures c.len-3.ensures in
     let few = keys-few job column c.requires.column le c.requires.job in
-    omega (arith, stay, all, closed, few)
+    omega (arith, counted.stay, counted.all, counted.closed, few)
 
 pub mark_used-requires : goal.mark_used-requires
 mark_used-requires g c =
@@ -43,11 +41,9 @@ mark_used-requires g c =
     let column = c.args.column in
     let le = staying-le job.head.kind (length job.parts) in
     let chain = c.in_ok-chain.ensures.dicts ∙ ap (λ (m : MainValue). get_or (dicts_behind m) column []) c.requires.staying in
-    let stay = c.len.ensures.len ∙ ap (λ (l : Chain). length (end_to_end l)) chain in
-    let all = c.keys_in.ensures ∙ ap (λ (m : MainValue). length (end_to_end (get_or (dicts_behind m) column []))) c.main.ensures ∙ main-size job column c.requires.column le in
     let keys = c.dict-closed.ensures.keys ∙ ap (λ (l : Delta). first_seen (cells_at column l.rows)) c.closed.ensures in
-    let closed = c.len-3.ensures ∙ ap (λ (l : List (List ℕ)). length l) keys in
-    let size : length (laid_keys job column) ≡ c.len-2.result + (c.keys_in.result - c.len.result + c.len-3.result) = omega (arith, laid-size job column c.requires.column le, stay, c.len-2.ensures.len, c.len.ensures.len, all, closed) in
+    let counted = keys-counted job column c.requires.column le c.in_ok-chain.chain c.main.result.now c.dict-closed.result.now c.len.result c.keys_in.result c.len-3.result chain c.main.ensures keys c.len.ensures.len c.keys_in.ensures c.len-3.ensures in
+    let size : length (laid_keys job column) ≡ c.len-2.result + (c.keys_in.result - c.len.result + c.len-3.result) = omega (arith, counted.laid, c.len-2.ensures.len, c.len.ensures.len) in
     subst (λ n. AllBelow n c.args.codes.now) size c.requires.codes
 
 pub own_keys-requires-clause-new : goal.own_keys-requires-clause-new
@@ -56,13 +52,10 @@ own_keys-requires-clause-new g c κs within =
     let column = c.args.column in
     let le = staying-le job.head.kind (length job.parts) in
     let chain = c.in_ok-chain.ensures.dicts ∙ ap (λ (m : MainValue). get_or (dicts_behind m) column []) c.requires.staying in
-    let stay = c.len.ensures.len ∙ ap (λ (l : Chain). length (end_to_end l)) chain in
-    let all = c.keys_in.ensures ∙ ap (λ (m : MainValue). length (end_to_end (get_or (dicts_behind m) column []))) c.main.ensures ∙ main-size job column c.requires.column le in
     let keys = c.dict-closed.ensures.keys ∙ ap (λ (l : Delta). first_seen (cells_at column l.rows)) c.closed.ensures in
-    let closed = c.len-3.ensures ∙ ap (λ (l : List (List ℕ)). length l) keys in
-    let others : c.keys_in.result - c.len.result ≡ length (rebuilt_keys job column (length job.parts)) = omega (arith, stay, all) in
+    let counted = keys-counted job column c.requires.column le c.in_ok-chain.chain c.main.result.now c.dict-closed.result.now c.len.result c.keys_in.result c.len-3.result chain c.main.ensures keys c.len.ensures.len c.keys_in.ensures c.len-3.ensures in
     let marks =
-    marks-are job column c.args.codes.now c.in_ok-used.used.items c.split_at.result.0.now c.split_at.result.1.now c.len-2.result (c.keys_in.result - c.len.result) c.len-3.result (c.len-2.ensures.len ∙ ap (λ (l : Chain). length (end_to_end l)) chain) others closed
+    marks-are job column c.args.codes.now c.in_ok-used.used.items c.split_at.result.0.now c.split_at.result.1.now c.len-2.result (c.keys_in.result - c.len.result) c.len-3.result (c.len-2.ensures.len ∙ ap (λ (l : Chain). length (end_to_end l)) chain) counted.others counted.closed
     c.in_ok-used.ensures.count c.in_ok-used.ensures.marks (sym c.as_slice.ensures.value ∙ c.split_at.ensures.by_index.0) c.split_at.ensures.front_len in
     ap (λ (l : List Bool). length l) (c.as_slice-2.ensures.value ∙ c.in_ok-sought.ensures.new)
     ∙ length-new_flags (end_to_end c.in_ok-chain.chain) c.dict-closed.result.now c.split_at.result.1.now (marks.closed_count ∙ ap (λ (l : List (List ℕ)). length l) (sym keys)) ∙ ap (λ (l : List (List ℕ)). length l) keys
@@ -93,13 +86,10 @@ entries_of-requires-clause-found g c =
     let column = c.args.column in
     let le = staying-le job.head.kind (length job.parts) in
     let chain = c.in_ok-chain.ensures.dicts ∙ ap (λ (m : MainValue). get_or (dicts_behind m) column []) c.requires.staying in
-    let stay = c.len.ensures.len ∙ ap (λ (l : Chain). length (end_to_end l)) chain in
-    let all = c.keys_in.ensures ∙ ap (λ (m : MainValue). length (end_to_end (get_or (dicts_behind m) column []))) c.main.ensures ∙ main-size job column c.requires.column le in
     let keys = c.dict-closed.ensures.keys ∙ ap (λ (l : Delta). first_seen (cells_at column l.rows)) c.closed.ensures in
-    let closed = c.len-3.ensures ∙ ap (λ (l : List (List ℕ)). length l) keys in
-    let others : c.keys_in.result - c.len.result ≡ length (rebuilt_keys job column (length job.parts)) = omega (arith, stay, all) in
+    let counted = keys-counted job column c.requires.column le c.in_ok-chain.chain c.main.result.now c.dict-closed.result.now c.len.result c.keys_in.result c.len-3.result chain c.main.ensures keys c.len.ensures.len c.keys_in.ensures c.len-3.ensures in
     let marks =
-    marks-are job column c.args.codes.now c.in_ok-used.used.items c.split_at.result.0.now c.split_at.result.1.now c.len-2.result (c.keys_in.result - c.len.result) c.len-3.result (c.len-2.ensures.len ∙ ap (λ (l : Chain). length (end_to_end l)) chain) others closed
+    marks-are job column c.args.codes.now c.in_ok-used.used.items c.split_at.result.0.now c.split_at.result.1.now c.len-2.result (c.keys_in.result - c.len.result) c.len-3.result (c.len-2.ensures.len ∙ ap (λ (l : Chain). length (end_to_end l)) chain) counted.others counted.closed
     c.in_ok-used.ensures.count c.in_ok-used.ensures.marks (sym c.as_slice.ensures.value ∙ c.split_at.ensures.by_index.0) c.split_at.ensures.front_len in
     let united = c.in_ok-united.ensures in
     let flags =
@@ -114,13 +104,10 @@ returns g c =
     let column = c.args.column in
     let le = staying-le job.head.kind (length job.parts) in
     let chain = c.in_ok-chain.ensures.dicts ∙ ap (λ (m : MainValue). get_or (dicts_behind m) column []) c.requires.staying in
-    let stay = c.len.ensures.len ∙ ap (λ (l : Chain). length (end_to_end l)) chain in
-    let all = c.keys_in.ensures ∙ ap (λ (m : MainValue). length (end_to_end (get_or (dicts_behind m) column []))) c.main.ensures ∙ main-size job column c.requires.column le in
     let keys = c.dict-closed.ensures.keys ∙ ap (λ (l : Delta). first_seen (cells_at column l.rows)) c.closed.ensures in
-    let closed = c.len-3.ensures ∙ ap (λ (l : List (List ℕ)). length l) keys in
-    let others : c.keys_in.result - c.len.result ≡ length (rebuilt_keys job column (length job.parts)) = omega (arith, stay, all) in
+    let counted = keys-counted job column c.requires.column le c.in_ok-chain.chain c.main.result.now c.dict-closed.result.now c.len.result c.keys_in.result c.len-3.result chain c.main.ensures keys c.len.ensures.len c.keys_in.ensures c.len-3.ensures in
     let marks =
-    marks-are job column c.args.codes.now c.in_ok-used.used.items c.split_at.result.0.now c.split_at.result.1.now c.len-2.result (c.keys_in.result - c.len.result) c.len-3.result (c.len-2.ensures.len ∙ ap (λ (l : Chain). length (end_to_end l)) chain) others closed
+    marks-are job column c.args.codes.now c.in_ok-used.used.items c.split_at.result.0.now c.split_at.result.1.now c.len-2.result (c.keys_in.result - c.len.result) c.len-3.result (c.len-2.ensures.len ∙ ap (λ (l : Chain). length (end_to_end l)) chain) counted.others counted.closed
     c.in_ok-used.ensures.count c.in_ok-used.ensures.marks (sym c.as_slice.ensures.value ∙ c.split_at.ensures.by_index.0) c.split_at.ensures.front_len in
     let used = c.split_at.result.1.now in
     let found = c.in_ok-sought.sought.found.items in

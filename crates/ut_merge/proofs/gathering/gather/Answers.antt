@@ -1,4 +1,4 @@
-use Rattle.std.proofs.Common.{◌≡◌, ◌∙◌, ◌<◌, ℕ, List, All, flat_map, max, sym, ap, subst, arith}
+use Rattle.std.proofs.Common.{◌∙◌, ◌<◌, ℕ, List, All, flat_map, max, sym, ap, subst, arith}
 use Rattle.std.specs.Global.{Vec}
 use Rattle.std.specs.List.{AllZip}
 use Rattle.rayon.proofs.ListFacts.{IfOk-then}
@@ -8,7 +8,7 @@ use Rattle.ut_merge.specs.declared.old.Old.{Old}
 use Rattle.ut_merge.specs.Gathering.{AreGathered}
 use Rattle.ut_merge.specs.Places.{IsOld}
 use Rattle.ut_merge.proofs.PieceLemmas.{each-chunk, pieces-gathered, PieceIs}
-use Rattle.ut_merge.proofs.gathering.gather_pieces.Goals as goal
+use Rattle.ut_merge.proofs.gathering.gather.Goals as goal
 
 pub collect-requires-clause-ready : goal.collect-requires-clause-ready
 collect-requires-clause-ready g c κs within =
