@@ -1,6 +1,8 @@
-//! Checks of a table: the parts of main, scans, merges, and a small table with rows in each stage.
+//! Checks of a table: the parts of main, scans, the stamps of a part, merges, and a small table with rows in each stage.
 #![tactic(auto)]
 
+#[cfg(test)]
+mod joint;
 #[cfg(test)]
 mod merge;
 #[cfg(test)]

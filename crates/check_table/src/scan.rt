@@ -42,7 +42,7 @@ const WANTED: [(Cmp, &[u32]); 6] = [
 ];
 
 /// The stamp of a row that was there at the opening.
-const OLD: Stamp = Stamp {
+pub(crate) const OLD: Stamp = Stamp {
     begin: 0,
     end: None,
 };
@@ -128,7 +128,7 @@ fn main_of(rt: &impl Abort, alloc: Global) -> Result<Main, Fail>
 }
 
 /// The stamps of rows that were there at the opening.
-fn stamps(alloc: Global, n: u32) -> Result<Vec<Stamp>, AllocError>
+pub(crate) fn stamps(alloc: Global, n: u32) -> Result<Vec<Stamp>, AllocError>
     ensures { IfOk result (λ stamps. length stamps.items ≡ n) }
 {
     let mut stamps = Vec::new(alloc);

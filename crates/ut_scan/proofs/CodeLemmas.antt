@@ -30,7 +30,7 @@ use Rattle.ut_scan.specs.StageRows.{scan_steps}
 -- ---- the keys of all dictionaries
 
 -- the keys of a column in the first parts, so many
-abbrev keys_first : MainValue → ℕ → ℕ → List (List ℕ)
+abbrev pub keys_first : MainValue → ℕ → ℕ → List (List ℕ)
 keys_first main j n = end_to_end (get_or (dicts_behind (first_parts n main)) j [])
 
 -- they are the first of those in more parts

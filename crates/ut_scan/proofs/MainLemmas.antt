@@ -1,5 +1,5 @@
 -- The rows of main that a scan finds, part by part.
-use Rattle.std.proofs.Common.{◌≡◌, ℕ, zero, suc, ◌+◌, ◌<◌, Bool, true, false, ◌&&◌, List, [], ◌∷◌, ◌++◌, length, map, filter, take, get_or, All, Option, refl, sym, ◌∙◌, ap, arith}
+use Rattle.std.proofs.Common.{◌≡◌, ℕ, zero, suc, ◌+◌, ◌<◌, Bool, true, false, ◌&&◌, List, [], ◌∷◌, ◌++◌, length, map, filter, take, get_or, All, Option, refl, sym, ◌∙◌, ap, subst, arith}
 use Rattle.std.proofs.lemmas.List.{length-map, get_or-map, flat_map_more}
 use Rattle.std.proofs.lemmas.List.FromFn.{length-range_with_len, get_or-map-range_with_len}
 use Rattle.std.proofs.lemmas.List.Folds.{list_all_more}
@@ -21,11 +21,13 @@ use Rattle.ut_scan.specs.declared.place.ColumnPred.{ColumnPred}
 use Rattle.ut_scan.specs.declared.place.Found.{Found}
 use Rattle.ut_scan.specs.Coded.{AreCoded, code_at, codes_in, held_mask, held_places, is_held, seen_at, standing}
 use Rattle.ut_scan.specs.declared.probe.Viewer.{Viewer}
+use Rattle.ut_scan.specs.declared.parts.PartProbe.{PartProbe}
+use Rattle.ut_scan.specs.PartProbes.{IsProbeOf}
 use Rattle.ut_scan.specs.Probes.{is_seen}
 use Rattle.ut_scan.specs.Finds.{all_places, found_at, found_in, is_hit}
 use Rattle.ut_scan.specs.StampLists.{no_stamp}
-use Rattle.ut_scan.specs.StageRows.{AreStampedParts}
-use Rattle.ut_scan.proofs.CodeLemmas.{IsPartOf, held-passes}
+use Rattle.ut_scan.specs.StageRows.{found_in_part, AreStampedParts}
+use Rattle.ut_scan.proofs.CodeLemmas.{IsPartOf, held-passes, part-width}
 use Rattle.ut_scan.proofs.RangeLemmas.{filter-both, filter-none, places-filter}
 
 -- a part has as many stamps as rows
@@ -51,6 +53,30 @@ part-found main preds coded p part fates snapshot own stamps h columns at =
     (λ i low high. ap (λ b. b && seen i) (sym (held-passes main preds coded p part i h columns at (omega (arith, high)))))
     )
     ∙ ap (λ (rows : List KeyRow). found_in fates snapshot own preds (Main p) rows stamps) at.rows
+
+-- a part that is read among main's
+module _ (main : MainValue) (p : ℕ) (part : PartValue) (at : IsPartOf main p part) where
+  -- it has as many stamps as rows
+  pub part-stamped : (all : List (List Stamp)) (stamps : List Stamp) → AreStampedParts main.parts all → stamps ≡ get_or all p [] → length stamps ≡ length part.rows
+  part-stamped all stamps h is =
+      ap (λ (l : List Stamp). length l) is ∙ (stamps-at main.parts all p h at.there).1 ∙ sym (ap (λ (l : List KeyRow). length l) at.rows)
+
+  -- it has the columns of main's comparisons
+  pub part-columns : (coded : List CodedPred) → All (λ (q : CodedPred). q.column < main.width) coded → All (λ (q : CodedPred). q.column < length part.before) coded
+  part-columns coded h = subst (λ n. All (λ (q : CodedPred). q.column < n) coded) (sym (part-width main p part at)) h
+
+-- a probe of a part of main
+module _ (v : Viewer) (read : List CodedPred) (main : MainValue) (all : List (List Stamp)) (p : ℕ) (probe : PartProbe) (h : IsProbeOf v read main all p probe) (there : p < length main.parts) where
+  pub probe-part : IsPartOf main p probe.part.now
+  probe-part = record { there = there; rows = h.rows; before = h.before }
+
+  -- what it finds
+  pub probe-seen : (preds : List ColumnPred) (coded : List CodedPred) → read ≡ coded → AreCoded main preds coded → All (λ q. q.column < main.width) preds
+      → seen_at probe.viewer.now probe.number probe.part.now.rows probe.stamps.now (held_places probe.coded.now probe.part.now) ≡ found_in_part v.fates.now v.snapshot v.own preds main.parts all p
+  probe-seen preds coded is exact columns =
+      let part = probe.part.now in
+      (λ i. seen_at (h.viewer i) (h.number i) part.rows (h.stamps i) (held_places ((h.coded ∙ is) i) part))
+      ∙ part-found main preds coded p part v.fates.now v.snapshot v.own (get_or all p []) exact columns probe-part
 
 range-more : (a n : ℕ) → range_with_len a n ++ (a + n) ∷ [] ≡ range_with_len a (n + 1)
 range-more a zero = let e : a + 0 ≡ a = omega arith in rw e refl

@@ -1,5 +1,5 @@
 -- Candidates that one comparison picks, and the test of the others.
-use Rattle.std.proofs.Common.{◌≡◌, ℕ, zero, suc, ◌+◌, ◌<◌, Bool, true, false, cond, ◌&&◌, List, [], ◌∷◌, ◌++◌, length, map, filter, get_or, take, drop, if◌then◌else◌, ap, sym, ◌∙◌, arith, refl}
+use Rattle.std.proofs.Common.{◌≡◌, ℕ, zero, suc, ◌+◌, ◌<◌, Bool, true, false, cond, ◌&&◌, List, [], ◌∷◌, ◌++◌, length, map, filter, get_or, take, drop, if◌then◌else◌, ap, sym, ◌∙◌, subst, arith, refl}
 use Rattle.std.specs.List.{range_with_len, list_all}
 use Rattle.std.specs.Cmp.Lexicographic.{nat_list_eq_equiv}
 use Rattle.std.proofs.lemmas.List.{get_or-map, length-map, take-append-drop}
@@ -13,7 +13,7 @@ use Rattle.ut_l2.specs.Cells.{cells_of}
 use Rattle.ut_l2.specs.Places.{places_from, places_where}
 use Rattle.ut_l2.specs.KeyRows.{KeyRow, key_at, cells_at, no_row}
 use Rattle.ut_scan.specs.declared.place.ColumnPred.{ColumnPred}
-use Rattle.ut_scan.specs.Finds.{passes}
+use Rattle.ut_scan.specs.Finds.{meets_at, passes}
 
 module _ (T U : ℕ → Bool) where
   pub same-filter : (a n : ℕ) → ((i : ℕ) → T i ≡ U i) → filter T (range_with_len a n) ≡ filter U (range_with_len a n)
@@ -89,3 +89,18 @@ places-within t i (x ∷ xs) k d l = by (places-within t (i + 1) xs) (t x) k l
     by rec true zero h = omega arith
     by rec true (suc k) h = omega (arith, rec k d (omega (arith, h)))
     by rec false k h = omega (arith, rec k d h)
+
+-- ---- an equality, by the places of its key
+
+pub equal-within : (rows : List KeyRow) (column : ℕ) (key : List ℕ) (places : List ℕ) → places ≡ places_where (key_eq key) (cells_at column rows) → (k d : ℕ) → k < length places → get_or places k d < length rows
+equal-within rows column key places is =
+    subst (λ l. (k d : ℕ) → k < length l → get_or l k d < length rows) (sym is)
+    (λ k d l. omega (arith, places-within (key_eq key) 0 (cells_at column rows) k d l, length-map rows (key_at column)))
+
+pub equal-picked : (rows : List KeyRow) (pred : ColumnPred) (key : List ℕ) (places : List ℕ) (rest : ℕ → Bool) → pred.op ≡ Eq → key ≡ pred.key → places ≡ places_where (key_eq key) (cells_at pred.column rows)
+    → filter rest places ≡ filter (λ i. meets_at pred rows i && rest i) (range_with_len 0 (length rows))
+equal-picked rows pred key places rest equality key_is is =
+    let cell = λ (i : ℕ). key_at pred.column (get_or rows i no_row) in
+    let tells = λ (i : ℕ).
+    ap (λ op. meets op pred.key (cell i) && rest i) equality ∙ ap (λ b. b && rest i) (meets-Eq pred.key (cell i)) ∙ ap (λ k. key_eq k (cell i) && rest i) (sym key_is) in
+    ap (filter rest) is ∙ picked-cells (λ i. meets_at pred rows i && rest i) rest rows pred.column (key_eq key) tells

@@ -24,6 +24,3 @@ pub use stages::Stages;
 pub use stamp_table::StampTable;
 pub use table::scan;
 pub use tallying::{CodeTally, tally};
-
-#[cfg(test)]
-mod tests;

@@ -5,25 +5,24 @@ ghost use Rattle.ut_scan.specs.Finds.{all_places};
 ghost use Rattle.ut_scan.specs.Probes.{found_in_main};
 ghost use Rattle.ut_scan.specs.StageRows.{scan_steps, AreStampedParts};
 
-use crate::coded::{CodedPred, coded_preds};
-use crate::part_stamps::PartStamps;
-use crate::parts::{PartProbe, joint_sight};
+use crate::coded::coded_preds;
+use crate::parts::PartProbe;
 use crate::place::ColumnPred;
 use crate::probe::Viewer;
 use crate::stamp_table::StampTable;
 use std::alloc::{AllocError, Global};
 use std::sync::ledger::Ledger;
 use ut_key::Steps;
-use ut_main::{Main, Part};
+use ut_main::Main;
 use ut_mask::Mask;
 
 /// How many rows of main are seen and meet each comparison.
-pub fn count_parts<L: Ledger>(
+pub fn count_parts<'a, L: Ledger>(
     alloc: Global,
-    viewer: &Viewer<'_>,
+    viewer: &'a Viewer<'a>,
     preds: &[ColumnPred],
-    main: &Main,
-    stamps: &StampTable,
+    main: &'a Main,
+    stamps: &'a StampTable,
     steps: &mut Steps<L>,
 ) -> Result<u64, AllocError>
     requires columns { All (λ p. p.column < main.now.width) preds.now }
@@ -39,52 +38,33 @@ pub fn count_parts<L: Ledger>(
     let coded = coded_preds(alloc, main, preds, steps)?;
     let mut count: u64 = 0;
     for number in 0..main.parts() {
-        let part = main.part(number);
-        let stamps = stamps.part(number);
-        let more = count_part(alloc, viewer, coded.as_slice(), number, part, stamps)?;
+        let probe = PartProbe::of(viewer, coded.as_slice(), main, stamps, number);
+        let more = probe.count(alloc)?;
         count += u64::from(more);
     }
     Ok(count)
 }
 
-/// How many of the part's rows are seen and meet each comparison.
-fn count_part(
-    alloc: Global,
-    viewer: &Viewer<'_>,
-    coded: &[CodedPred],
-    number: u8,
-    part: &Part,
-    stamps: &PartStamps,
-) -> Result<u32, AllocError>
-    requires stamped { length stamps.now ≡ length part.now.rows }
-    requires columns { All (λ c. c.column < length part.now.before) coded.now }
-    ensures { let held = held_places coded.now part.now in
-        IfOk result (λ count. count
-        ≡ length (seen_at viewer.now number part.now.rows stamps.now held)) }
-{
-    let seen = joint_sight(viewer, stamps);
-    if let Some(false) = seen {
-        return Ok(0);
+impl PartProbe<'_, '_> {
+    /// How many of the part's rows are seen and meet each comparison.
+    fn count(&self, alloc: Global) -> Result<u32, AllocError>
+        ensures { let p = self.now in let held = held_places p.coded.now p.part.now in
+            IfOk result (λ count. count
+            ≡ length (seen_at p.viewer.now p.number p.part.now.rows p.stamps.now held)) }
+    {
+        if self.is_hidden() {
+            return Ok(0);
+        }
+        if self.coded.is_empty() {
+            return Ok(self.count_all());
+        }
+        if self.is_out() {
+            return Ok(0);
+        }
+        let mask = self.held(alloc)?;
+        Ok(self.count_standing(&mask))
     }
-    let probe = PartProbe {
-        viewer,
-        coded,
-        number,
-        part,
-        stamps,
-        seen,
-    };
-    if coded.is_empty() {
-        return Ok(probe.count_all());
-    }
-    if probe.is_out() {
-        return Ok(0);
-    }
-    let mask = probe.held(alloc)?;
-    Ok(probe.count_standing(&mask))
-}
 
-impl PartProbe<'_> {
     /// How many rows are seen.
     fn count_all(&self) -> u32
         ensures { let p = self.now in let rows = p.part.now.rows in

@@ -71,7 +71,7 @@ impl PartStamps {
     }
 
     /// The stamp that all of them are, where that is known.
-    pub(crate) fn joint(&self) -> Option<Stamp>
+    pub fn joint(&self) -> Option<Stamp>
         ensures { IfSome result (λ stamp. self.now ≡ replicate (length self.now) stamp) }
     {
         self.joint

@@ -1,15 +1,14 @@
 //! How often each code of a column occurs in the rows of main's parts that a scan finds.
-ghost use Rattle.std.specs.Prelude.{◌≡◌, ℕ, ◌+◌, ◌<◌, ◌≤◌, ◌^◌, [], ◌∷◌, length, map, get_or, All, IfOk, OnOk};
+ghost use Rattle.std.specs.Prelude.{◌≡◌, ℕ, ◌+◌, ◌<◌, ◌≤◌, ◌^◌, [], ◌∷◌, length, get_or, All, IfOk, OnOk};
 ghost use Rattle.ut_bits.specs.Bits.{AllBelow};
-ghost use Rattle.ut_scan.specs.Coded.{code_at, codes_in, held_places, keys_in, standing};
+ghost use Rattle.ut_scan.specs.Coded.{held_places, keys_in, standing};
 ghost use Rattle.ut_scan.specs.Finds.{all_places};
 ghost use Rattle.ut_scan.specs.Probes.{found_in_main};
 ghost use Rattle.ut_scan.specs.StageRows.{scan_steps, AreStampedParts};
 ghost use Rattle.ut_scan.specs.Tallies.{seen_codes, AreMore, HasRoom, Tallies};
 
-use crate::coded::{CodedPred, all_dicts, coded_preds};
-use crate::part_stamps::PartStamps;
-use crate::parts::{PartProbe, joint_sight};
+use crate::coded::{all_dicts, coded_preds};
+use crate::parts::PartProbe;
 use crate::place::ColumnPred;
 use crate::probe::Viewer;
 use crate::stamp_table::StampTable;
@@ -17,17 +16,17 @@ use std::alloc::{AllocError, Global};
 use std::sync::ledger::Ledger;
 use ut_codes::{CodeVec, Form};
 use ut_key::Steps;
-use ut_main::{Main, Part};
+use ut_main::Main;
 use ut_mask::Mask;
 
 /// For each code of a column of main, how many of the rows that are seen and meet each comparison
 /// have it.
-pub fn tally_parts<L: Ledger>(
+pub fn tally_parts<'a, L: Ledger>(
     alloc: Global,
-    viewer: &Viewer<'_>,
+    viewer: &'a Viewer<'a>,
     preds: &[ColumnPred],
-    main: &Main,
-    stamps: &StampTable,
+    main: &'a Main,
+    stamps: &'a StampTable,
     column: u8,
     steps: &mut Steps<L>,
 ) -> Result<Vec<u32>, AllocError>
@@ -45,11 +44,8 @@ pub fn tally_parts<L: Ledger>(
     let coded = coded_preds(alloc, main, preds, steps)?;
     let mut counts = no_counts(alloc, main, column)?;
     for number in 0..main.parts() {
-        let part = main.part(number);
-        let stamps = stamps.part(number);
-        let coded = coded.as_slice();
-        let counts = counts.as_mut_slice();
-        tally_part(alloc, viewer, coded, number, part, stamps, column, counts)?;
+        let probe = PartProbe::of(viewer, coded.as_slice(), main, stamps, number);
+        probe.tally(alloc, column, counts.as_mut_slice())?;
     }
     Ok(counts)
 }
@@ -68,48 +64,29 @@ fn no_counts(alloc: Global, main: &Main, column: u8) -> Result<Vec<u32>, AllocEr
     Ok(counts)
 }
 
-/// Counts the codes of the part's rows that are seen and meet each comparison.
-fn tally_part(
-    alloc: Global,
-    viewer: &Viewer<'_>,
-    coded: &[CodedPred],
-    number: u8,
-    part: &Part,
-    stamps: &PartStamps,
-    column: u8,
-    counts: &mut [u32],
-) -> Result<(), AllocError>
-    requires stamped { length stamps.now ≡ length part.now.rows }
-    requires columns { All (λ c. c.column < length part.now.before) coded.now }
-    requires column { column < length part.now.before }
-    requires room { HasRoom part.now column counts.old }
-    ensures { let held = held_places coded.now part.now in
-        OnOk result (AreMore (seen_codes viewer.now part.now column stamps.now held) counts.old counts.new) }
-{
-    let seen = joint_sight(viewer, stamps);
-    if let Some(false) = seen {
-        return Ok(());
+impl PartProbe<'_, '_> {
+    /// Counts the codes of the part's rows that are seen and meet each comparison.
+    fn tally(&self, alloc: Global, column: u8, counts: &mut [u32]) -> Result<(), AllocError>
+        requires column { column < length self.now.part.now.before }
+        requires room { HasRoom self.now.part.now column counts.old }
+        ensures { let p = self.now in let held = held_places p.coded.now p.part.now in
+            OnOk result (AreMore (seen_codes p.viewer.now p.part.now column p.stamps.now held)
+            counts.old counts.new) }
+    {
+        if self.is_hidden() {
+            return Ok(());
+        }
+        if self.coded.is_empty() {
+            return self.tally_all(alloc, column, counts);
+        }
+        if self.is_out() {
+            return Ok(());
+        }
+        let mask = self.held(alloc)?;
+        self.tally_standing(&mask, column, counts);
+        Ok(())
     }
-    let probe = PartProbe {
-        viewer,
-        coded,
-        number,
-        part,
-        stamps,
-        seen,
-    };
-    if coded.is_empty() {
-        return probe.tally_all(alloc, column, counts);
-    }
-    if probe.is_out() {
-        return Ok(());
-    }
-    let mask = probe.held(alloc)?;
-    probe.tally_standing(&mask, column, counts);
-    Ok(())
-}
 
-impl PartProbe<'_> {
     /// Counts the codes of all rows that are seen.
     fn tally_all(&self, alloc: Global, column: u8, counts: &mut [u32]) -> Result<(), AllocError>
         requires column { column < length self.now.part.now.before }

@@ -3,7 +3,7 @@ ghost use Rattle.std.specs.Prelude.{◌≡◌, ℕ, ◌+◌, ◌<◌, ◌≤◌,
 ghost use Rattle.ut_bits.specs.Places.{is_in as is_in_ranges};
 ghost use Rattle.ut_scan.specs.Coded.{code_at, codes_in, held_mask, held_places, is_held, seen_at, standing};
 ghost use Rattle.ut_scan.specs.Finds.{all_places, found_at};
-ghost use Rattle.ut_scan.specs.Probes.{found_in_main, is_seen, Tells};
+ghost use Rattle.ut_scan.specs.Probes.{found_in_main, is_seen, AreSeenAs, Tells};
 ghost use Rattle.ut_scan.specs.StageRows.{scan_steps, AreStampedParts};
 
 use crate::coded::{CodedPred, below, coded_preds};
@@ -20,9 +20,9 @@ use ut_mask::Mask;
 
 /// A part of main with its number and its stamps, and what its rows must meet.
 #[derive(Drop)]
-pub struct PartProbe<'a> {
+pub struct PartProbe<'a, 'c> {
     pub viewer: &'a Viewer<'a>,
-    pub coded: &'a [CodedPred],
+    pub coded: &'c [CodedPred],
     pub number: u8,
     pub part: &'a Part,
     pub stamps: &'a PartStamps,
@@ -34,12 +34,12 @@ pub struct PartProbe<'a> {
 }
 
 /// Appends the seen rows of main that meet each comparison.
-pub fn scan_parts<L: Ledger>(
+pub fn scan_parts<'a, L: Ledger>(
     alloc: Global,
-    viewer: &Viewer<'_>,
+    viewer: &'a Viewer<'a>,
     preds: &[ColumnPred],
-    main: &Main,
-    stamps: &StampTable,
+    main: &'a Main,
+    stamps: &'a StampTable,
     out: &mut Vec<Found>,
     steps: &mut Steps<L>,
 ) -> Result<(), AllocError>
@@ -54,15 +54,14 @@ pub fn scan_parts<L: Ledger>(
     }
     let coded = coded_preds(alloc, main, preds, steps)?;
     for number in 0..main.parts() {
-        let part = main.part(number);
-        let stamps = stamps.part(number);
-        scan_part(alloc, viewer, coded.as_slice(), number, part, stamps, out)?;
+        let probe = PartProbe::of(viewer, coded.as_slice(), main, stamps, number);
+        probe.append(alloc, out)?;
     }
     Ok(())
 }
 
 /// Whether all rows of a part are seen or none, where one stamp tells.
-pub fn joint_sight(viewer: &Viewer<'_>, stamps: &PartStamps) -> Option<bool>
+fn joint_sight(viewer: &Viewer<'_>, stamps: &PartStamps) -> Option<bool>
     ensures { Tells viewer.now stamps.now result }
 {
     match stamps.joint() {
@@ -71,45 +70,54 @@ pub fn joint_sight(viewer: &Viewer<'_>, stamps: &PartStamps) -> Option<bool>
     }
 }
 
-/// Appends the part's seen rows that meet each comparison.
-fn scan_part(
-    alloc: Global,
-    viewer: &Viewer<'_>,
-    coded: &[CodedPred],
-    number: u8,
-    part: &Part,
-    stamps: &PartStamps,
-    out: &mut Vec<Found>,
-) -> Result<(), AllocError>
-    requires stamped { length stamps.now ≡ length part.now.rows }
-    requires columns { All (λ c. c.column < length part.now.before) coded.now }
-    ensures { let held = held_places coded.now part.now in
-        OnOk result (out.new.items ≡ out.old.items
-        ++ seen_at viewer.now number part.now.rows stamps.now held) }
-{
-    let seen = joint_sight(viewer, stamps);
-    if let Some(false) = seen {
-        return Ok(());
-    }
-    let probe = PartProbe {
-        viewer,
-        coded,
-        number,
-        part,
-        stamps,
-        seen,
-    };
-    if coded.is_empty() {
-        return probe.append_all(out);
-    }
-    if probe.is_out() {
-        return Ok(());
-    }
-    let mask = probe.held(alloc)?;
-    probe.append_standing(&mask, out)
-}
+impl<'a, 'c> PartProbe<'a, 'c> {
+    ghost use Rattle.ut_scan.specs.PartProbes.{IsProbeOf};
 
-impl PartProbe<'_> {
+    /// The probe of the part of a number.
+    pub fn of(
+        viewer: &'a Viewer<'a>,
+        coded: &'c [CodedPred],
+        main: &'a Main,
+        stamps: &'a StampTable,
+        number: u8,
+    ) -> Self
+        requires columns { All (λ c. c.column < main.now.width) coded.now }
+        requires stamped { AreStampedParts main.now.parts stamps.now.parts }
+        requires there { number < length main.now.parts }
+        ensures { IsProbeOf viewer.now coded.now main.now stamps.now.parts number result }
+    {
+        let part = main.part(number);
+        let stamps = stamps.part(number);
+        let seen = joint_sight(viewer, stamps);
+        PartProbe {
+            viewer,
+            coded,
+            number,
+            part,
+            stamps,
+            seen,
+        }
+    }
+
+    /// Appends the part's seen rows that meet each comparison.
+    fn append(&self, alloc: Global, out: &mut Vec<Found>) -> Result<(), AllocError>
+        ensures { let p = self.now in let held = held_places p.coded.now p.part.now in
+            OnOk result (out.new.items ≡ out.old.items
+            ++ seen_at p.viewer.now p.number p.part.now.rows p.stamps.now held) }
+    {
+        if self.is_hidden() {
+            return Ok(());
+        }
+        if self.coded.is_empty() {
+            return self.append_all(out);
+        }
+        if self.is_out() {
+            return Ok(());
+        }
+        let mask = self.held(alloc)?;
+        self.append_standing(&mask, out)
+    }
+
     /// The places whose codes meet each comparison: one mask, which each of them narrows.
     pub fn held(&self, alloc: Global) -> Result<Mask, AllocError>
         ensures { let p = self.now in
@@ -120,6 +128,17 @@ impl PartProbe<'_> {
             self.codes(pred).keep_in(self.ranges(pred), &mut mask);
         }
         Ok(mask)
+    }
+
+    /// Whether one stamp tells that no row is seen.
+    pub fn is_hidden(&self) -> bool
+        ensures { let p = self.now in
+            IsTrue result → AreSeenAs p.viewer.now p.stamps.now false }
+    {
+        match self.seen {
+            Some(seen) => !seen,
+            None => false,
+        }
     }
 
     /// Whether no code of the part meets one of the comparisons.

@@ -64,14 +64,6 @@ module _ {t : Contents} (h : IsTable t) where
       few = omega (arith, ap length c.l1_rows, ap length c.l2_rows, few);
     }
 
-  -- room was made
-  module _ {new1 : List Row} {new2 : Delta} {news : StampLists} (c : IsChange t t.l1 t.l2.rows t.stamps.l1.items t.stamps.l2.items new1 new2 news) where
-    pub roomy-stages : staged (record t { l1 = new1; l2 = new2; stamps = news }) ≡ staged t
-    roomy-stages = changed-stages c
-
-    pub roomy-kept : IsTable (record t { l1 = new1; l2 = new2; stamps = news })
-    roomy-kept = changed-kept c h.rows.l1 h.rows.l2 h.stamped.l1 h.stamped.l2 h.few
-
   -- a row enters the first stage
   module _ (row : Row) (stamp : Stamp) {new1 : List Row} {new2 : Delta} {news : StampLists} (c : IsChange t (t.l1 ++ row ∷ []) t.l2.rows (t.stamps.l1.items ++ stamp ∷ []) t.stamps.l2.items new1 new2 news) where
     pub pushed-stages : staged (record t { l1 = new1; l2 = new2; stamps = news }) ≡ entered_l1 (stamped_row stamp row) (staged t)

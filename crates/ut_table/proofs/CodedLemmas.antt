@@ -1,8 +1,8 @@
 -- The codes of a column stand for the values of its rows.
-use Rattle.std.proofs.Common.{◌≡◌, ℕ, zero, suc, ◌+◌, ◌-◌, ◌<◌, ◌≤◌, List, [], ◌++◌, length, map, replicate, get_or, Option, None, Some, unwrap_or, All, refl, sym, ◌∙◌, ap, subst, arith}
+use Rattle.std.proofs.Common.{◌≡◌, ℕ, zero, suc, ◌+◌, ◌<◌, ◌≤◌, List, [], ◌++◌, length, map, replicate, get_or, Option, None, Some, unwrap_or, All, refl, sym, ◌∙◌, ap, subst, arith}
 use Rattle.std.specs.Prelude.{slice_get, IsSome}
 use Rattle.std.specs.Option.{option_map}
-use Rattle.std.proofs.lemmas.List.{length-map, length-append, append_assoc, append-nil, get_or-append-add, get_or_append_left}
+use Rattle.std.proofs.lemmas.List.{length-map, length-append, get_or-append-add, get_or_append_left}
 use Rattle.std.proofs.lemmas.Option.{slice_get-map, slice_get-get_or, slice_get_within, get_or_from_slice_get}
 use Rattle.ut_exact.specs.Places.{StagedRow}
 use Rattle.ut_stamps.specs.declared.place.Place.{Place}
@@ -15,9 +15,9 @@ use Rattle.ut_scan.specs.Coded.{code_at, keys_in}
 use Rattle.ut_own.specs.Own.{own_dict}
 use Rattle.ut_prefix.specs.Chain.{end_to_end}
 use Rattle.ut_prefix.proofs.ChainLemmas.{end_to_end-push}
-use Rattle.ut_main.specs.Columns.{Chain, chain_of}
+use Rattle.ut_main.specs.Columns.{Chain}
 use Rattle.ut_main.proofs.MainLemmas.{dicts-next, first-all}
-use Rattle.ut_scan.proofs.CodeLemmas.{IsPartOf, part_keys, code-known}
+use Rattle.ut_scan.proofs.CodeLemmas.{keys_first, keys-first, IsPartOf, part_keys, code-known}
 use Rattle.ut_staged.specs.Staged.{Staged, row_at}
 use Rattle.ut_table.specs.Decoded.{decoded}
 use Rattle.ut_table.specs.Contents.{Contents, PendingValue, closed_rows, held, staged}
@@ -32,41 +32,7 @@ use Rattle.ut_table.proofs.ReadLemmas.{columns-are, holds-row, held-values, with
 
 -- ---- the keys of all dictionaries
 
--- the keys of a column in the first parts, so many
-abbrev pub keys_first : MainValue → ℕ → ℕ → List (List ℕ)
-keys_first main j n = end_to_end (get_or (dicts_behind (first_parts n main)) j [])
-
--- they are the first of those in more parts
-keys-more : (main : MainValue) (j n k : ℕ) → j < main.width → n + k ≤ length main.parts → (rest : List (List ℕ)) × (keys_first main j (n + k) ≡ keys_first main j n ++ rest)
-keys-more main j n zero wide le = let e : n + 0 ≡ n = omega arith in ([], ap (keys_first main j) e ∙ sym (append-nil (keys_first main j n)))
-keys-more main j n (suc k) wide le =
-    let r = keys-more main j n k wide (omega (arith, le)) in
-    let e : n + suc k ≡ n + k + 1 = omega arith in
-    let chain = get_or (dicts_behind (first_parts (n + k) main)) j [] in
-    let own = own_dict (end_to_end chain) (cells_at j (get_or main.parts (n + k) [])) in (
-      r.0 ++ own,
-      ap (keys_first main j) e
-          ∙ ap (λ (c : Chain). end_to_end c) (dicts-next main (n + k) j (omega (arith, le)) wide)
-          ∙ end_to_end-push chain own
-          ∙ ap (λ (l : List (List ℕ)). l ++ own) r.1
-          ∙ append_assoc (keys_first main j n) r.0 own,
-    )
-
--- a part's keys are the first of all keys of main
-keys-first : (main : MainValue) (p : ℕ) (part : PartValue) (j : ℕ) → IsPartOf main p part → j < main.width → (rest : List (List ℕ)) × (keys_in main j ≡ part_keys part j ++ rest)
-keys-first main p part j h wide =
-    let k = length main.parts - (p + 1) in
-    let all : p + 1 + (length main.parts - (p + 1)) ≡ length main.parts = omega (arith, h.there) in
-    let r = keys-more main j (p + 1) k wide (omega (arith, all)) in
-    let here : keys_first main j (p + 1) ≡ part_keys part j =
-    ap (λ (c : Chain). end_to_end c) (dicts-next main p j h.there wide)
-    ∙ sym (λ i. end_to_end (chain_of (get_or (h.before i) j []) (cells_at j (h.rows i)))) in (
-      r.0,
-      ap (λ (m : MainValue). keys_in m j) (sym (first-all main (length main.parts) (omega arith)))
-          ∙ ap (keys_first main j) (sym all) ∙ r.1 ∙ ap (λ (l : List (List ℕ)). l ++ r.0) here,
-    )
-
--- the same among all keys of main
+-- the code of a row among all keys of main, and the key that it stands for
 code-main : (main : MainValue) (p : ℕ) (part : PartValue) (j i : ℕ) → IsPartOf main p part → j < main.width → i < length part.rows
     → (code_at part i j < length (keys_in main j)) × (get_or (keys_in main j) (code_at part i j) [] ≡ key_at j (get_or part.rows i no_row))
 code-main main p part j i h wide lt =
@@ -154,9 +120,6 @@ module _ {t : Contents} (h : IsTable t) {s : Staged} (view : staged t ≡ s) whe
       value-of p (Main n i) j (code_at part i j) row same lt e
       (before (keys_in (keyed_main s) j) (delta_keys j s.l2 ++ delta_keys j (unwrap_or s.closed [])) (code_at part i j) (key_at j (key_row_at t (Main n i)))
       (ap (λ ks. slice_get ks (code_at part i j)) main ∙ key ∙ ap (λ (rs : List KeyRow). Some (key_at j (get_or rs i no_row))) rows))
-
-  pub few-width : t.main.width ≤ 64
-  few-width = omega (arith, h.rows.narrow, h.rows.main_wide)
 
   pub l2-value : (p : Place) (i j m c : ℕ) (d : Delta) (row : StagedRow) → p ≡ L2 i → d ≡ t.l2 → m ≡ length (keys_in t.main j) → j < length s.columns → row_at s p ≡ Some row
       → slice_get (first_seen (cells_at j d.rows)) c ≡ Some (key_at j (get_or d.rows i no_row)) → slice_get (coded_values s j) (m + c) ≡ slice_get row.values j

@@ -13,11 +13,11 @@ use Rattle.ut_stamps.specs.Kept.{stamp_keeps}
 use Rattle.ut_exact.specs.Places.{StagedRow}
 use Rattle.ut_l2.specs.KeyRows.{KeyRow}
 use Rattle.ut_staged.specs.Keeping.{all_of, needed_of, stamp_flags}
+use Rattle.ut_staged.proofs.OrderLemmas.{staying-fits}
 use Rattle.ut_table.specs.Contents.{Contents, stamped_rows, decoded_rows, held_parts, staged}
 use Rattle.ut_table.specs.Kept.{IsTable}
 use Rattle.ut_table.specs.Flags.{flags_behind}
 use Rattle.ut_table.proofs.StampedLemmas.{decoded-length, parts-length}
-use Rattle.ut_table.proofs.SwitchLemmas.{staying-fits}
 
 module _ (fates : List Fate) (snapshots : List ℕ) where
   abbrev pub flag : Bool → Stamp → Bool

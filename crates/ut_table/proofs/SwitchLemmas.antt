@@ -11,7 +11,7 @@ use Rattle.std.proofs.lemmas.List.Elements.{All-nil, All-cons, All-push, All-tak
 use Rattle.ut_value.specs.declared.entry.MergeKind.{MergeKind}
 use Rattle.ut_value.specs.declared.entry.MergeKind.TheVariants as kinds
 use Rattle.ut_plain.specs.declared.stage.Placed.{Placed}
-use Rattle.ut_plain.specs.Merges.{staying, staying_partly, arranged, flagged, flagged_all, rebuilt}
+use Rattle.ut_plain.specs.Merges.{staying, arranged, flagged, flagged_all, rebuilt}
 use Rattle.ut_plain.specs.Merges as plain
 use Rattle.ut_stamps.specs.declared.visibility.Stamp.{Stamp}
 use Rattle.ut_stamps.specs.declared.place.Place.{Place}
@@ -30,7 +30,7 @@ use Rattle.ut_staged.specs.Staged as stages
 use Rattle.ut_staged.specs.Choice.{kept_from, kept_lists, kept_places, place_of, AreFlags, IsDropped, IsChoice}
 use Rattle.ut_staged.specs.Tables.{IsArranged}
 use Rattle.ut_staged.proofs.KeptLemmas.{kept_choice}
-use Rattle.ut_staged.proofs.OrderLemmas.{arranged_kept, flagged_all-map}
+use Rattle.ut_staged.proofs.OrderLemmas.{arranged_kept, flagged_all-map, staying-fits}
 use Rattle.ut_staged.proofs.OrderLemmas as order
 use Rattle.ut_staged.proofs.ListLemmas.{none_some, get-map, map-take, map-drop}
 use Rattle.ut_staged.proofs.PermutedLemmas.{choice-permuted}
@@ -100,17 +100,6 @@ get-places n (r ∷ rs) closed zero lt =
 get-places n (r ∷ rs) closed (suc g) lt =
     get-places (suc n) rs closed g (omega (arith, lt))
     ∙ (let e : suc n + length rs ≡ n + length (r ∷ rs) = omega arith in let k : suc n + g ≡ n + suc g = omega arith in λ j. map (λ i. place_of (e j) (k j) i) (range_with_len 0 (length (get_or (rs ++ closed ∷ []) g []))))
-
-pub staying-fits : (kind : MergeKind) (n : ℕ) → staying kind n ≤ n
-staying-fits kinds.Classic n = omega arith
-staying-fits kinds.Resort n = omega arith
-staying-fits kinds.Partial n = by n
-  where
-    by : (m : ℕ) → staying_partly m ≤ m
-    by zero = omega arith
-    by (suc zero) = omega arith
-    by (suc (suc m)) = omega arith
-staying-fits kinds.Extend n = omega arith
 
 placed-keys : (rows : List StagedRow) → map keys_of (map placed_of rows) ≡ map key_row rows
 placed-keys [] = refl

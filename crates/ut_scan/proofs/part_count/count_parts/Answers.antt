@@ -1,52 +1,20 @@
-use Rattle.std.proofs.Common.{◌∙◌, ◌<◌, ◌≡◌, ◌+◌, [], List, length, get_or, All, ap, refl, sym, subst, arith}
-use Rattle.ut_stamps.specs.declared.visibility.Stamp.{Stamp}
-use Rattle.ut_l2.specs.KeyRows.{KeyRow}
-use Rattle.ut_scan.specs.declared.coded.CodedPred.{CodedPred}
-use Rattle.ut_scan.specs.Coded.{held_places, seen_at}
+use Rattle.std.proofs.Common.{◌∙◌, ◌<◌, ◌≡◌, ◌+◌, length, ap, refl, arith}
 use Rattle.ut_scan.specs.StageRows.{found_in_part}
-use Rattle.ut_scan.proofs.CodeLemmas.{part-of, part-width}
 use Rattle.ut_scan.proofs.CountLemmas.{parts-counted}
-use Rattle.ut_scan.proofs.MainLemmas.{stamps-at, part-found}
+use Rattle.ut_scan.proofs.MainLemmas.{probe-seen}
 use Rattle.ut_scan.proofs.part_count.count_parts.Goals as goal
-
-pub count_part-requires-clause-stamped : goal.count_part-requires-clause-stamped
-count_part-requires-clause-stamped g c =
-    let main = c.args.main.now in
-    let p = c.loop-number.number in
-    let there : c.loop-number.number < length main.parts = omega (arith, c.loop-number-test.true, c.parts-number-end.ensures.count) in
-    let at = part-of main p c.part-part.result.now c.deref.result.now there c.deref.ensures c.part-part.ensures.rows c.part-part.ensures.before in
-    ap (λ (l : List Stamp). length l) c.part-stamps.ensures ∙ (stamps-at main.parts c.args.stamps.now.parts p c.requires.stamped there).1 ∙ sym (ap (λ (l : List KeyRow). length l) at.rows)
-
-pub count_part-requires-clause-columns : goal.count_part-requires-clause-columns
-count_part-requires-clause-columns g c =
-    let main = c.args.main.now in
-    let p = c.loop-number.number in
-    let there : c.loop-number.number < length main.parts = omega (arith, c.loop-number-test.true, c.parts-number-end.ensures.count) in
-    let part = c.deref.result.now in
-    let at = part-of main p c.part-part.result.now part there c.deref.ensures c.part-part.ensures.rows c.part-part.ensures.before in
-    subst (All (λ (q : CodedPred). q.column < length part.before)) (sym c.as_slice.ensures.value)
-    (subst (λ n. All (λ (q : CodedPred). q.column < n) c.in_ok-coded.coded.items) (sym (part-width main p part at)) c.in_ok-coded.ensures.coded.columns)
 
 pub loop-number-preserved : goal.loop-number-preserved
 loop-number-preserved g c =
-    let main = c.args.main.now in
-    let preds = c.args.preds.now in
     let viewer = c.args.viewer.now in
+    let main = c.args.main.now in
     let stamps = c.args.stamps.now.parts in
-    let p = c.loop-number.number in
-    let there : c.loop-number.number < length main.parts = omega (arith, c.loop-number-test.true, c.parts-number-end.ensures.count) in
-    let part = c.deref.result.now in
-    let at = part-of main p c.part-part.result.now part there c.deref.ensures c.part-part.ensures.rows c.part-part.ensures.before in
-    let coded = c.in_ok-coded.coded.items in
-    let found = found_in_part viewer.fates.now viewer.snapshot viewer.own preds main.parts stamps in
+    let there : c.loop-number.number < length c.args.main.now.parts = omega (arith, c.loop-number-test.true, c.parts-number-end.ensures.count) in
+    let seen = probe-seen viewer c.as_slice.result.now main stamps c.loop-number.number c.of-probe.result c.of-probe.ensures there c.args.preds.now c.in_ok-coded.coded.items c.as_slice.ensures.value c.in_ok-coded.ensures.coded c.requires.columns in
     let more = c.from-count.result in
     let same : c.from-count.result ≡ c.in_ok-more.more = grind arith in
-    let one : c.in_ok-more.more ≡ length (found p) =
-    c.in_ok-more.ensures ∙ ap length (
-    ap (λ (cs : List CodedPred). seen_at viewer p part.rows c.part-stamps.result.now (held_places cs part)) c.as_slice.ensures.value
-    ∙ ap (λ (l : List Stamp). seen_at viewer p part.rows l (held_places coded part)) c.part-stamps.ensures
-    ∙ part-found main preds coded p part viewer.fates.now viewer.snapshot viewer.own (get_or stamps p []) c.in_ok-coded.ensures.coded c.requires.columns at) in
     record {
-      counted = parts-counted found c.loop-number.count more (c.loop-number.count + more) p c.loop-number.invariant.counted (same ∙ one) refl;
+      counted = parts-counted (found_in_part viewer.fates.now viewer.snapshot viewer.own c.args.preds.now main.parts stamps) c.loop-number.count more (c.loop-number.count + more) c.loop-number.number c.loop-number.invariant.counted
+          (same ∙ c.in_ok-more.ensures ∙ ap length seen) refl;
       few = omega arith;
     }

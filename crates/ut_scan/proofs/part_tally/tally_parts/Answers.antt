@@ -1,15 +1,13 @@
-use Rattle.std.proofs.Common.{◌∙◌, ◌<◌, ◌≤◌, ◌≡◌, ◌++◌, ◌+◌, ℕ, [], List, length, take, drop, get_or, All, ap, refl, sym, subst, arith}
+use Rattle.std.proofs.Common.{◌∙◌, ◌<◌, ◌≤◌, ◌≡◌, ◌++◌, ◌+◌, ℕ, [], List, length, take, drop, get_or, ap, refl, sym, subst, arith}
 use Rattle.std.specs.List.{flat_map, range_with_len, sum_by}
 use Rattle.std.proofs.lemmas.List.{take_at}
-use Rattle.ut_stamps.specs.declared.visibility.Stamp.{Stamp}
 use Rattle.ut_l2.specs.KeyRows.{KeyRow}
-use Rattle.ut_scan.specs.declared.coded.CodedPred.{CodedPred}
 use Rattle.ut_scan.specs.declared.place.Found.{Found}
 use Rattle.ut_scan.specs.Coded.{held_places}
 use Rattle.ut_scan.specs.StageRows.{found_in_part}
 use Rattle.ut_scan.specs.Tallies.{seen_codes, AreMore, HasRoom, Tallies}
-use Rattle.ut_scan.proofs.CodeLemmas.{part-of, part-width}
-use Rattle.ut_scan.proofs.MainLemmas.{stamps-at, part-found, parts-more}
+use Rattle.ut_scan.proofs.CodeLemmas.{part-width, IsPartOf}
+use Rattle.ut_scan.proofs.MainLemmas.{part-found, probe-part, parts-more}
 use Rattle.ut_scan.proofs.TallyLemmas.{few-more, room-for, tallies-more, tallies-none}
 use Rattle.ut_scan.proofs.part_tally.tally_parts.Goals as goal
 
@@ -20,64 +18,39 @@ loop-number-init g c = record {
   few = λ code. omega (arith, c.in_ok-counts.ensures.none code);
 }
 
-pub tally_part-requires-clause-stamped : goal.tally_part-requires-clause-stamped
-tally_part-requires-clause-stamped g c =
-    let main = c.args.main.now in
-    let p = c.loop-number.number in
-    let there : c.loop-number.number < length main.parts = omega (arith, c.loop-number-test.true, c.parts-number-end.ensures.count) in
-    let part = c.deref.result.now in
-    let at = part-of main p c.part-part.result.now part there c.deref.ensures c.part-part.ensures.rows c.part-part.ensures.before in
-    ap (λ (l : List Stamp). length l) c.part-stamps.ensures ∙ (stamps-at main.parts c.args.stamps.now.parts p c.requires.stamped there).1 ∙ sym (ap (λ (l : List KeyRow). length l) at.rows)
+-- the part that is read
+read : (g : _) (c : goal.After-as_mut_slice g) → IsPartOf c.args.main.now c.loop-number.number c.of-probe.result.part.now
+read g c =
+    let there : c.loop-number.number < length c.args.main.now.parts = omega (arith, c.loop-number-test.true, c.parts-number-end.ensures.count) in
+    probe-part c.args.viewer.now c.as_slice.result.now c.args.main.now c.args.stamps.now.parts c.loop-number.number c.of-probe.result c.of-probe.ensures there
 
-pub tally_part-requires-clause-columns : goal.tally_part-requires-clause-columns
-tally_part-requires-clause-columns g c =
-    let main = c.args.main.now in
-    let p = c.loop-number.number in
-    let there : c.loop-number.number < length main.parts = omega (arith, c.loop-number-test.true, c.parts-number-end.ensures.count) in
-    let part = c.deref.result.now in
-    let at = part-of main p c.part-part.result.now part there c.deref.ensures c.part-part.ensures.rows c.part-part.ensures.before in
-    subst (All (λ (q : CodedPred). q.column < length part.before)) (sym c.as_slice-coded.ensures.value)
-    (subst (λ n. All (λ (q : CodedPred). q.column < n) c.in_ok-coded.coded.items) (sym (part-width main p part at)) c.in_ok-coded.ensures.coded.columns)
+pub tally-requires-clause-column : goal.tally-requires-clause-column
+tally-requires-clause-column g c = omega (arith, c.requires.column, part-width c.args.main.now c.loop-number.number c.of-probe.result.part.now (read g c))
 
-pub tally_part-requires-clause-column : goal.tally_part-requires-clause-column
-tally_part-requires-clause-column g c =
-    let main = c.args.main.now in
-    let p = c.loop-number.number in
-    let there : c.loop-number.number < length main.parts = omega (arith, c.loop-number-test.true, c.parts-number-end.ensures.count) in
-    let part = c.deref.result.now in
-    let at = part-of main p c.part-part.result.now part there c.deref.ensures c.part-part.ensures.rows c.part-part.ensures.before in
-    omega (arith, c.requires.column, part-width main p part at)
-
-pub tally_part-requires-clause-room : goal.tally_part-requires-clause-room
-tally_part-requires-clause-room g c =
-    let main = c.args.main.now in
-    let p = c.loop-number.number in
-    let there : c.loop-number.number < length main.parts = omega (arith, c.loop-number-test.true, c.parts-number-end.ensures.count) in
-    let part = c.deref.result.now in
-    let at = part-of main p c.part-part.result.now part there c.deref.ensures c.part-part.ensures.rows c.part-part.ensures.before in
-    subst (HasRoom part c.args.column) (sym c.as_mut_slice-counts.ensures.value)
-    (room-for main c.args.column p part at c.requires.column c.loop-number.counts.items c.loop-number.invariant.size c.loop-number.invariant.few c.parts-number-end.ensures.rows)
+pub tally-requires-clause-room : goal.tally-requires-clause-room
+tally-requires-clause-room g c =
+    subst (HasRoom c.of-probe.result.part.now c.args.column) (sym c.as_mut_slice.ensures.value)
+    (room-for c.args.main.now c.args.column c.loop-number.number c.of-probe.result.part.now (read g c) c.requires.column c.loop-number.counts.items c.loop-number.invariant.size c.loop-number.invariant.few c.parts-number-end.ensures.rows)
 
 pub loop-number-preserved : goal.loop-number-preserved
 loop-number-preserved g c =
     let main = c.args.main.now in
     let p = c.loop-number.number in
-    let there : c.loop-number.number < length main.parts = omega (arith, c.loop-number-test.true, c.parts-number-end.ensures.count) in
-    let part = c.deref.result.now in
-    let at = part-of main p c.part-part.result.now part there c.deref.ensures c.part-part.ensures.rows c.part-part.ensures.before in
+    let part = c.of-probe.result.part.now in
+    let there : c.loop-number.number < length c.args.main.now.parts = omega (arith, c.loop-number-test.true, c.parts-number-end.ensures.count) in
+    let probe = c.of-probe.ensures in
+    let at = probe-part c.args.viewer.now c.as_slice.result.now main c.args.stamps.now.parts p c.of-probe.result probe there in
     let viewer = c.args.viewer.now in
     let column = c.args.column in
     let preds = c.args.preds.now in
     let stamps = get_or c.args.stamps.now.parts p [] in
     let coded = c.in_ok-coded.coded.items in
     let items = c.loop-number.counts.items in
-    let slice = c.as_mut_slice-counts.result.now in
-    let new = c.tally_part.new.counts in
+    let new = c.tally.new.counts in
     let found = found_in_part viewer.fates.now viewer.snapshot viewer.own preds main.parts c.args.stamps.now.parts in
     let one : AreMore (seen_codes viewer part column stamps (held_places coded part)) items new =
-    subst (λ (l : List ℕ). AreMore (seen_codes viewer part column stamps (held_places coded part)) l new) c.as_mut_slice-counts.ensures.value
-    (subst (λ (l : List Stamp). AreMore (seen_codes viewer part column l (held_places coded part)) slice new) c.part-stamps.ensures
-    (subst (λ (l : List CodedPred). AreMore (seen_codes viewer part column c.part-stamps.result.now (held_places l part)) slice new) c.as_slice-coded.ensures.value c.in_ok-tally_part.ensures)) in
+    subst (λ (l : List ℕ). AreMore (seen_codes viewer part column stamps (held_places coded part)) l new) c.as_mut_slice.ensures.value
+    (subst (λ (l : List ℕ). AreMore l c.as_mut_slice.result.now new) (λ i. seen_codes (probe.viewer i) part column (probe.stamps i) (held_places ((probe.coded ∙ c.as_slice.ensures.value) i) part)) c.in_ok-tally.ensures) in
     let size : length items ≡ c.loop-number.counts.len = omega (arith, c.loop-number.counts.ok.0) in
     let whole : new ≡ take c.loop-number.counts.len (new ++ drop (length new) items) = sym (take_at new (drop (length new) items) c.loop-number.counts.len (one.size ∙ size)) in
     let more : flat_map found (range_with_len 0 p) ++ found p ≡ flat_map found (range_with_len 0 (p + 1)) = parts-more found [] (flat_map found (range_with_len 0 p)) (flat_map found (range_with_len 0 p) ++ found p) p refl refl in
