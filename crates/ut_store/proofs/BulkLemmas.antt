@@ -1,88 +1,38 @@
 -- The operations of a bulk.
-use Rattle.std.proofs.Common.{ℕ, zero, suc, ◌+◌, ◌<◌, ◌≤◌, ◌≡◌, true, false, ◌&&◌, List, [], ◌∷◌, length, map, None, refl, sym, ap, ◌∙◌, subst, arith, IsTrue, nat_le, nat_lt, lt-ltb, ltb-true, leb-true}
+use Rattle.std.proofs.Common.{ℕ, ◌<◌, ◌≤◌, ◌≡◌, true, false, List, [], length, map, refl, sym, ap, ◌∙◌, subst, arith, IsTrue, nat_le, nat_lt, ltb-true, leb-true}
 use Rattle.std.specs.List.{list_all}
-use Rattle.std.proofs.lemmas.List.Sums.{sum_by-cons}
-use Rattle.ut_value.specs.declared.value.Column.{Column}
 use Rattle.ut_value.specs.declared.value.Value.{Value}
 use Rattle.ut_value.specs.declared.value.Row.{Row}
 use Rattle.ut_value.specs.declared.entry.Op.{Op}
-use Rattle.ut_value.specs.declared.entry.Op.TheVariants as ops
 use Rattle.ut_value.specs.KeyBytes.{is_value}
 use Rattle.ut_value.specs.Text.{is_name}
-use Rattle.ut_value.specs.Spelling.{is_op, is_u16, is_u32, is_count, are_values, are_columns, names_differ}
+use Rattle.ut_value.specs.Spelling.{is_count, names_differ}
 use Rattle.ut_plain.specs.declared.statement.Statement.{Statement}
 use Rattle.ut_plain.specs.declared.statement.Statement.TheVariants as statements
 use Rattle.ut_plain.specs.declared.reply.Reply.TheVariants as replies
 use Rattle.ut_plain.specs.declared.reply.Refusal.TheVariants as refusals
 use Rattle.ut_plain.specs.Tables.{fits_columns, place_in, columns_in}
 use Rattle.ut_plain.specs.Rows.{inserts_of}
-use Rattle.ut_plain.specs.Made.{cut, rows_of, inserts}
+use Rattle.ut_plain.specs.Made.{rows_of, inserts}
 use Rattle.ut_plain.specs.Spelled.{are_some_values}
-use Rattle.ut_plain.proofs.BoolLemmas.{and_left, and_right, and_both}
-use Rattle.ut_plain.proofs.ListLemmas.{list_all_take, list_all_drop}
-use Rattle.ut_plain.proofs.TableLemmas.{there, are_values-fit}
+use Rattle.ut_plain.proofs.BoolLemmas.{and_left, and_right}
+use Rattle.ut_plain.proofs.TableLemmas.{there}
 use Rattle.ut_plain.proofs.MadeLemmas.{inserts_of-inserts}
 use Rattle.ut_exact.proofs.FreeLemmas.{inserts_fit}
 use Rattle.ut_staged.specs.Staged.{Staged, begun_row, entered_l2}
+use Rattle.ut_change.proofs.LoadLemmas.{inserts-numbered, begun-numbered, length-numbered, inserts-fit, inserts-rule, cut-values, ends-inserts, inserts-none, inserts-some, cut-some, inserts-made}
 use Rattle.ut_store.specs.declared.turn.Turn.TheVariants.{Answered}
 use Rattle.ut_store.specs.Held.{Held}
 use Rattle.ut_store.specs.Answers.{Answers}
 use Rattle.ut_staged.specs.Staging.{new_rows}
-use Rattle.ut_store.specs.Changes.{has_ids_for, numbered, inserts_all, op_fits, op_ends, ends_of, MayChange, AreReady, IsWork}
+use Rattle.ut_change.specs.Writes.{op_fits}
+use Rattle.ut_change.specs.Loads.{numbered, inserts_all}
+use Rattle.ut_store.specs.Changes.{has_ids_for, MayChange, AreReady, IsWork}
 use Rattle.ut_store.proofs.ReadLemmas.{reads}
 use Rattle.ut_store.proofs.FinishLemmas.{answers_refused}
 use Rattle.ut_staged.proofs.StagingLemmas.{staging-bulk}
 use Rattle.ut_store.proofs.KindLemmas.{early_tests, TableAt, table_at}
 use Rattle.ut_store.proofs.UpdateLemmas.{ids_from, no_ids}
-
--- ---- what is made
-
-pub inserts-numbered : (n id : ℕ) (rows : List (List Value)) → inserts_all n (numbered id rows) ≡ inserts n id rows
-inserts-numbered n id [] = refl
-inserts-numbered n id (vs ∷ rows) = ap (λ os. ops.Insert n id vs ∷ os) (inserts-numbered n (id + 1) rows)
-
-pub begun-numbered : (t id : ℕ) (rows : List (List Value)) → map (begun_row t) (numbered id rows) ≡ new_rows t id rows
-begun-numbered t id [] = refl
-begun-numbered t id (vs ∷ rows) = ap (λ rs. record { id = id; values = vs; stamp = record { begin = t; end = None } } ∷ rs) (begun-numbered t (id + 1) rows)
-
-pub length-numbered : (id : ℕ) (rows : List (List Value)) → length (numbered id rows) ≡ length rows
-length-numbered id [] = refl
-length-numbered id (vs ∷ rows) = ap suc (length-numbered (id + 1) rows)
-
-inserts-fit : (columns : List Column) (n id : ℕ) (rows : List (List Value)) → IsTrue (list_all (fits_columns columns) rows) → IsTrue (list_all (op_fits columns) (inserts n id rows))
-inserts-fit columns n id [] h = refl
-inserts-fit columns n id (vs ∷ rows) h = and_both _ _ (and_left _ _ h) (inserts-fit columns n (id + 1) rows (and_right (fits_columns columns vs) _ h))
-
-inserts-rule : (columns : List Column) (n id : ℕ) (rows : List (List Value)) → n < 65536 → id + length rows ≤ 2147483649 → IsTrue (are_columns columns) → IsTrue (list_all (fits_columns columns) rows) → IsTrue (list_all (λ vs. list_all is_value vs) rows) → IsTrue (list_all is_op (inserts n id rows))
-inserts-rule columns n id [] small room are fits each = refl
-inserts-rule columns n id (vs ∷ rows) small room are fits each =
-    and_both _ _ (and_both (is_u16 n && is_u32 id) (are_values vs) (and_both (is_u16 n) (is_u32 id) (lt-ltb n 65536 small) (lt-ltb id 4294967296 (omega arith))) (are_values-fit columns vs are (and_left _ _ fits) (and_left _ _ each)))
-    (inserts-rule columns n (id + 1) rows small (omega arith) are (and_right (fits_columns columns vs) _ fits) (and_right (list_all is_value vs) _ each))
-
-cut-values : (n width : ℕ) (vs : List Value) → IsTrue (list_all is_value vs) → IsTrue (list_all (λ x. list_all is_value x) (cut n width vs))
-cut-values zero width vs h = refl
-cut-values (suc n) width [] h = refl
-cut-values (suc n) width (v ∷ vs) h = and_both _ _ (list_all_take is_value width (v ∷ vs) h) (cut-values n width _ (list_all_drop is_value width (v ∷ vs) h))
-
-ends-inserts : (n id : ℕ) (rows : List (List Value)) → ends_of (inserts n id rows) ≡ 0
-ends-inserts n id [] = refl
-ends-inserts n id (vs ∷ rows) = let rest = ends-inserts n (id + 1) rows in let one = sum_by-cons op_ends (ops.Insert n id vs) (inserts n (id + 1) rows) in omega (arith, rest, one)
-
-nothing_of : (n id : ℕ) (rows : List (List Value)) → inserts n id rows ≡ [] → length rows ≡ 0
-nothing_of n id [] h = refl
-nothing_of n id (vs ∷ rows) h = cc
-
-something_of : (n id : ℕ) (rows : List (List Value)) (op : Op) (rest : List Op) → inserts n id rows ≡ op ∷ rest → 0 < length rows
-something_of n id [] op rest h = cc
-something_of n id (vs ∷ rows) op rest h = omega arith
-
-some_cut : (width : ℕ) (vs : List Value) → 0 < length vs → 0 < length (rows_of width vs)
-some_cut width [] h = absurd (omega arith)
-some_cut width (v ∷ vs) h = omega arith
-
-some_inserts : (n id : ℕ) (rows : List (List Value)) → 0 < length rows → 0 < length (inserts n id rows)
-some_inserts n id [] h = absurd (omega arith)
-some_inserts n id (vs ∷ rows) h = omega arith
 
 -- ---- the statement
 
@@ -118,8 +68,8 @@ module _ (e : Held) (session n : ℕ) (name : List ℕ) (values : List Value) (m
     operations = λ p s. let r = reads e p session m.seat s in
         (λ i. inserts (place_in (r.tables i) name) (r.next_id i) (rows_of (length (columns_in (r.tables i) name)) values)) ∙ ap (λ k. inserts k e.next_id (rows_of (length (columns_in e.tables name)) values)) (sym is);
     count = λ p s. ap (λ ts. length (rows_of (length (columns_in ts name)) values)) (reads e p session m.seat s).tables;
-    none = nothing_of n e.next_id _;
-    some = something_of n e.next_id _;
+    none = inserts-none n e.next_id _;
+    some = inserts-some n e.next_id _;
     limits = λ v. refl;
     clash = λ p s. refl;
     fits_inside = λ o p s free h. inserts_fit e.fates o.snapshot o.number e.next_id n s.rows.held _;
@@ -162,7 +112,7 @@ module _ (e : Held) (session n : ℕ) (st : Statement) (name : List ℕ) (values
     pub bulk_some : (os : List Op) (rows : List Row) → rows ≡ numbered e.next_id (rows_of width values) → os ≡ inserts_all n rows → 0 < length os
     bulk_some os rows are made =
         subst (λ (x : List Op). 0 < length x) (sym (made ∙ ap (inserts_all n) are ∙ inserts-numbered n e.next_id _))
-        (some_inserts n e.next_id _ (some_cut width values (some_values e session n name values that is)))
+        (inserts-made n e.next_id _ (cut-some width values (some_values e session n name values that is)))
 
     pub bulk_full : (rows : ℕ) → rows ≡ length (rows_of width values) → has_ids_for e rows ≡ false → Answers e session st (Answered (replies.Refused refusals.Full)) e
     bulk_full rows count none =

@@ -1,11 +1,6 @@
 -- The operations of a delete.
-use Rattle.std.proofs.Common.{ℕ, suc, ◌<◌, ◌≤◌, ◌≡◌, true, false, List, [], ◌∷◌, length, map, Option, Some, refl, sym, ap, ◌∙◌, subst, arith, IsTrue, lt-ltb, slice_get, slice_set, unwrap_or}
-use Rattle.std.specs.List.{list_all}
-use Rattle.std.proofs.lemmas.List.Sums.{sum_by-cons}
-use Rattle.ut_value.specs.declared.value.Column.{Column}
+use Rattle.std.proofs.Common.{ℕ, ◌<◌, ◌≤◌, ◌≡◌, false, List, length, Option, Some, refl, sym, ap, ◌∙◌, subst, arith, slice_get, slice_set, unwrap_or}
 use Rattle.ut_value.specs.declared.entry.Op.{Op}
-use Rattle.ut_value.specs.declared.entry.Op.TheVariants as ops
-use Rattle.ut_value.specs.Spelling.{is_op, is_u16, is_u32}
 use Rattle.ut_plain.specs.declared.statement.Statement.{Statement}
 use Rattle.ut_plain.specs.declared.statement.Statement.TheVariants as statements
 use Rattle.ut_plain.specs.declared.statement.Pred.{Pred}
@@ -16,61 +11,25 @@ use Rattle.ut_plain.specs.Made.{deletes_all}
 use Rattle.ut_plain.specs.Refusals.{first_taken}
 use Rattle.ut_plain.specs.Plain.{Plain}
 use Rattle.ut_plain.specs.View.{view}
-use Rattle.ut_plain.proofs.BoolLemmas.{and_both}
 use Rattle.ut_plain.proofs.TableLemmas.{there_known}
 use Rattle.ut_stamps.specs.declared.place.Place.{Place}
-use Rattle.ut_scan.specs.declared.place.Found.{Found}
 use Rattle.ut_names.specs.declared.resolved.Selection.{Selection}
 use Rattle.ut_names.specs.Compiled.{Compiles}
 use Rattle.ut_staged.specs.Staged.{Staged}
-use Rattle.ut_table.specs.Finds.{hits_of}
+use Rattle.ut_change.proofs.MadeLemmas.{deletes_of, deletes-fit, deletes-rule, ends-deletes, deletes-none, deletes-some}
 use Rattle.ut_store.specs.Held.{Held}
 use Rattle.ut_store.specs.Stands.{StandsFor}
 use Rattle.ut_store.specs.Hits.{plain_rows}
 use Rattle.ut_staged.specs.Staging.{Staging, written, AreFound}
-use Rattle.ut_store.specs.Changes.{op_fits, op_ends, ends_of, CanLook, Looked, MayChange, AreReady, IsDelete, IsWork}
+use Rattle.ut_store.specs.Changes.{CanLook, Looked, MayChange, AreReady, IsDelete, IsWork}
 use Rattle.ut_store.proofs.HitLemmas.{found-is, first_taken-is}
 use Rattle.ut_store.proofs.MadeLemmas.{deletes-are, length-rows, deletes_fit, deletes_fit_alone}
 use Rattle.ut_staged.proofs.StagingLemmas.{staging-deletes, written-deletes}
 use Rattle.ut_store.proofs.KindLemmas.{early_tests, TableAt, table_at, next_small}
-use Rattle.ut_store.proofs.SearchLemmas.{can_look, looked_for, place_view, hits_view, finds_free, AreGiven, FoundAt, found_places}
+use Rattle.ut_store.proofs.SearchLemmas.{can_look, looked_for, place_view, hits_view, finds_free, FoundAt, found_places}
 
 some_inside : (a b : Staged) → Some a ≡ Some b → a ≡ b
 some_inside a b h = cc
-
--- the deletes of places
-abbrev pub deletes_of : ℕ → List (ℕ × Place) → List Op
-deletes_of n hits = map (λ (x : ℕ × Place). ops.Delete n x.0) hits
-
-pub deletes-found : (n : ℕ) (found : List Found) → map (λ (f : Found). ops.Delete n f.id) found ≡ deletes_of n (hits_of found)
-deletes-found n [] = refl
-deletes-found n (f ∷ fs) = ap (λ os. ops.Delete n f.id ∷ os) (deletes-found n fs)
-
-pub length-hits : (found : List Found) → length (hits_of found) ≡ length found
-length-hits [] = refl
-length-hits (f ∷ fs) = ap suc (length-hits fs)
-
-deletes-fit : (columns : List Column) (n : ℕ) (hits : List (ℕ × Place)) → list_all (op_fits columns) (deletes_of n hits) ≡ true
-deletes-fit columns n [] = refl
-deletes-fit columns n (x ∷ xs) = deletes-fit columns n xs
-
-deletes-rule : (n next : ℕ) (hits : List (ℕ × Place)) → n < 65536 → next ≤ 2147483649 → AreGiven next hits → IsTrue (list_all is_op (deletes_of n hits))
-deletes-rule n next [] small few g = refl
-deletes-rule n next (x ∷ xs) small few g =
-    let lt = g.0 in
-    and_both _ _ (and_both (is_u16 n) (is_u32 x.0) (lt-ltb n 65536 small) (lt-ltb x.0 4294967296 (omega arith))) (deletes-rule n next xs small few g.1)
-
-ends-deletes : (n : ℕ) (hits : List (ℕ × Place)) → ends_of (deletes_of n hits) ≡ length hits
-ends-deletes n [] = refl
-ends-deletes n (x ∷ xs) = let rest = ends-deletes n xs in let one = sum_by-cons op_ends (ops.Delete n x.0) (deletes_of n xs) in omega (arith, rest, one)
-
-nothing_of : (n : ℕ) (hits : List (ℕ × Place)) → deletes_of n hits ≡ [] → length hits ≡ 0
-nothing_of n [] h = refl
-nothing_of n (x ∷ xs) h = cc
-
-something_of : (n : ℕ) (hits : List (ℕ × Place)) (op : Op) (rest : List Op) → deletes_of n hits ≡ op ∷ rest → 0 < length hits
-something_of n [] op rest h = cc
-something_of n (x ∷ xs) op rest h = omega arith
 
 -- ---- the statement
 
@@ -100,8 +59,8 @@ module _ (e : Held) (session n : ℕ) (name : List ℕ) (preds : List Pred) (m :
       changes_rows = λ p. refl;
       operations = λ p s. (λ i. deletes_all (place_view e session n name preds hits m.seat is delete_table l p s i) (rows_are p s i)) ∙ deletes-are e n hits;
       count = λ p s. ap length (rows_are p s) ∙ length-rows e n hits;
-      none = nothing_of n hits;
-      some = something_of n hits;
+      none = deletes-none n hits;
+      some = deletes-some n hits;
       limits = λ v. refl;
       clash = λ p s. ap (first_taken (view p session).taken) (rows_are p s) ∙ first_taken-is e p session n _ hits m.seat s (hits_view e session n name preds hits m.seat is delete_table l p s);
       fits_inside = λ o p s free h. deletes_fit e p session n name preds hits o m.seat h s (finds_free e session n name preds hits m.seat is delete_table l free);

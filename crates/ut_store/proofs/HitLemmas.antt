@@ -32,7 +32,8 @@ use Rattle.ut_txn.specs.Seats.{number_at}
 use Rattle.ut_store.specs.Held.{Held}
 use Rattle.ut_store.specs.Stands.{StandsFor, opened_snapshot}
 use Rattle.ut_store.specs.Reads.{looks_at, own_at, counts_for}
-use Rattle.ut_store.specs.Hits.{Hits, stamp_in, first_taken_of, plain_rows}
+use Rattle.ut_change.specs.Conflicts.{stamp_in}
+use Rattle.ut_store.specs.Hits.{Hits, first_taken_of, plain_rows}
 use Rattle.ut_exact.specs.Gone.{IsGone}
 use Rattle.ut_exact.proofs.GoneLemmas.{gone_unseen}
 use Rattle.ut_staged.specs.Staging.{AreFound}

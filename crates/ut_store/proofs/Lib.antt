@@ -22,7 +22,6 @@ pub mod AskLemmas
 pub mod ResolvedLemmas
 pub mod SeenRowLemmas
 pub mod ListedLemmas
-pub mod WriteLemmas
 pub mod LimitLemmas
 pub mod IndexLemmas
 pub mod FinishLemmas
@@ -31,5 +30,5 @@ pub mod SearchLemmas
 pub mod DeleteLemmas
 pub mod SuitLemmas
 pub mod UpdateLemmas
-pub mod LoadLemmas
+pub mod SpentLemmas
 pub mod BulkLemmas

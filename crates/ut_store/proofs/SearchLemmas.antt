@@ -24,12 +24,14 @@ use Rattle.ut_exact.proofs.OrderLemmas.{T_first, T_second, less}
 use Rattle.ut_exact.proofs.ScanLemmas.{seen_is_live}
 use Rattle.ut_staged.specs.Staged.{Staged}
 use Rattle.ut_table.specs.Finds.{SeenOnce, Finds, hits_of}
+use Rattle.ut_change.proofs.MadeLemmas.{AreGiven}
 use Rattle.ut_store.specs.Held.{Held}
 use Rattle.ut_store.specs.Stands.{StandsFor}
 use Rattle.ut_store.specs.Reads.{looks_at, own_at}
 use Rattle.ut_store.specs.Hits.{Hits, first_taken_of}
 use Rattle.ut_staged.specs.Staging.{AreFound}
-use Rattle.ut_store.specs.Changes.{AreThere, CanLook, Looked}
+use Rattle.ut_change.specs.Writes.{AreThere}
+use Rattle.ut_store.specs.Changes.{CanLook, Looked}
 use Rattle.ut_store.proofs.ReadLemmas.{reads}
 use Rattle.ut_store.proofs.HitLemmas.{dead_never, AreFound-hits}
 use Rattle.ut_store.proofs.MadeLemmas.{FindsFree}
@@ -98,11 +100,6 @@ module _ (e : Held) (session n : ℕ) (name : List ℕ) (preds : List Pred) (hit
 are_there : (s : Staged) (hits : List (ℕ × Place)) → AreFound s hits → AreThere s hits
 are_there s [] h = tt
 are_there s (x ∷ xs) h = (ap is_some h.1, are_there s xs h.4)
-
--- each id was given
-abbrev pub AreGiven : ℕ → List (ℕ × Place) → Type 0
-AreGiven next [] = Unit {0}
-AreGiven next (x ∷ xs) = (x.0 < next) × AreGiven next xs
 
 are_given : (e : Held) (p : Plain) (n : ℕ) (table : Staged) (hits : List (ℕ × Place)) → StandsFor e p → slice_get e.staged n ≡ Some table → AreFound table hits → AreGiven e.next_id hits
 are_given e p n table [] s at h = tt

@@ -1,14 +1,13 @@
 -- The operations of an update.
-use Rattle.std.proofs.Common.{ℕ, ◌+◌, ◌<◌, ◌≤◌, ◌≡◌, Bool, true, false, ◌&&◌, ◌||◌, List, [], ◌∷◌, length, map, Option, Some, refl, sym, ap, ◌∙◌, subst, arith, IsTrue, nat_eq, nat_le, lt-ltb, leb-true, eqb-true, slice_get, slice_set, unwrap_or}
+use Rattle.std.proofs.Common.{ℕ, ◌+◌, ◌<◌, ◌≤◌, ◌≡◌, Bool, true, false, ◌&&◌, ◌||◌, List, [], ◌∷◌, length, map, Option, Some, refl, sym, ap, ◌∙◌, subst, arith, IsTrue, nat_eq, nat_le, leb-true, eqb-true, slice_get, slice_set, unwrap_or}
 use Rattle.std.specs.List.{list_all}
 use Rattle.std.proofs.lemmas.List.Sums.{sum_by-cons}
-use Rattle.ut_value.specs.declared.value.Column.{Column}
 use Rattle.ut_value.specs.declared.value.Value.{Value}
 use Rattle.ut_value.specs.declared.entry.Op.{Op}
 use Rattle.ut_value.specs.declared.entry.Op.TheVariants as ops
 use Rattle.ut_value.specs.KeyBytes.{is_value}
 use Rattle.ut_value.specs.Text.{is_name}
-use Rattle.ut_value.specs.Spelling.{is_op, is_u16, is_u32, is_count, are_values, has_column}
+use Rattle.ut_value.specs.Spelling.{is_count, are_values, has_column}
 use Rattle.ut_plain.specs.declared.statement.Statement.{Statement}
 use Rattle.ut_plain.specs.declared.statement.Statement.TheVariants as statements
 use Rattle.ut_plain.specs.declared.statement.Pred.{Pred}
@@ -24,7 +23,7 @@ use Rattle.ut_plain.specs.Refusals.{first_taken, unless, or_else}
 use Rattle.ut_plain.specs.Spelled.{are_preds}
 use Rattle.ut_plain.specs.Plain.{Plain}
 use Rattle.ut_plain.specs.View.{view}
-use Rattle.ut_plain.proofs.BoolLemmas.{and_left, and_right, and_both}
+use Rattle.ut_plain.proofs.BoolLemmas.{and_left, and_right}
 use Rattle.ut_plain.proofs.ListLemmas.{list_all_set}
 use Rattle.ut_plain.proofs.TableLemmas.{there_known, fits_columns-set, are_values-fit}
 use Rattle.ut_plain.proofs.MadeLemmas.{suits_table}
@@ -34,13 +33,16 @@ use Rattle.ut_names.specs.declared.resolved.Target.{Target}
 use Rattle.ut_names.specs.Compiled.{Compiles}
 use Rattle.ut_staged.specs.Staged.{Staged}
 use Rattle.ut_plain.specs.declared.reply.Reply.TheVariants as replies
+use Rattle.ut_change.proofs.MadeLemmas.{AllFit, updates-fit, updates-rule, ends-updates}
 use Rattle.ut_store.specs.declared.turn.Turn.TheVariants.{Answered}
 use Rattle.ut_store.specs.Answers.{Answers}
 use Rattle.ut_store.specs.Held.{Held}
 use Rattle.ut_store.specs.Stands.{StandsFor}
 use Rattle.ut_store.specs.Hits.{plain_rows}
 use Rattle.ut_staged.specs.Staging.{Staging, written, AreFound}
-use Rattle.ut_store.specs.Changes.{has_ids_for, late_refusal, updated_ops, op_fits, op_ends, ends_of, CanLook, Looked, MayChange, AreReady, IsUpdate, IsWork}
+use Rattle.ut_change.specs.Writes.{op_fits}
+use Rattle.ut_change.specs.Made.{updated_ops}
+use Rattle.ut_store.specs.Changes.{has_ids_for, late_refusal, CanLook, Looked, MayChange, AreReady, IsUpdate, IsWork}
 use Rattle.ut_store.proofs.ReadLemmas.{reads}
 use Rattle.ut_staged.specs.Tables.{place_at}
 use Rattle.ut_store.proofs.HitLemmas.{found-is, first_taken-is}
@@ -48,39 +50,11 @@ use Rattle.ut_store.proofs.MadeLemmas.{values_at, updates-are, length-rows, upda
 use Rattle.ut_staged.proofs.StagingLemmas.{updates_of, staging-updates, written-updates}
 use Rattle.ut_store.proofs.KindLemmas.{early_tests, TableAt, table_at, at_n, next_small}
 use Rattle.ut_store.proofs.FinishLemmas.{answers_refused}
-use Rattle.ut_store.proofs.SearchLemmas.{known_in, can_look, looked_for, place_view, hits_view, finds_free, AreGiven, FoundAt, found_places}
+use Rattle.ut_store.proofs.SearchLemmas.{known_in, can_look, looked_for, place_view, hits_view, finds_free, FoundAt, found_places}
 use Rattle.ut_store.proofs.SuitLemmas.{AllSuit, all_suit}
 use Rattle.ut_staged.proofs.TableLemmas.{here}
 
 -- ---- what is made
-
--- each of these rows fits columns, and may be spelled
-abbrev AllFit : List Column → List (List Value) → Type 0
-AllFit columns [] = Unit {0}
-AllFit columns (vs ∷ rows) = IsTrue (fits_columns columns vs) × IsTrue (are_values vs) × AllFit columns rows
-
-updates-fit : (columns : List Column) (n id : ℕ) (hits : List (ℕ × Place)) (rows : List (List Value)) → AllFit columns rows → list_all (op_fits columns) (updates_of n id hits rows) ≡ true
-updates-fit columns n id [] rows h = refl
-updates-fit columns n id (x ∷ xs) [] h = refl
-updates-fit columns n id (x ∷ xs) (vs ∷ rows) h = and_both _ _ h.0 (updates-fit columns n (id + 1) xs rows h.2)
-
-updates-rule : (columns : List Column) (n next id : ℕ) (hits : List (ℕ × Place)) (rows : List (List Value)) → n < 65536 → next ≤ 2147483649 → id + length hits ≤ 2147483649 → AreGiven next hits → AllFit columns rows → IsTrue (list_all is_op (updates_of n id hits rows))
-updates-rule columns n next id [] rows small few room g h = refl
-updates-rule columns n next id (x ∷ xs) [] small few room g h = refl
-updates-rule columns n next id (x ∷ xs) (vs ∷ rows) small few room g h =
-    let given = g.0 in
-    let table : IsTrue (is_u16 n) = lt-ltb n 65536 small in
-    and_both _ _ (and_both (is_u16 n) (is_u32 x.0) table (lt-ltb x.0 4294967296 (omega arith)))
-    (and_both _ _ (and_both (is_u16 n && is_u32 id) (are_values vs) (and_both (is_u16 n) (is_u32 id) table (lt-ltb id 4294967296 (omega arith))) h.1)
-    (updates-rule columns n next (id + 1) xs rows small few (omega arith) g.1 h.2))
-
-ends-updates : (n id : ℕ) (hits : List (ℕ × Place)) (rows : List (List Value)) → ends_of (updates_of n id hits rows) ≤ length hits
-ends-updates n id [] rows = omega arith
-ends-updates n id (x ∷ xs) [] = omega arith
-ends-updates n id (x ∷ xs) (vs ∷ rows) =
-    let rest = ends-updates n (id + 1) xs rows in
-    let one = sum_by-cons op_ends (ops.Delete n x.0) (ops.Insert n id vs ∷ updates_of n (id + 1) xs rows) in
-    let two = sum_by-cons op_ends (ops.Insert n id vs) (updates_of n (id + 1) xs rows) in omega (arith, rest, one, two)
 
 abbrev pub update_of : Held → ℕ → (List Value → List Value) → ℕ → List (ℕ × Place) → List Op
 update_of e n change id hits = updates_of n id hits (map change (values_at e n hits))

@@ -1,13 +1,9 @@
 -- What a change of rows needs, and what it does to the store.
-use Rattle.std.specs.Prelude.{ℕ, ◌+◌, ◌≤◌, ◌<◌, ◌≡◌, ◌≢◌, Bool, true, ◌&&◌, ◌||◌, nat_eq, nat_le, nat_lt, is_some, IsTrue, IsSome, List, [], ◌∷◌, ◌++◌, length, map, Option, None, Some, All, slice_get, slice_set}
+use Rattle.std.specs.Prelude.{ℕ, ◌+◌, ◌≤◌, ◌<◌, ◌≡◌, ◌≢◌, Bool, true, ◌&&◌, ◌||◌, nat_eq, nat_le, nat_lt, is_some, IsTrue, List, [], ◌∷◌, ◌++◌, length, Option, None, Some, All, slice_get, slice_set}
 use Rattle.std.specs.Option.{option_map}
-use Rattle.std.specs.List as lists
-use Rattle.std.specs.List.{list_all, sum_by}
+use Rattle.std.specs.List.{list_all}
 use Rattle.ut_value.specs.declared.value.Value.{Value}
-use Rattle.ut_value.specs.declared.value.Column.{Column}
-use Rattle.ut_value.specs.declared.value.Row.{Row}
 use Rattle.ut_value.specs.declared.entry.Op.{Op}
-use Rattle.ut_value.specs.declared.entry.Op.TheVariants as ops
 use Rattle.ut_value.specs.declared.entry.Entry.TheVariants.{Txn}
 use Rattle.ut_value.specs.Spelling.{spelling, is_op, ops_len}
 use Rattle.ut_plain.specs.declared.table.Table.{Table}
@@ -16,7 +12,6 @@ use Rattle.ut_plain.specs.declared.statement.Statement.TheVariants as statements
 use Rattle.ut_plain.specs.declared.statement.Pred.{Pred}
 use Rattle.ut_plain.specs.declared.reply.Refusal.{Refusal}
 use Rattle.ut_plain.specs.declared.reply.Refusal.TheVariants as refusals
-use Rattle.ut_plain.specs.Tables.{fits_columns}
 use Rattle.ut_plain.specs.Condition.{meets}
 use Rattle.ut_plain.specs.Rows.{inserts_of}
 use Rattle.ut_plain.specs.Refusals.{unless, or_else, conflict}
@@ -26,14 +21,11 @@ use Rattle.ut_plain.specs.Plain.{Plain}
 use Rattle.ut_plain.specs.View.{View, view}
 use Rattle.ut_plain.specs.Spelled.{is_spelled}
 use Rattle.ut_plain.specs.Step.{effect_of, changed, is_bulk}
-use Rattle.ut_stamps.specs.declared.fates.Fate.{Fate}
 use Rattle.ut_stamps.specs.declared.fates.Fate.TheVariants.{Running, Committed}
-use Rattle.ut_stamps.specs.Stamps.{is_taken}
 use Rattle.ut_stamps.specs.declared.place.Place.{Place}
 use Rattle.ut_exact.specs.Work.{Fits}
 use Rattle.ut_exact.specs.Places.{dead_number}
-use Rattle.ut_exact.specs.Scan.{stored_in}
-use Rattle.ut_staged.specs.Staged.{Staged, row_at, count_of, entered_l1, ended_in}
+use Rattle.ut_staged.specs.Staged.{Staged}
 use Rattle.ut_table.specs.Finds.{SeenOnce}
 use Rattle.ut_scan.specs.declared.place.ColumnPred.{ColumnPred}
 use Rattle.ut_names.specs.declared.resolved.Selection.{Selection}
@@ -41,52 +33,14 @@ use Rattle.ut_names.specs.declared.resolved.Target.{Target}
 use Rattle.ut_names.specs.Resolved.{IsSelection, IsTarget}
 use Rattle.ut_txn.specs.declared.opened.Opened.{Opened}
 use Rattle.ut_txn.specs.Seats.{opened_at, payload_at, SeatSet, SeatsStay}
+use Rattle.ut_change.specs.Writes.{op_fits, ends_of, AreThere, CanWrite}
 use Rattle.ut_store.specs.Held.{Held}
 use Rattle.ut_store.specs.Stands.{StandsFor}
 use Rattle.ut_store.specs.Standing.{Stands, changes_rows}
 use Rattle.ut_store.specs.Early.{early_refusal}
 use Rattle.ut_store.specs.Reads.{looks_at, own_at}
-use Rattle.ut_store.specs.Hits.{Hits, stamp_in, first_taken_of}
-use Rattle.ut_staged.specs.Staging.{Staging, new_row}
-
--- ---- one operation after the other
-
--- what one operation of a transaction makes of the stages: a delete ends the next place that was found, an insert enters the first stage
-abbrev pub written_one : ℕ → Op → List (ℕ × Place) → Staged → Staged
-written_one number (ops.Insert table id values) hits s = entered_l1 (new_row number id values) s
-written_one number (ops.Delete table id) [] s = s
-written_one number (ops.Delete table id) (h ∷ hits) s = ended_in number h.1 s
-
--- the places that are left behind it
-abbrev pub hits_behind : Op → List (ℕ × Place) → List (ℕ × Place)
-hits_behind (ops.Insert table id values) hits = hits
-hits_behind (ops.Delete table id) [] = []
-hits_behind (ops.Delete table id) (h ∷ hits) = hits
-
--- whether an insert has a value for each column
-abbrev pub op_fits : List Column → Op → Bool
-op_fits columns (ops.Insert table id values) = fits_columns columns values
-op_fits columns (ops.Delete table id) = true
-
--- how many rows an operation, or these, end
-abbrev pub op_ends : Op → ℕ
-op_ends (ops.Insert table id values) = 0
-op_ends (ops.Delete table id) = 1
-
-abbrev pub ends_of : List Op → ℕ
-ends_of os = sum_by op_ends os
-
--- a row stands in each of these places
-abbrev pub AreThere : Staged → List (ℕ × Place) → Type 0
-AreThere s [] = Unit {0}
-AreThere s (h ∷ hits) = IsSome (row_at s h.1) × AreThere s hits
-
--- The stages can take these operations: the inserts fit the columns, there are places for them, and there is a place with a row for each delete.
-pub record CanWrite (s : Staged) (hits : List (ℕ × Place)) (os : List Op) : Type 0 where
-  pub fits : IsTrue (list_all (op_fits s.columns) os)
-  pub few : count_of s + inserts_of os ≤ 2147483648
-  pub there : AreThere s hits
-  pub enough : ends_of os ≤ length hits
+use Rattle.ut_store.specs.Hits.{Hits, first_taken_of}
+use Rattle.ut_staged.specs.Staging.{Staging}
 
 -- ---- limits and conflicts
 
@@ -106,10 +60,6 @@ has_room_for e session (op ∷ os) = has_ids_for e (inserts_of (op ∷ os)) && h
 -- the refusal behind the early ones: of limits, else of a conflict
 abbrev pub late_refusal : Held → ℕ → ℕ → List (ℕ × Place) → List Op → Option Refusal
 late_refusal e session n hits os = or_else (unless (has_room_for e session os) refusals.Full) (option_map refusals.Conflict (first_taken_of e session n hits))
-
--- the first of these rows of a table that is taken
-abbrev pub first_taken_in : Staged → List Fate → ℕ → Option ℕ → List (ℕ × Place) → Option ℕ
-first_taken_in s fates snapshot own hits = option_map (λ (x : ℕ × Place). x.0) (lists.find (λ (x : ℕ × Place). is_taken fates snapshot own (stamp_in (row_at s x.1))) hits)
 
 -- ---- what is done
 
@@ -165,17 +115,6 @@ pub record DoneAlone (old new : Held) (n : ℕ) (os : List Op) (after : ℕ → 
 pub record Stays (old new : Held) : Type 0 where
   pub each : (p : Plain) → StandsFor old p → StandsFor new p
 
--- ---- rows that are loaded
-
--- rows under the ids from a number on
-abbrev pub numbered : ℕ → List (List Value) → List Row
-numbered id [] = []
-numbered id (values ∷ rows) = record { id = id; values = values } ∷ numbered (id + 1) rows
-
--- the inserts of rows
-abbrev pub inserts_all : ℕ → List Row → List Op
-inserts_all n rows = map (λ (r : Row). ops.Insert n r.id r.values) rows
-
 -- ---- what is looked for
 
 -- The session can look for rows of the table at a place, by comparisons of its columns.
@@ -191,11 +130,6 @@ pub record Looked (e : Held) (session n : ℕ) (preds : List Pred) (hits : List 
   pub table : Staged
   pub at : slice_get e.staged n ≡ Some table
   pub hits_are : Hits e session n (meets table.columns preds) hits
-
--- the operations of an update: the row in each place is deleted, and a copy with another value in a column inserted
-abbrev pub updated_ops : Staged → ℕ → ℕ → ℕ → Value → List (ℕ × Place) → List Op
-updated_ops s n id column value [] = []
-updated_ops s n id column value (h ∷ hits) = ops.Delete n h.0 ∷ ops.Insert n id (slice_set (stored_in n (row_at s h.1)).values column value) ∷ updated_ops s n (id + 1) column value hits
 
 -- ---- statements
 

@@ -9,6 +9,5 @@ pub mod Standing
 pub mod Created
 pub mod Listed
 pub mod Changes
-pub mod Loads
 pub mod Merging
 pub mod Jobs

@@ -1,20 +1,19 @@
 //! Bulk: rows are loaded into the second stage of their table.
-ghost use Rattle.std.specs.Prelude.{◌≡◌, ◌+◌, ◌<◌, ◌≤◌, ◌^◌, [], None, Some, IfOk, length, map};
-ghost use Rattle.ut_plain.specs.Made.{rows_of};
+ghost use Rattle.std.specs.Prelude.{◌≡◌, ◌<◌, [], None, Some, length, map};
 ghost use Rattle.ut_staged.specs.Staged.{begun_row, entered_l2};
 ghost use Rattle.ut_txn.specs.Seats.{opened_at};
 ghost use Rattle.ut_store.specs.Answers.{Answers};
-ghost use Rattle.ut_store.specs.Loads.{inserted};
-ghost use Rattle.ut_store.specs.Changes.{MayChange, AreReady, IsWork, late_refusal, numbered, inserts_all};
+ghost use Rattle.ut_change.specs.Loads.{inserted, inserts_all};
+ghost use Rattle.ut_store.specs.Changes.{MayChange, AreReady, IsWork, late_refusal};
 
 use crate::change::place_in;
 use crate::finish::no_memory;
-use crate::load::into_inserts;
 use crate::{Store, Turn};
-use std::alloc::{AllocError, Global};
+use std::alloc::Global;
+use ut_change::{insert_all, row_list, rows_in};
 use ut_plain::{Refusal, Reply, Statement};
 use ut_txn::Opened;
-use ut_value::{Name, Op, Row, Seq, Value};
+use ut_value::{Name, Op, Seq, Value};
 
 impl Store {
     pub(crate) fn bulk(
@@ -119,56 +118,4 @@ impl Store {
             Err(_) => no_memory(),
         }
     }
-}
-
-/// How many rows values are cut into.
-fn rows_in(width: usize, values: &[Value]) -> usize
-    requires { 0 < width }
-    ensures { result ≡ length (rows_of width values.now) }
-{
-    let mut count = 0;
-    let mut rest = values;
-    while rest.len() > 0 {
-        let (_, others) = rest.split_at(width.min(rest.len()));
-        count += 1;
-        rest = others;
-    }
-    count
-}
-
-/// The rows that values are cut into, under the ids from a number on.
-fn row_list(alloc: Global, id: u32, width: usize, values: &[Value]) -> Result<Vec<Row>, AllocError>
-    requires width { 0 < width }
-    requires ids { id + length (rows_of width values.now) < 2 ^ 32 }
-    ensures { IfOk result (λ rows. rows.items ≡ numbered id (rows_of width values.now)) }
-{
-    let mut rows = Vec::new(alloc);
-    let mut id = id;
-    let mut rest = values;
-    while rest.len() > 0 {
-        let (row, others) = rest.split_at(width.min(rest.len()));
-        let values = values_copied(alloc, row)?;
-        rows.push(Row { id, values })?;
-        id += 1;
-        rest = others;
-    }
-    Ok(rows)
-}
-
-fn values_copied(alloc: Global, values: &[Value]) -> Result<Seq<Value>, AllocError>
-    ensures { IfOk result (λ copy. copy ≡ values.now) }
-{
-    let mut copies = Vec::with_capacity(alloc, values.len())?;
-    for value in values {
-        copies.push(value.copy(alloc)?)?;
-    }
-    Ok(Seq::from_vec(copies))
-}
-
-/// The inserts of rows. No value is copied.
-fn insert_all(alloc: Global, table: u16, rows: Vec<Row>) -> Result<Vec<Op>, AllocError>
-    ensures { IfOk result (λ ops. ops.items ≡ inserts_all table rows.items) }
-{
-    let ops = Vec::with_capacity(alloc, rows.len())?;
-    Ok(into_inserts(ops, table, rows))
 }

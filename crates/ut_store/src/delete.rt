@@ -1,18 +1,17 @@
 //! Delete: the rows that meet a condition end.
-ghost use Rattle.std.specs.Prelude.{◌≡◌, ◌<◌, map, IsTrue, IfOk};
+ghost use Rattle.std.specs.Prelude.{◌≡◌, ◌<◌, IsTrue};
 ghost use Rattle.ut_plain.specs.Spelled.{is_spelled};
-ghost use Rattle.ut_scan.specs.declared.place.Found.{Found};
 ghost use Rattle.ut_store.specs.Answers.{Answers};
 ghost use Rattle.ut_store.specs.Standing.{Stands, suits_session};
 ghost use Rattle.ut_store.specs.Changes.{IsDelete, MayChange};
 
 use crate::finish::no_memory;
 use crate::{Store, Turn};
-use std::alloc::{AllocError, Global};
+use std::alloc::Global;
+use ut_change::delete_ops;
 use ut_names::{Selection, selection};
 use ut_plain::{Pred, Reply, Statement};
-use ut_scan::Found;
-use ut_value::{Name, Op, Seq};
+use ut_value::{Name, Seq};
 
 impl Store {
     pub(crate) fn delete(
@@ -50,12 +49,4 @@ impl Store {
         let count = hits.len() as u32;
         self.finish(alloc, session, st, rows.table, &hits, ops, count)
     }
-}
-
-fn delete_ops(alloc: Global, table: u16, hits: &[Found]) -> Result<Vec<Op>, AllocError>
-    ensures { IfOk result (λ ops. ops.items ≡ map (λ (f : Found). Op.Delete table f.id) hits.now) }
-{
-    hits.iter()
-        .map(|hit| Op::Delete { table, id: hit.id })
-        .collect(alloc)
 }

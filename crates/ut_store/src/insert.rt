@@ -1,14 +1,15 @@
 //! Insert: one row enters the first stage of its table.
-ghost use Rattle.std.specs.Prelude.{◌≡◌, ◌∷◌, [], IfOk};
+ghost use Rattle.std.specs.Prelude.{◌≡◌};
 ghost use Rattle.ut_store.specs.Answers.{Answers};
 ghost use Rattle.ut_store.specs.Changes.{MayChange};
 
 use crate::change::place_in;
 use crate::finish::no_memory;
 use crate::{Store, Turn};
-use std::alloc::{AllocError, Global};
+use std::alloc::Global;
+use ut_change::insert_ops;
 use ut_plain::Statement;
-use ut_value::{Duplicate, Name, Op, Seq, Value};
+use ut_value::{Name, Seq, Value};
 
 impl Store {
     pub(crate) fn insert(
@@ -29,18 +30,4 @@ impl Store {
             Err(_) => no_memory(),
         }
     }
-}
-
-fn insert_ops(
-    alloc: Global,
-    table: u16,
-    id: u32,
-    values: &Seq<Value>,
-) -> Result<Vec<Op>, AllocError>
-    ensures { IfOk result (λ ops. ops.items ≡ Op.Insert table id values.now ∷ []) }
-{
-    let values = values.duplicate(alloc)?;
-    let mut ops = Vec::new(alloc);
-    ops.push(Op::Insert { table, id, values })?;
-    Ok(ops)
 }

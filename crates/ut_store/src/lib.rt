@@ -20,7 +20,6 @@ mod transactions;
 mod turn;
 mod update;
 mod work;
-mod write;
 
 pub use store::Store;
 pub use turn::{Outcome, Turn};

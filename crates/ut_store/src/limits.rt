@@ -1,5 +1,5 @@
 //! Whether operations keep to the limits, and whether another transaction is in their way.
-ghost use Rattle.std.specs.Prelude.{◌≡◌, ◌+◌, ◌<◌, ◌≤◌, ◌^◌, ℕ, List, length, IsTrue, unwrap_or};
+ghost use Rattle.std.specs.Prelude.{◌≡◌, ◌<◌, IsTrue, unwrap_or};
 ghost use Rattle.std.specs.Option.{option_map};
 ghost use Rattle.std.specs.List.{list_all};
 ghost use Rattle.ut_value.specs.Spelling.{is_op};
@@ -7,14 +7,12 @@ ghost use Rattle.ut_table.specs.Finds.{hits_of};
 ghost use Rattle.ut_txn.specs.declared.opened.Opened.{Opened};
 ghost use Rattle.ut_store.specs.Stands.{opened_snapshot};
 ghost use Rattle.ut_store.specs.Hits.{first_taken_of};
-ghost use Rattle.ut_store.specs.Changes.{AreThere, HasPlaces, has_ids_for, has_bytes_for, has_room_for, late_refusal, first_taken_in};
+ghost use Rattle.ut_store.specs.Changes.{HasPlaces, has_ids_for, has_bytes_for, has_room_for, late_refusal};
 
 use crate::Store;
-use crate::write::{inserts_of, ops_len};
+use ut_change::{first_taken_in, inserts_of, ops_len};
 use ut_plain::Refusal;
 use ut_scan::Found;
-use ut_stamps::{Fates, is_taken};
-use ut_table::Table as Stages;
 use ut_txn::Opened;
 use ut_value::Op;
 
@@ -108,23 +106,4 @@ pub(crate) fn own_number(opened: Option<Opened>) -> Option<u64>
         Some(transaction) => Some(transaction.number),
         None => None,
     }
-}
-
-fn first_taken_in(
-    table: &Stages,
-    fates: &Fates,
-    snapshot: u32,
-    own: Option<u64>,
-    hits: &[Found],
-) -> Option<u32>
-    requires { AreThere table.now.stages (hits_of hits.now) }
-    ensures { result ≡ first_taken_in table.now.stages fates.now snapshot own (hits_of hits.now) }
-{
-    for hit in hits {
-        let stamp = table.stamp(hit.place);
-        if is_taken(fates, &stamp, snapshot, own) {
-            return Some(hit.id);
-        }
-    }
-    None
 }

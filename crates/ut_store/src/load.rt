@@ -1,18 +1,17 @@
 //! Rows are loaded into the second stage: in the session's transaction, or as a transaction by themselves.
-ghost use Rattle.std.specs.Prelude.{◌≡◌, ◌+◌, ◌<◌, ◌≤◌, ◌^◌, [], Some, length, map, vec_len, vec_capacity, IfOk, OnOk, OnErr};
+ghost use Rattle.std.specs.Prelude.{◌≡◌, ◌+◌, ◌<◌, ◌≤◌, ◌^◌, [], Some, length, map, OnOk, OnErr};
 ghost use Rattle.ut_value.specs.Spelling.{ops_len};
 ghost use Rattle.ut_staged.specs.Staged.{begun_row, entered_l2};
 ghost use Rattle.ut_txn.specs.Seats.{opened_at, payload_at};
 ghost use Rattle.ut_store.specs.Answers.{Same};
-ghost use Rattle.ut_store.specs.Loads.{inserted};
-ghost use Rattle.ut_store.specs.Changes.{CanDo, CanAppend, DoneInside, DoneAlone, Stays, inserts_all};
+ghost use Rattle.ut_change.specs.Loads.{inserted, inserts_all};
+ghost use Rattle.ut_store.specs.Changes.{CanDo, CanAppend, DoneInside, DoneAlone, Stays};
 
 use crate::Store;
-use crate::work::{bytes_of, framed};
-use crate::write::{inserts_of, note_all};
 use std::alloc::{AllocError, Global};
+use ut_change::{bytes_of, framed, inserts_of, into_rows, note_all, rows_copied};
 use ut_txn::Opened;
-use ut_value::{Duplicate, Op, Row};
+use ut_value::Op;
 
 impl Store {
     /// Loads rows in the session's transaction: all or none.
@@ -72,49 +71,4 @@ impl Store {
         self.frame = frame;
         Ok(())
     }
-}
-
-/// Copies of the rows that operations insert.
-fn rows_copied(alloc: Global, ops: &[Op]) -> Result<Vec<Row>, AllocError>
-    ensures { IfOk result (λ rows. rows.items ≡ inserted ops.now) }
-{
-    let mut rows = Vec::with_capacity(alloc, ops.len())?;
-    for op in ops {
-        match op {
-            Op::Insert { id, values, .. } => {
-                let values = values.duplicate(alloc)?;
-                rows.push(Row { id: *id, values })?;
-            }
-            Op::Delete { .. } => {}
-        }
-    }
-    Ok(rows)
-}
-
-/// The rows that operations insert. No value is copied.
-fn into_rows(alloc: Global, ops: Vec<Op>) -> Result<Vec<Row>, AllocError>
-    ensures { IfOk result (λ rows. rows.items ≡ inserted ops.items) }
-{
-    let mut rows = Vec::with_capacity(alloc, ops.len())?;
-    for op in ops {
-        match op {
-            Op::Insert { id, values, .. } => rows.push(Row { id, values })?,
-            Op::Delete { .. } => {}
-        }
-    }
-    Ok(rows)
-}
-
-/// The inserts of rows, in a list that has room for them. This takes no memory.
-pub(crate) fn into_inserts(ops: Vec<Op>, table: u16, rows: Vec<Row>) -> Vec<Op>
-    requires empty { ops.items ≡ [] }
-    requires room { vec_len rows ≤ vec_capacity ops }
-    ensures { result.items ≡ inserts_all table rows.items }
-{
-    let mut ops = ops;
-    for row in rows {
-        let Row { id, values } = row;
-        ops.push_reserved(Op::Insert { table, id, values });
-    }
-    ops
 }

@@ -1,9 +1,6 @@
 //! Operations are done: in the session's transaction, or as a transaction by themselves.
-ghost use Rattle.std.specs.Prelude.{◌≡◌, ◌+◌, ◌<◌, ◌≤◌, ◌^◌, ℕ, List, Some, length, IsTrue, IfOk, OnOk, OnErr};
-ghost use Rattle.std.specs.List.{list_all};
-ghost use Rattle.ut_value.specs.declared.entry.Entry.TheVariants.{Txn};
-ghost use Rattle.ut_value.specs.Spelling.{spelling, is_op, ops_len};
-ghost use Rattle.ut_staged.specs.Staged.{Staged};
+ghost use Rattle.std.specs.Prelude.{◌≡◌, ◌+◌, ◌<◌, ◌≤◌, ◌^◌, Some, length, OnOk, OnErr};
+ghost use Rattle.ut_value.specs.Spelling.{ops_len};
 ghost use Rattle.ut_table.specs.Finds.{hits_of};
 ghost use Rattle.ut_txn.specs.Seats.{opened_at, payload_at};
 ghost use Rattle.ut_store.specs.Answers.{Same};
@@ -11,9 +8,8 @@ ghost use Rattle.ut_staged.specs.Staging.{written};
 ghost use Rattle.ut_store.specs.Changes.{CanDo, CanAppend, DoneInside, DoneAlone};
 
 use crate::Store;
-use crate::write::{add_all, inserts_of, note_all, ops_len, write_all};
 use std::alloc::{AllocError, Global};
-use ut_redo::Frame;
+use ut_change::{bytes_of, framed, inserts_of, note_all, write_all};
 use ut_scan::Found;
 use ut_txn::Opened;
 use ut_value::Op;
@@ -72,28 +68,4 @@ impl Store {
         self.frame = frame;
         Ok(())
     }
-}
-
-/// How many bytes operations have.
-pub(crate) fn bytes_of(ops: &[Op]) -> u32
-    requires rule { IsTrue (list_all is_op ops.now) }
-    requires short { ops_len ops.now ≤ 2 ^ 30 }
-    ensures { result ≡ ops_len ops.now }
-{
-    match ops_len(ops, 1 << 30) {
-        Some(bytes) => bytes,
-        None => 0,
-    }
-}
-
-/// The frame of operations.
-pub(crate) fn framed(alloc: Global, ops: &[Op]) -> Result<Frame, AllocError>
-    requires rule { IsTrue (list_all is_op ops.now) }
-    requires short { ops_len ops.now + 5 ≤ 2 ^ 30 }
-    ensures { IfOk result (λ frame. frame.payload ≡ spelling (Txn ops.now)) }
-{
-    let mut frame = Frame::txn(alloc)?;
-    frame.room(bytes_of(ops))?;
-    add_all(&mut frame, ops);
-    Ok(frame)
 }

@@ -4,13 +4,13 @@ use Rattle.ut_plain.specs.Tables.{place_in, columns_in}
 use Rattle.ut_plain.specs.Made.{rows_of}
 use Rattle.ut_staged.specs.Staged.{Staged, begun_row, entered_l2}
 use Rattle.ut_store.specs.Held.{Held}
-use Rattle.ut_store.specs.Changes.{has_ids_for, numbered, inserts_all, IsWork}
-use Rattle.ut_store.specs.Loads.{inserted}
+use Rattle.ut_change.specs.Loads.{numbered, inserts_all, inserted}
+use Rattle.ut_store.specs.Changes.{has_ids_for, IsWork}
 use Rattle.ut_store.proofs.StandsLemmas.{itself_same}
 use Rattle.ut_store.proofs.IndexLemmas.{stages_in, stages_at_place}
 use Rattle.ut_store.proofs.FinishLemmas.{answers_memory}
-use Rattle.ut_store.proofs.BulkLemmas.{bulk_at, bulk_wide, bulk_ready, bulk_work, bulk_some, bulk_full, length-numbered}
-use Rattle.ut_store.proofs.LoadLemmas.{inserted-all}
+use Rattle.ut_change.proofs.LoadLemmas.{length-numbered, inserted-all}
+use Rattle.ut_store.proofs.BulkLemmas.{bulk_at, bulk_wide, bulk_ready, bulk_work, bulk_some, bulk_full}
 use Rattle.ut_store.proofs.store.Store.bulk.Goals as goal
 
 pub rows_in-count-requires : goal.rows_in-count-requires

@@ -3,7 +3,7 @@ use Rattle.ut_store.specs.declared.turn.Turn.{Turn}
 use Rattle.ut_store.specs.Held.{Held}
 use Rattle.ut_store.specs.Answers.{Answers}
 use Rattle.ut_store.proofs.FinishLemmas.{can_do, can_append, answers_alone}
-use Rattle.ut_store.proofs.LoadLemmas.{answers_stays}
+use Rattle.ut_store.proofs.SpentLemmas.{answers_stays}
 use Rattle.ut_store.proofs.store.Store.bulk_alone.Goals as goal
 use Rattle.ut_store.proofs.store.Store.bulk_alone.Goals.{in-Ok, in-Err}
 

@@ -8,7 +8,8 @@ use Rattle.ut_staged.specs.Staging.{written}
 use Rattle.ut_store.specs.Changes.{CanLook, AreReady, IsWork}
 use Rattle.ut_store.proofs.StandsLemmas.{itself_same}
 use Rattle.ut_store.proofs.FinishLemmas.{answers_memory}
-use Rattle.ut_store.proofs.DeleteLemmas.{deletes_of, deletes-found, length-hits, delete_small, delete_look, delete_looked, delete_few, delete_ready, delete_work}
+use Rattle.ut_change.proofs.MadeLemmas.{deletes_of, deletes-found, length-hits}
+use Rattle.ut_store.proofs.DeleteLemmas.{delete_small, delete_look, delete_looked, delete_few, delete_ready, delete_work}
 use Rattle.ut_store.proofs.store.Store.delete_rows.Goals as goal
 
 pub hits-requires : goal.hits-requires

@@ -9,7 +9,7 @@ use Rattle.ut_staged.specs.Staged.{Staged}
 use Rattle.ut_table.specs.Finds.{hits_of}
 use Rattle.ut_store.specs.Held.{Held}
 use Rattle.ut_staged.specs.Staging.{written}
-use Rattle.ut_store.specs.Changes.{CanWrite}
+use Rattle.ut_change.specs.Writes.{CanWrite}
 use Rattle.ut_store.proofs.IndexLemmas.{on_err, stages_in, stages_at_place, stages_same, stages_put, seats_itself, same_by, alone_by}
 use Rattle.ut_store.proofs.store.Store.do_alone.Goals as goal
 

@@ -7,7 +7,7 @@ use Rattle.ut_table.specs.Finds.{hits_of}
 use Rattle.ut_txn.specs.Seats.{opened_at}
 use Rattle.ut_store.specs.Held.{Held}
 use Rattle.ut_staged.specs.Staging.{written}
-use Rattle.ut_store.specs.Changes.{CanWrite}
+use Rattle.ut_change.specs.Writes.{CanWrite}
 use Rattle.ut_store.proofs.IndexLemmas.{on_err, stages_in, stages_at_place, stages_same, stages_put, seats_itself, seat_set_behind, same_by, inside_by}
 use Rattle.ut_store.proofs.store.Store.do_inside.Goals as goal
 

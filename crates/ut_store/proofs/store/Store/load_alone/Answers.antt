@@ -10,10 +10,11 @@ use Rattle.ut_stamps.specs.Stamps.{fate_at, is_running}
 use Rattle.ut_exact.proofs.FateLemmas.{fate-push_new}
 use Rattle.ut_staged.specs.Staged.{Staged, begun_row, entered_l2, count_of}
 use Rattle.ut_store.specs.Held.{Held}
-use Rattle.ut_store.specs.Changes.{op_fits}
-use Rattle.ut_store.specs.Loads.{inserted}
+use Rattle.ut_change.specs.Writes.{op_fits}
+use Rattle.ut_change.specs.Loads.{inserted}
 use Rattle.ut_store.proofs.IndexLemmas.{stages_in, stages_at_place, stages_same, stages_put, seats_itself, alone_by}
-use Rattle.ut_store.proofs.LoadLemmas.{rows-fit, inserts-all, spent_by}
+use Rattle.ut_change.proofs.LoadLemmas.{rows-fit, inserts-all}
+use Rattle.ut_store.proofs.SpentLemmas.{spent_by}
 use Rattle.ut_store.proofs.store.Store.load_alone.Goals as goal
 
 pub load-requires-clause-fit : goal.load-requires-clause-fit

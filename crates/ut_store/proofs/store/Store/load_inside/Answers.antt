@@ -8,10 +8,10 @@ use Rattle.ut_plain.specs.Rows.{inserts_of}
 use Rattle.ut_staged.specs.Staged.{Staged, begun_row, entered_l2, count_of}
 use Rattle.ut_txn.specs.Seats.{opened_at}
 use Rattle.ut_store.specs.Held.{Held}
-use Rattle.ut_store.specs.Changes.{op_fits}
-use Rattle.ut_store.specs.Loads.{inserted}
+use Rattle.ut_change.specs.Writes.{op_fits}
+use Rattle.ut_change.specs.Loads.{inserted}
 use Rattle.ut_store.proofs.IndexLemmas.{on_err, stages_in, stages_at_place, stages_same, stages_put, seat_set_behind, same_by, inside_by}
-use Rattle.ut_store.proofs.LoadLemmas.{rows-fit, inserts-all}
+use Rattle.ut_change.proofs.LoadLemmas.{rows-fit, inserts-all}
 use Rattle.ut_store.proofs.store.Store.load_inside.Goals as goal
 
 pub load-requires-clause-fit : goal.load-requires-clause-fit

@@ -6,11 +6,13 @@ use Rattle.ut_table.specs.Finds.{hits_of}
 use Rattle.ut_names.specs.Compiled.{Compiles}
 use Rattle.ut_store.specs.Held.{Held}
 use Rattle.ut_staged.specs.Staging.{written}
-use Rattle.ut_store.specs.Changes.{has_ids_for, updated_ops, AreThere, CanLook, AreReady, IsWork}
+use Rattle.ut_change.specs.Writes.{AreThere}
+use Rattle.ut_change.specs.Made.{updated_ops}
+use Rattle.ut_store.specs.Changes.{has_ids_for, CanLook, AreReady, IsWork}
 use Rattle.ut_store.proofs.StandsLemmas.{itself_same}
 use Rattle.ut_store.proofs.IndexLemmas.{stages_in, stages_at_place}
 use Rattle.ut_store.proofs.FinishLemmas.{answers_memory}
-use Rattle.ut_store.proofs.DeleteLemmas.{length-hits}
+use Rattle.ut_change.proofs.MadeLemmas.{length-hits}
 use Rattle.ut_store.proofs.UpdateLemmas.{update_small, update_look, update_looked, update_found, update_ready, update_work, update_full, update_made}
 use Rattle.ut_store.proofs.store.Store.update_rows.Goals as goal
 

@@ -1,0 +1,4 @@
+pub mod WriteLemmas
+pub mod ConflictLemmas
+pub mod LoadLemmas
+pub mod MadeLemmas

@@ -1,0 +1,4 @@
+pub mod Writes
+pub mod Conflicts
+pub mod Loads
+pub mod Made
