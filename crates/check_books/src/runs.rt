@@ -1,5 +1,5 @@
 //! Runs of crowds over a disk and streams in memory, and what they leave.
-use check_run::run::{RUN, copy_of, run_on};
+use check_run::run::{RUN, copy_of, new_disk, run_on};
 use check_run::saved::QUESTION;
 use std::alloc::{AllocError, Global};
 use std::sync::Wait;
@@ -40,6 +40,28 @@ pub fn run_crowd(
         acks: report.acks,
         journal: report.journal,
     })
+}
+
+/// A crowd, and the disk that it leaves.
+#[derive(Drop)]
+pub struct Crowd {
+    pub came: Came,
+    pub disk: MemDisk,
+}
+
+/// Runs a crowd on a new disk whose calls of these numbers fail.
+pub fn run_failing(
+    rt: &(impl Threads + Wait + Sync),
+    alloc: Global,
+    lines: &[u8],
+    calls: &[u64],
+) -> Result<Crowd, AllocError> {
+    let mut disk = new_disk(alloc)?;
+    for call in calls {
+        disk.fail_at(*call)?;
+    }
+    let came = run_crowd(rt, alloc, CROWD_NEW, lines, &mut disk)?;
+    Ok(Crowd { came, disk })
 }
 
 /// What a disk has.

@@ -4,11 +4,11 @@ ghost use Rattle.ut_plain.specs.Plain.{Plain};
 ghost use Rattle.ut_engine.specs.Runs.{Runs};
 
 use crate::watch::Watch;
+use check_run::run::new_disk;
 use std::alloc::{AllocError, Global};
 use std::collections::VecDeque;
 use std::process::Abort;
 use std::sync::Wait;
-use std::sync::atomic::Ordering::SeqCst;
 use std::test::Fail;
 use std::thread::Threads;
 use ut_crowd::{Ended, Turn, crowd, put_book};
@@ -132,52 +132,82 @@ fn is_ascending(book: &[Turn]) -> bool {
     true
 }
 
-#[test]
-fn lines_are_answered_while_a_merge_is_built(rt: HostRuntime) -> Result<(), Fail> {
-    let alloc = rt.alloc();
-    let mut disk = MemDisk::of(alloc, &[], &[], &[])?;
-    let watch = Watch::new();
-    let came = run(&rt, alloc, &mut disk, of_two(alloc)?, 8, &watch)?;
+/// Runs the lines on a new disk.
+fn run_new(
+    rt: &(impl Abort + Threads + Wait + Sync),
+    alloc: Global,
+    lines: VecDeque<Seq<u8>>,
+    l1: u32,
+    hook: &(impl Hook + Sync),
+) -> Result<Came, Fail>
+    requires { (1 ≤ l1) × (l1 ≤ 1048576) }
+{
+    let mut disk = new_disk(alloc)?;
+    run(rt, alloc, &mut disk, lines, l1, hook)
+}
+
+/// So many turns each of these sessions has, and all lines were answered.
+fn check_turns(rt: &impl Abort, came: &Came, turns: &[(u8, usize)]) {
     assert!(rt; came.all && !came.down);
-    let book = came.book.as_slice();
-    assert_eq!(rt; turns_of(book, 1), 50);
-    assert_eq!(rt; turns_of(book, 2), 50);
-    assert!(rt; is_ascending(book));
-    assert_eq!(rt; watch.lines.load(SeqCst), 100);
-    assert!(rt; watch.builds.load(SeqCst) >= 1);
-    assert_eq!(rt; watch.missed.load(SeqCst), 0);
-    Ok(())
+    for (session, number) in turns {
+        assert_eq!(rt;
+            turns_of(came.book.as_slice(), *session),
+            *number,
+            "session {session}"
+        );
+    }
 }
 
 #[test]
-fn each_line_has_its_turn(rt: HostRuntime) -> Result<(), Fail> {
-    let alloc = rt.alloc();
-    let mut disk = MemDisk::of(alloc, &[], &[], &[])?;
-    let watch = Watch::new(); // the store has a turn before the twentieth line is past
-    let came = run(&rt, alloc, &mut disk, of_four(alloc)?, 2, &watch)?;
-    assert!(rt; came.all && !came.down);
-    let book = came.book.as_slice();
+fn lines_are_answered_while_a_merge_is_built(rt: HostRuntime) -> Result<(), Fail> {
+    let watch = Watch::new();
+    let lines = of_two(rt.alloc())?;
+    let came = run_new(&rt, rt.alloc(), lines, 8, &watch)?;
+    check_turns(&rt, &came, &[(1, 50), (2, 50)]);
+    assert!(rt; is_ascending(came.book.as_slice()));
+    watch.check(&rt);
+    Ok(())
+}
+
+fn text_of(alloc: Global, book: &[Turn]) -> Result<Vec<u8>, AllocError> {
     let mut text = Vec::new(alloc);
     put_book(&mut text, book)?;
+    Ok(text)
+}
+
+/// The lines of nobody come first.
+fn check_front(rt: &impl Abort, alloc: Global, book: &[Turn]) -> Result<(), AllocError> {
+    let text = text_of(alloc, book)?;
     assert!(rt;
         text.as_slice().starts_with(
             b"> nobody\n? refused syntax\n> 0 merge end\n? refused syntax\n"
         )
     );
-    assert_eq!(rt; turns_of(book, 1), 11);
-    assert_eq!(rt; turns_of(book, 2), 10);
-    assert_eq!(rt; turns_of(book, 9), 10);
-    assert_eq!(rt; turns_of(book, 16), 10);
-    assert!(rt; turns_of(book, 0) >= 1);
     Ok(())
 }
 
 #[test]
-fn a_fault_ends_the_crowd(rt: HostRuntime) -> Result<(), Fail> {
-    let alloc = rt.alloc();
-    let mut disk = MemDisk::of(alloc, &[], &[], &[])?;
+fn each_line_has_its_turn(rt: HostRuntime) -> Result<(), Fail> {
+    let watch = Watch::new(); // the store has a turn before the twentieth line is past
+    let lines = of_four(rt.alloc())?;
+    let came = run_new(&rt, rt.alloc(), lines, 2, &watch)?;
+    check_front(&rt, rt.alloc(), came.book.as_slice())?;
+    check_turns(&rt, &came, &[(1, 11), (2, 10), (9, 10), (16, 10)]);
+    assert!(rt; turns_of(came.book.as_slice(), 0) >= 1);
+    Ok(())
+}
+
+/// Runs the lines of four on a disk that fails.
+fn run_failing(rt: &(impl Abort + Threads + Wait + Sync), alloc: Global) -> Result<Came, Fail> {
+    let mut disk = new_disk(alloc)?;
     disk.fail_at(60)?;
-    let came = run(&rt, alloc, &mut disk, of_four(alloc)?, 2, &NoHook)?;
+    let lines = of_four(alloc)?;
+    run(rt, alloc, &mut disk, lines, 2, &NoHook)
+}
+
+#[test]
+fn a_fault_ends_the_crowd(rt: HostRuntime) -> Result<(), Fail> {
+    let came = run_failing(&rt, rt.alloc())?;
     assert!(rt; came.down && !came.all);
     match came.book.as_slice() {
         [.., last] => assert!(rt; matches!(last.reply, Reply::DiskFault)),

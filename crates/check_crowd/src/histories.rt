@@ -1,13 +1,14 @@
 //! Books of crowds: each is one history, which the slow store tells the same.
 use crate::watch::Watch;
-use check_books::books::{Share, outcome_of, share_of};
-use check_books::runs::{CROWD, CROWD_NEW, Came, journal_on, left_on, run_crowd};
+use check_books::books::{Outcome, Share, outcome_of, share_of};
+use check_books::runs::{CROWD, CROWD_NEW, Came, journal_on, left_on, run_crowd, run_failing};
 use check_books::scripts::{LINES_OF_THREE, OF_THREE};
+use check_run::run::new_disk;
+use check_run::saved::put_line;
 use check_scripts::{LINES, StoreLines, script_line};
 use std::alloc::{AllocError, Global};
 use std::process::Abort;
 use std::sync::Wait;
-use std::sync::atomic::Ordering::SeqCst;
 use std::test::Fail;
 use std::thread::Threads;
 use ut_app::{Status, top};
@@ -24,48 +25,73 @@ fn check_history(
     lines: &[u8],
     strangers: usize,
 ) -> Result<(), AllocError> {
-    let mut disk = MemDisk::of(alloc, &[], &[], &[])?;
-    let came = run_crowd(rt, alloc, CROWD_NEW, lines, &mut disk)?;
-    assert_eq!(rt; came.status, Status::Done);
-    assert_eq!(rt; share_of(alloc, lines, &came.book)?, Share::All);
-    check_book(rt, alloc, &came, strangers, &mut disk)
+    let crowd = run_failing(rt, alloc, lines, &[])?;
+    check_book(rt, alloc, &crowd.came, lines, strangers, &crowd.disk)
+}
+
+/// What a book came to, whose turns were all answered and acknowledged.
+fn outcome_behind(
+    rt: &impl Abort,
+    alloc: Global,
+    came: &Came,
+    strangers: usize,
+) -> Result<Outcome, AllocError> {
+    let Some(outcome) = outcome_of(alloc, &came.book, strangers)? else {
+        panic!(rt; "a turn isn't told as the slow store tells it")
+    };
+    assert_eq!(rt; outcome.turns, came.acks.len());
+    assert!(rt; outcome.refused == 0 && !outcome.is_open());
+    Ok(outcome)
+}
+
+/// A disk has what a book came to.
+fn check_left(
+    rt: &(impl Abort + Threads + Wait + Sync),
+    alloc: Global,
+    outcome: &Outcome,
+    disk: &MemDisk,
+) -> Result<(), AllocError> {
+    let left = left_on(rt, alloc, disk)?;
+    assert!(rt; outcome.is_left(&left), "{left:?}");
+    Ok(())
 }
 
 fn check_book(
     rt: &(impl Abort + Threads + Wait + Sync),
     alloc: Global,
     came: &Came,
+    lines: &[u8],
     strangers: usize,
-    disk: &mut MemDisk,
+    disk: &MemDisk,
 ) -> Result<(), AllocError> {
-    let Some(outcome) = outcome_of(alloc, &came.book, strangers)? else {
-        panic!(rt; "a turn isn't told as the slow store tells it")
-    };
-    assert_eq!(rt; outcome.turns, came.acks.len());
-    assert!(rt; outcome.refused == 0 && !outcome.is_open());
-    let left = left_on(rt, alloc, disk)?;
-    assert!(rt; outcome.is_left(&left), "{left:?}");
-    Ok(())
+    assert_eq!(rt; came.status, Status::Done);
+    assert_eq!(rt; share_of(alloc, lines, &came.book)?, Share::All);
+    let outcome = outcome_behind(rt, alloc, came, strangers)?;
+    check_left(rt, alloc, &outcome, disk)
 }
 
 #[test]
 fn a_book_is_one_history(rt: HostRuntime) -> Result<(), Fail> {
-    let alloc = rt.alloc();
     for _ in 0..ROUNDS {
-        check_history(&rt, alloc, OF_THREE, 0)?;
+        check_history(&rt, rt.alloc(), OF_THREE, 0)?;
     }
     Ok(())
+}
+
+/// A line of the random script of a seed.
+fn random_line(alloc: Global, seed: u64, number: u32) -> Result<Vec<u8>, AllocError> {
+    let mut line = Vec::new(alloc);
+    script_line(StoreLines::OfDelta, seed, number, &mut line)?;
+    Ok(line)
 }
 
 /// The lines of the random script of a seed that are a session's.
 fn random_lines(alloc: Global, seed: u64) -> Result<Vec<u8>, AllocError> {
     let mut lines = Vec::new(alloc);
     for number in 0..LINES {
-        let mut line = Vec::new(alloc);
-        script_line(StoreLines::OfDelta, seed, number, &mut line)?;
+        let line = random_line(alloc, seed, number)?;
         if !line.as_slice().starts_with(b"0 ") {
-            lines.extend_from_slice(&line)?;
-            lines.push(b'\n')?;
+            put_line(&mut lines, &line)?;
         }
     }
     Ok(lines)
@@ -73,10 +99,9 @@ fn random_lines(alloc: Global, seed: u64) -> Result<Vec<u8>, AllocError> {
 
 #[test]
 fn books_of_random_lines_are_histories(rt: HostRuntime) -> Result<(), Fail> {
-    let alloc = rt.alloc();
     for seed in 1..20 {
-        let lines = random_lines(alloc, seed)?;
-        check_history(&rt, alloc, &lines, 0)?;
+        let lines = random_lines(rt.alloc(), seed)?;
+        check_history(&rt, rt.alloc(), &lines, 0)?;
     }
     Ok(())
 }
@@ -95,8 +120,7 @@ fn with_bad_lines(alloc: Global, place: usize) -> Result<Vec<u8>, AllocError> {
             lines.extend_from_slice(BAD)?;
         }
         if !line.is_empty() {
-            lines.extend_from_slice(line)?;
-            lines.push(b'\n')?;
+            put_line(&mut lines, line)?;
         }
     }
     Ok(lines)
@@ -104,10 +128,9 @@ fn with_bad_lines(alloc: Global, place: usize) -> Result<Vec<u8>, AllocError> {
 
 #[test]
 fn bad_lines_are_refused_in_each_place(rt: HostRuntime) -> Result<(), Fail> {
-    let alloc = rt.alloc();
     for place in 0..=LINES_OF_THREE {
-        let lines = with_bad_lines(alloc, place)?;
-        check_history(&rt, alloc, &lines, STRANGERS)?;
+        let lines = with_bad_lines(rt.alloc(), place)?;
+        check_history(&rt, rt.alloc(), &lines, STRANGERS)?;
     }
     Ok(())
 }
@@ -124,24 +147,7 @@ fn of_hundred(alloc: Global) -> Result<Vec<u8>, AllocError> {
     Ok(lines)
 }
 
-/// The program's own words, with a hook that holds a session until a merge is built, and that build until three more lines are
-/// answered.
-#[test]
-fn the_program_answers_lines_while_a_merge_is_built(rt: HostRuntime) -> Result<(), Fail> {
-    let alloc = rt.alloc();
-    let lines = of_hundred(alloc)?;
-    let watch = Watch::new();
-    let mut disk = MemDisk::of(alloc, &[], &[], &[])?;
-    let came = watched(&rt, alloc, &lines, &watch, &mut disk)?;
-    assert_eq!(rt; came.status, Status::Done);
-    assert_eq!(rt; share_of(alloc, &lines, &came.book)?, Share::All);
-    check_book(&rt, alloc, &came, 1, &mut disk)?;
-    assert_eq!(rt; watch.lines.load(SeqCst), 100);
-    assert!(rt; watch.builds.load(SeqCst) >= 1);
-    assert_eq!(rt; watch.missed.load(SeqCst), 0);
-    Ok(())
-}
-
+/// Runs the program's own words, with a hook.
 fn watched(
     rt: &(impl Threads + Wait + Sync),
     alloc: Global,
@@ -161,18 +167,50 @@ fn watched(
     })
 }
 
+/// Such a run's book is one history.
+fn check_watched(
+    rt: &(impl Abort + Threads + Wait + Sync),
+    alloc: Global,
+    lines: &[u8],
+    watch: &Watch,
+) -> Result<(), AllocError> {
+    let mut disk = new_disk(alloc)?;
+    let came = watched(rt, alloc, lines, watch, &mut disk)?;
+    check_book(rt, alloc, &came, lines, 1, &disk)
+}
+
+/// The program's own words, with a hook that holds a session until a merge is built, and that build until three more lines are
+/// answered.
+#[test]
+fn the_program_answers_lines_while_a_merge_is_built(rt: HostRuntime) -> Result<(), Fail> {
+    let watch = Watch::new();
+    let lines = of_hundred(rt.alloc())?;
+    check_watched(&rt, rt.alloc(), &lines, &watch)?;
+    watch.check(&rt);
+    Ok(())
+}
+
+/// How many entries the journal of a crowd has that ends well, and all of whose lines were answered.
+fn journal_behind(
+    rt: &(impl Abort + Threads + Wait + Sync),
+    alloc: Global,
+    words: &[&str],
+    disk: &mut MemDisk,
+) -> Result<u64, AllocError> {
+    let came = run_crowd(rt, alloc, words, OF_THREE, disk)?;
+    assert_eq!(rt; came.status, Status::Done);
+    assert_eq!(rt; share_of(alloc, OF_THREE, &came.book)?, Share::All);
+    Ok(came.journal)
+}
+
 /// A crowd in a store that is there goes on where it stands.
 #[test]
 fn a_second_crowd_goes_on_behind_the_first(rt: HostRuntime) -> Result<(), Fail> {
-    let alloc = rt.alloc();
-    let mut disk = MemDisk::of(alloc, &[], &[], &[])?;
-    let first = run_crowd(&rt, alloc, CROWD_NEW, OF_THREE, &mut disk)?;
-    let second = run_crowd(&rt, alloc, CROWD, OF_THREE, &mut disk)?;
-    assert_eq!(rt; first.status, Status::Done);
-    assert_eq!(rt; second.status, Status::Done);
-    assert_eq!(rt; share_of(alloc, OF_THREE, &second.book)?, Share::All);
-    assert!(rt; first.journal < second.journal);
-    let there = journal_on(&rt, alloc, &mut disk)?;
-    assert_eq!(rt; there, Some(second.journal));
+    let mut disk = new_disk(rt.alloc())?;
+    let first = journal_behind(&rt, rt.alloc(), CROWD_NEW, &mut disk)?;
+    let second = journal_behind(&rt, rt.alloc(), CROWD, &mut disk)?;
+    assert!(rt; first < second);
+    let there = journal_on(&rt, rt.alloc(), &mut disk)?;
+    assert_eq!(rt; there, Some(second));
     Ok(())
 }

@@ -1,6 +1,7 @@
 //! Crashes at every moment of a crowd: what is opened has each turn that was acknowledged, and perhaps the next.
+use crate::faults::left_torn;
 use check_books::books::lefts_of;
-use check_books::runs::{CROWD_NEW, Left, left_on, run_crowd};
+use check_books::runs::{Crowd, Left, run_failing};
 use check_books::scripts::of_four;
 use check_run::saved::TEARS;
 use std::alloc::{AllocError, Global};
@@ -55,9 +56,7 @@ fn check_tears(
     kept: Kept<'_>,
 ) -> Result<(), AllocError> {
     for tear in TEARS {
-        assert!(rt; moment <= disk.calls());
-        let mut image = disk.image(moment, tear)?;
-        let left = left_on(rt, alloc, &mut image)?;
+        let left = left_torn(rt, alloc, disk, moment, tear)?;
         let told = kept.told;
         assert!(rt;
             kept.has(&left),
@@ -69,28 +68,49 @@ fn check_tears(
 
 /// How many calls it takes to make a store.
 fn calls_of_making(rt: &(impl Threads + Wait + Sync), alloc: Global) -> Result<u64, AllocError> {
-    let mut disk = MemDisk::of(alloc, &[], &[], &[])?;
-    let _came = run_crowd(rt, alloc, CROWD_NEW, b"", &mut disk)?;
-    Ok(disk.calls())
+    let crowd = run_failing(rt, alloc, b"", &[])?;
+    Ok(crowd.disk.calls())
+}
+
+/// A whole crowd of four sessions.
+fn whole(rt: &(impl Abort + Threads + Wait + Sync), alloc: Global) -> Result<Crowd, AllocError> {
+    let lines = of_four(alloc)?;
+    let crowd = run_failing(rt, alloc, &lines, &[])?;
+    assert_eq!(rt; crowd.came.status, Status::Done);
+    Ok(crowd)
+}
+
+/// What the store of a book answers behind none, one, two and all of its turns.
+fn lefts_behind(rt: &impl Abort, alloc: Global, book: &[u8]) -> Result<Vec<Vec<u8>>, AllocError> {
+    let Some(lefts) = lefts_of(alloc, book)? else {
+        panic!(rt; "a turn isn't told as the slow store tells it")
+    };
+    Ok(lefts)
+}
+
+fn check_moments(
+    rt: &(impl Abort + Threads + Wait + Sync),
+    alloc: Global,
+    crowd: &Crowd,
+    lefts: &[Vec<u8>],
+    making: u64,
+) -> Result<(), AllocError> {
+    for moment in 0..=crowd.disk.calls() {
+        let kept = Kept {
+            lefts,
+            told: told_by(crowd.came.acks.as_slice(), moment),
+            is_made: moment >= making,
+        };
+        check_tears(rt, alloc, &crowd.disk, moment, kept)?;
+    }
+    Ok(())
 }
 
 #[test]
 fn a_crash_leaves_each_turn_that_was_told(rt: HostRuntime) -> Result<(), Fail> {
-    let alloc = rt.alloc();
-    let making = calls_of_making(&rt, alloc)?;
-    let mut disk = MemDisk::of(alloc, &[], &[], &[])?;
-    let came = run_crowd(&rt, alloc, CROWD_NEW, &of_four(alloc)?, &mut disk)?;
-    assert_eq!(rt; came.status, Status::Done);
-    let Some(lefts) = lefts_of(alloc, &came.book)? else {
-        panic!(rt; "a turn isn't told as the slow store tells it")
-    };
-    for moment in 0..=disk.calls() {
-        let kept = Kept {
-            lefts: &lefts,
-            told: told_by(came.acks.as_slice(), moment),
-            is_made: moment >= making,
-        };
-        check_tears(&rt, alloc, &disk, moment, kept)?;
-    }
+    let making = calls_of_making(&rt, rt.alloc())?;
+    let crowd = whole(&rt, rt.alloc())?;
+    let lefts = lefts_behind(&rt, rt.alloc(), &crowd.came.book)?;
+    check_moments(&rt, rt.alloc(), &crowd, &lefts, making)?;
     Ok(())
 }

@@ -1,7 +1,10 @@
 //! Sources and sinks that fail, and input past the limits.
 use check_books::books::is_front;
-use check_books::runs::{CROWD_NEW, Came, journal_on};
+use check_books::runs::{CROWD_NEW, Came, Crowd, journal_on};
 use check_books::scripts::OF_TWO;
+use check_run::run::new_disk;
+use check_run::saved::put_line;
+use check_run::told::last_told;
 use std::alloc::{AllocError, Global};
 use std::process::Abort;
 use std::sync::Wait;
@@ -81,6 +84,17 @@ fn run_narrow(
     })
 }
 
+/// A crowd whose sink fails, and the disk that it leaves.
+fn crowd_into(
+    rt: &(impl Threads + Wait + Sync),
+    alloc: Global,
+    bytes: u64,
+) -> Result<Crowd, AllocError> {
+    let mut disk = new_disk(alloc)?;
+    let came = run_narrow(rt, alloc, bytes, &mut disk)?;
+    Ok(Crowd { came, disk })
+}
+
 /// All lines were answered, and are there again.
 fn check_answered(
     rt: &(impl Abort + Threads + Wait + Sync),
@@ -91,27 +105,58 @@ fn check_answered(
     assert!(rt; came.acks.len() >= 8);
     let there = journal_on(rt, alloc, disk)?;
     assert_eq!(rt; there, Some(came.journal));
-    let last = came.acks.as_slice().last().map_or(0, |ack| ack.journal);
-    assert_eq!(rt; last, came.journal);
+    assert_eq!(rt; last_told(came.acks.as_slice()), came.journal);
     Ok(())
+}
+
+/// A book that was written as far as its sink took it.
+fn check_cut(rt: &impl Abort, alloc: Global, came: &Came, bytes: u64) -> Result<(), AllocError> {
+    let len = came.book.len() as u64;
+    assert!(rt; is_front(alloc, &came.book, 1)?, "at {bytes}");
+    if came.status == Status::Done {
+        assert!(rt; len <= bytes);
+    } else {
+        assert_eq!(rt; came.status, Status::WriteFault, "at {bytes}");
+        assert_eq!(rt; len, bytes);
+    }
+    Ok(())
+}
+
+/// Whether a sink that takes so many bytes takes the whole book.
+fn takes_all(
+    rt: &(impl Abort + Threads + Wait + Sync),
+    alloc: Global,
+    bytes: u64,
+) -> Result<bool, AllocError> {
+    let mut crowd = crowd_into(rt, alloc, bytes)?;
+    check_answered(rt, alloc, &crowd.came, &mut crowd.disk)?;
+    check_cut(rt, alloc, &crowd.came, bytes)?;
+    Ok(crowd.came.status == Status::Done)
 }
 
 #[test]
 fn a_fault_of_the_sink_at_each_byte_cuts_the_book(rt: HostRuntime) -> Result<(), Fail> {
-    let alloc = rt.alloc();
     for bytes in 0..MOST {
-        let mut disk = MemDisk::of(alloc, &[], &[], &[])?;
-        let came = run_narrow(&rt, alloc, bytes, &mut disk)?;
-        check_answered(&rt, alloc, &came, &mut disk)?;
-        assert!(rt; is_front(alloc, &came.book, 1)?, "at {bytes}");
-        if came.status == Status::Done {
-            assert!(rt; came.book.len() as u64 <= bytes);
+        if takes_all(&rt, rt.alloc(), bytes)? {
             return Ok(());
         }
-        assert_eq!(rt; came.status, Status::WriteFault, "at {bytes}");
-        assert_eq!(rt; came.book.len() as u64, bytes);
     }
     panic!(rt; "no book of eight lines is so long")
+}
+
+/// How a crowd over a source ends, of which no line is answered.
+fn status_of_nothing(
+    rt: &(impl Abort + Threads + Wait + Sync),
+    alloc: Global,
+    words: &[&str],
+    mut source: MemSource,
+    disk: &mut MemDisk,
+) -> Status {
+    let mut sink = MemSink::new(alloc, None);
+    let report = top(rt, alloc, words, &mut source, &mut sink, disk, &NoHook);
+    assert!(rt; sink.bytes().is_empty() && report.acks.len() == 0);
+    assert!(rt; report.lines == 0 && report.journal == 0);
+    report.status
 }
 
 /// Runs a crowd over a source, and looks that no line is answered.
@@ -119,26 +164,30 @@ fn check_nothing_run(
     rt: &(impl Abort + Threads + Wait + Sync),
     alloc: Global,
     words: &[&str],
-    mut source: MemSource,
+    source: MemSource,
     status: Status,
 ) -> Result<(), AllocError> {
-    let mut disk = MemDisk::of(alloc, &[], &[], &[])?;
-    let mut sink = MemSink::new(alloc, None);
-    let report = top(rt, alloc, words, &mut source, &mut sink, &mut disk, &NoHook);
-    assert_eq!(rt; report.status, status);
-    assert!(rt; sink.bytes().is_empty() && report.acks.len() == 0);
-    assert!(rt; report.lines == 0 && report.journal == 0);
+    let mut disk = new_disk(alloc)?;
+    let ended = status_of_nothing(rt, alloc, words, source, &mut disk);
+    assert_eq!(rt; ended, status);
     assert_eq!(rt; journal_on(rt, alloc, &mut disk)?, Some(0));
     Ok(())
 }
 
 #[test]
 fn a_fault_of_the_source_at_each_call_runs_nothing(rt: HostRuntime) -> Result<(), Fail> {
-    let alloc = rt.alloc();
     for call in 0..=OF_TWO.len() as u64 {
-        let source = MemSource::new(alloc, OF_TWO, 1, Some(call))?;
-        check_nothing_run(&rt, alloc, CROWD_NEW, source, Status::ReadFault)?;
+        let source = MemSource::new(rt.alloc(), OF_TWO, 1, Some(call))?;
+        check_nothing_run(&rt, rt.alloc(), CROWD_NEW, source, Status::ReadFault)?;
     }
+    Ok(())
+}
+
+/// Puts a comment of so many bytes behind others.
+fn put_comment(lines: &mut Vec<u8>, len: usize) -> Result<(), AllocError> {
+    let end = lines.len().saturating_add(len);
+    lines.resize(end, b'#')?;
+    lines.push(b'\n')?;
     Ok(())
 }
 
@@ -147,62 +196,62 @@ fn with_comment(alloc: Global, place: usize, len: usize) -> Result<Vec<u8>, Allo
     let mut lines = Vec::new(alloc);
     for (number, line) in OF_TWO.split(|byte| *byte == b'\n').enumerate() {
         if number == place {
-            let end = lines.len().saturating_add(len);
-            lines.resize(end, b'#')?;
-            lines.push(b'\n')?;
+            put_comment(&mut lines, len)?;
         }
         if !line.is_empty() {
-            lines.extend_from_slice(line)?;
-            lines.push(b'\n')?;
+            put_line(&mut lines, line)?;
         }
     }
     Ok(lines)
 }
 
+/// A source of these lines, with a comment of so many bytes at a place.
+fn commented(alloc: Global, place: usize, len: usize) -> Result<MemSource, AllocError> {
+    let lines = with_comment(alloc, place, len)?;
+    MemSource::new(alloc, &lines, 4096, None)
+}
+
 #[test]
 fn a_line_that_is_too_long_runs_nothing(rt: HostRuntime) -> Result<(), Fail> {
-    let alloc = rt.alloc();
     for place in 0..=8 {
-        let lines = with_comment(alloc, place, LINE_LIMIT + 1)?;
-        let source = MemSource::new(alloc, &lines, 4096, None)?;
-        check_nothing_run(&rt, alloc, CROWD_NEW, source, Status::TooLong)?;
+        let source = commented(rt.alloc(), place, LINE_LIMIT + 1)?;
+        check_nothing_run(&rt, rt.alloc(), CROWD_NEW, source, Status::TooLong)?;
     }
     Ok(())
 }
 
 #[test]
 fn more_lines_than_the_limit_run_nothing(rt: HostRuntime) -> Result<(), Fail> {
-    let alloc = rt.alloc();
     for limit in ["1", "2", "3", "4", "5", "6", "7"] {
         let words = &["ut", "crowd", "--new", "--lines", limit];
-        let source = MemSource::new(alloc, OF_TWO, 4096, None)?;
-        check_nothing_run(&rt, alloc, words, source, Status::TooLong)?;
+        let source = MemSource::new(rt.alloc(), OF_TWO, 4096, None)?;
+        check_nothing_run(&rt, rt.alloc(), words, source, Status::TooLong)?;
     }
+    Ok(())
+}
+
+/// All nine lines of a source are answered.
+fn check_nine(
+    rt: &(impl Abort + Threads + Wait + Sync),
+    alloc: Global,
+    mut source: MemSource,
+    disk: &mut MemDisk,
+) -> Result<(), AllocError> {
+    let mut sink = MemSink::new(alloc, None);
+    let words = &["ut", "crowd", "--new", "--lines", "9"];
+    let report = top(rt, alloc, words, &mut source, &mut sink, disk, &NoHook);
+    assert_eq!(rt; (report.status, report.lines), (Status::Done, 9));
+    assert!(rt; is_front(alloc, sink.bytes(), 1)?);
     Ok(())
 }
 
 /// A line at the limit, and as many lines as there may be.
 #[test]
 fn input_at_the_limits_is_answered(rt: HostRuntime) -> Result<(), Fail> {
-    let alloc = rt.alloc();
-    for (len, limit) in [(LINE_LIMIT, "9"), (1, "9")] {
-        let lines = with_comment(alloc, 4, len)?;
-        let words = &["ut", "crowd", "--new", "--lines", limit];
-        let mut source = MemSource::new(alloc, &lines, 4096, None)?;
-        let mut sink = MemSink::new(alloc, None);
-        let mut disk = MemDisk::of(alloc, &[], &[], &[])?;
-        let report = top(
-            &rt,
-            alloc,
-            words,
-            &mut source,
-            &mut sink,
-            &mut disk,
-            &NoHook,
-        );
-        assert_eq!(rt; report.status, Status::Done);
-        assert_eq!(rt; report.lines, 9);
-        assert!(rt; is_front(alloc, sink.bytes(), 1)?);
+    for len in [LINE_LIMIT, 1] {
+        let mut disk = new_disk(rt.alloc())?;
+        let source = commented(rt.alloc(), 4, len)?;
+        check_nine(&rt, rt.alloc(), source, &mut disk)?;
     }
     Ok(())
 }

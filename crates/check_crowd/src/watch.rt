@@ -1,4 +1,5 @@
 //! A hook that holds threads at points of a run, to see that others go on meanwhile.
+use std::process::Abort;
 use std::sync::atomic::AtomicU64;
 use std::sync::atomic::Ordering::SeqCst;
 use std::thread::yield_now;
@@ -25,6 +26,13 @@ impl Watch {
             builds: AtomicU64::new(0),
             missed: AtomicU64::new(0),
         }
+    }
+
+    /// A hundred lines were answered, a merge was built, and neither waited for the other in vain.
+    pub fn check(&self, rt: &impl Abort) {
+        assert_eq!(rt; self.lines.load(SeqCst), 100);
+        assert!(rt; self.builds.load(SeqCst) >= 1);
+        assert_eq!(rt; self.missed.load(SeqCst), 0);
     }
 
     fn until(&self, word: &AtomicU64, least: u64) {

@@ -9,9 +9,3 @@ mod crashes;
 mod damage;
 #[cfg(test)]
 mod faults;
-#[cfg(test)]
-mod save_bytes;
-#[cfg(test)]
-mod save_damage;
-#[cfg(test)]
-mod saves;

@@ -3,3 +3,4 @@
 
 pub mod run;
 pub mod saved;
+pub mod told;

@@ -10,6 +10,9 @@ pub const RUN: &[&str] = &["ut", "run"];
 
 pub const RUN_NEW: &[&str] = &["ut", "run", "--new"];
 
+/// The words that make a store and run the benchmark's script of the least size.
+pub const BENCH_NEW: &[&str] = &["ut", "bench", "--new", "--size", "1"];
+
 /// A script, its replies, and what its store answers to the question after none, one, two and more of its journal's entries.
 #[derive(Clone, Copy)]
 pub struct Case {
@@ -126,6 +129,13 @@ pub struct Ran {
     pub acks: AckList,
 }
 
+/// A run, and the disk that it leaves.
+#[derive(Drop)]
+pub struct Run {
+    pub ran: Ran,
+    pub disk: MemDisk,
+}
+
 /// What a disk has of a script's store.
 #[derive(Clone, Copy, Debug, PartialEq, Eq)]
 pub enum Left {
@@ -134,6 +144,11 @@ pub enum Left {
     Entries(u64),
     /// No front of its journal.
     Else,
+}
+
+/// A disk whose files are empty.
+pub fn new_disk(alloc: Global) -> Result<MemDisk, AllocError> {
+    MemDisk::of(alloc, &[], &[], &[])
 }
 
 pub fn run_on(
@@ -145,6 +160,34 @@ pub fn run_on(
 ) -> Result<Ran, AllocError> {
     let source = MemSource::new(alloc, script, PIECE, None)?;
     run_between(rt, alloc, words, source, MemSink::new(alloc, None), disk)
+}
+
+/// How a run ends.
+pub fn status_on(
+    rt: &(impl Threads + Wait + Sync),
+    alloc: Global,
+    words: &[&str],
+    script: &[u8],
+    disk: &mut MemDisk,
+) -> Result<Status, AllocError> {
+    let ran = run_on(rt, alloc, words, script, disk)?;
+    Ok(ran.status)
+}
+
+/// A run on a new disk whose calls of these numbers fail.
+pub fn run_failing(
+    rt: &(impl Threads + Wait + Sync),
+    alloc: Global,
+    words: &[&str],
+    script: &[u8],
+    calls: &[u64],
+) -> Result<Run, AllocError> {
+    let mut disk = new_disk(alloc)?;
+    for call in calls {
+        disk.fail_at(*call)?;
+    }
+    let ran = run_on(rt, alloc, words, script, &mut disk)?;
+    Ok(Run { ran, disk })
 }
 
 pub fn run_between(

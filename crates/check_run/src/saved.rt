@@ -116,17 +116,31 @@ pub enum Root {
     Saved,
 }
 
-/// The lines of a table as a script, and its replies.
-pub fn joined(alloc: Global, table: &[Row]) -> Result<(Vec<u8>, Vec<u8>), AllocError> {
-    let mut script = Vec::new(alloc);
-    let mut replies = Vec::new(alloc);
+/// A script, and its replies.
+#[derive(Drop)]
+pub struct Lines {
+    pub script: Vec<u8>,
+    pub replies: Vec<u8>,
+}
+
+/// Puts a line behind others.
+pub fn put_line(lines: &mut Vec<u8>, line: &[u8]) -> Result<(), AllocError> {
+    lines.extend_from_slice(line)?;
+    lines.push(b'\n')?;
+    Ok(())
+}
+
+/// The lines of a table.
+pub fn joined(alloc: Global, table: &[Row]) -> Result<Lines, AllocError> {
+    let mut lines = Lines {
+        script: Vec::new(alloc),
+        replies: Vec::new(alloc),
+    };
     for (line, reply) in table {
-        script.extend_from_slice(line.as_bytes())?;
-        script.push(b'\n')?;
-        replies.extend_from_slice(reply.as_bytes())?;
-        replies.push(b'\n')?;
+        put_line(&mut lines.script, line.as_bytes())?;
+        put_line(&mut lines.replies, reply.as_bytes())?;
     }
-    Ok((script, replies))
+    Ok(lines)
 }
 
 /// Whether an answer is one of a list, that of so many entries or more.

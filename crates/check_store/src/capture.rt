@@ -56,6 +56,12 @@ fn ended(rt: &impl Abort, fates: &mut Fates, at: Option<u32>) -> Result<u64, All
     Ok(t)
 }
 
+fn number(alloc: Global, id: u32) -> Result<Seq<Value>, AllocError> {
+    let mut values = Seq::new(alloc);
+    values.push(Value::Int(i64::from(id)))?;
+    Ok(values)
+}
+
 /// A row of the first stage, whose number is its id.
 fn insert(
     rt: &impl Abort,
@@ -69,8 +75,7 @@ fn insert(
     ensures count { OnOk result (count_of stages.new.stages ≡ count_of stages.old.stages + 1) }
     ensures columns { OnOk result (stages.new.stages.columns ≡ stages.old.stages.columns) }
 {
-    let mut values = Seq::new(alloc);
-    values.push(Value::Int(i64::from(id)))?;
+    let values = number(alloc, id)?;
     stages.room(1)?;
     assert!(rt; fits_columns(stages.columns(), values.as_slice()));
     stages.push(Row { id, values }, Stamp { begin, end });
@@ -138,14 +143,25 @@ fn has_deltas(
     Ok(())
 }
 
+/// A table of these columns with rows in all stages.
+fn check_table(
+    rt: &impl Abort,
+    alloc: Global,
+    columns: Seq<Column>,
+    fates: &mut Fates,
+) -> Result<(), AllocError>
+    requires { length columns ≡ 1 }
+{
+    let table = table(rt, alloc, &columns)?;
+    let stages = stages(rt, alloc, columns, fates)?;
+    has_deltas(rt, alloc, &table, &stages, fates)
+}
+
 #[test]
 fn rows_of_open_transactions_are_not_captured(rt: HostRuntime) -> Result<(), Fail> {
-    let alloc = rt.alloc();
-    let columns = columns(&rt, alloc)?;
-    let table = table(&rt, alloc, &columns)?;
-    let mut fates = Fates::new(alloc)?;
-    let stages = stages(&rt, alloc, columns, &mut fates)?;
-    has_deltas(&rt, alloc, &table, &stages, &fates)?;
+    let columns = columns(&rt, rt.alloc())?;
+    let mut fates = Fates::new(rt.alloc())?;
+    check_table(&rt, rt.alloc(), columns, &mut fates)?;
     Ok(())
 }
 

@@ -1,198 +1,37 @@
 //! A small store, from its making to its opening again, and disks that have none.
-ghost use Rattle.std.specs.Prelude.{◌≡◌, ◌≤◌, Some, IfOk, IsTrue};
-ghost use Rattle.ut_outside.specs.Faults.{Rose};
-ghost use Rattle.ut_value.specs.Text.{is_name};
-ghost use Rattle.ut_plain.specs.Spelled.{is_spelled};
-
+use crate::calls::{
+    begun, changes_one, commits, create, dropped, flipped, ids, insert, lengths, made,
+    made_and_left, moved, name, new_disk, opened, opened_again, phase, sealed, shape, stepped,
+};
 use std::alloc::{AllocError, Global};
 use std::process::Abort;
 use std::test::Fail;
 use ut_engine::{BeginError, Engine, L1Error, OpenError, PhaseError, SaveError};
 use ut_outside::{Disk, MemDisk, Which};
-use ut_plain::{Progress, Reply, Shape, Statement, Why};
-use ut_value::{Column, Kind, MergeKind, Name, Seq, Value, is_name};
+use ut_plain::{Progress, Why};
+use ut_value::{MergeKind, Name};
 
-/// Ids enough.
-const IDS: u32 = 100;
-
-fn name(rt: &impl Abort, alloc: Global, bytes: &[u8]) -> Result<Name, AllocError>
-    ensures { IfOk result (λ name. IsTrue (is_name name)) }
-{
-    let bytes = Vec::from_slice(alloc, bytes)?;
-    assert!(rt; is_name(&bytes));
-    Ok(Name::of(bytes))
+fn creates(rt: &impl Abort, alloc: Global, engine: &mut Engine<'_, MemDisk>) -> Result<bool, Fail> {
+    let statement = create(rt, alloc)?;
+    Ok(commits(rt, alloc, engine, statement, 1))
 }
 
-// The table T, with a column k of numbers, is made.
-fn create(rt: &impl Abort, alloc: Global) -> Result<Statement, AllocError>
-    ensures { IfOk result (λ st. IsTrue (is_spelled st)) }
-{
-    let column = name(rt, alloc, b"k")?;
-    let mut columns = Seq::new(alloc);
-    columns.push(Column {
-        name: column,
-        kind: Kind::Int,
-    })?;
-    let table = name(rt, alloc, b"T")?;
-    Ok(Statement::Create { table, columns })
-}
-
-// A row of a number is inserted.
-fn insert(rt: &impl Abort, alloc: Global, number: i64) -> Result<Statement, AllocError>
-    ensures { IfOk result (λ st. IsTrue (is_spelled st)) }
-{
-    let mut values = Seq::new(alloc);
-    values.push(Value::Int(number))?;
-    let table = name(rt, alloc, b"T")?;
-    Ok(Statement::Insert { table, values })
-}
-
-fn made(alloc: Global, disk: &mut MemDisk) -> Result<Engine<'_, MemDisk>, OpenError> {
-    match Engine::make(alloc, disk, IDS) {
-        Ok(engine) => Ok(engine),
-        Err(unopened) => Err(unopened.cause),
-    }
-}
-
-fn opened(alloc: Global, disk: &mut MemDisk) -> Result<Engine<'_, MemDisk>, OpenError> {
-    match Engine::open(alloc, disk, IDS) {
-        Ok(engine) => Ok(engine),
-        Err(unopened) => Err(unopened.cause),
-    }
-}
-
-// A store is made and left, or not: the caller knows what became of its disk.
-fn made_and_left<D: Disk>(alloc: Global, disk: &mut D) -> Result<(), OpenError>
-    ensures told { (D.view disk.new).told ≡ (D.view disk.old).told }
-    ensures later { (D.view disk.old).faults ≤ (D.view disk.new).faults }
-{
-    match Engine::make(alloc, disk, IDS) {
-        Ok(engine) => {
-            let _disk = engine.release();
-            Ok(())
-        }
-        Err(unopened) => Err(unopened.cause),
-    }
-}
-
-// Calls of a store that is up, which promise nothing here: what they answer is tried, and the tests' own proofs stay short.
-
-// Whether a statement is answered by this commit.
-fn commits(
+fn inserts(
     rt: &impl Abort,
     alloc: Global,
     engine: &mut Engine<'_, MemDisk>,
-    statement: Statement,
-    number: u32,
-) -> bool
-    requires { IsTrue (is_spelled statement) }
-{
-    assert!(rt; !engine.down());
-    matches!(engine.statement(alloc, 1, &statement), Reply::Committed(n) if n == number)
-}
-
-// Whether a statement is answered as a change of one row.
-fn changes_one(
-    rt: &impl Abort,
-    alloc: Global,
-    engine: &mut Engine<'_, MemDisk>,
-    statement: Statement,
-) -> bool
-    requires { IsTrue (is_spelled statement) }
-{
-    assert!(rt; !engine.down());
-    matches!(
-        engine.statement(alloc, 1, &statement),
-        Reply::Changed { rows: 1, .. }
-    )
-}
-
-fn moved(
-    rt: &impl Abort,
-    alloc: Global,
-    engine: &mut Engine<'_, MemDisk>,
-    table: &Name,
-) -> Result<u32, L1Error> {
-    assert!(rt; !engine.down());
-    engine.merge_l1(alloc, table, 1)
-}
-
-fn shape(
-    rt: &impl Abort,
-    alloc: Global,
-    engine: &mut Engine<'_, MemDisk>,
-    table: &Name,
-) -> Result<Option<Shape>, AllocError> {
-    assert!(rt; !engine.down());
-    engine.shape(alloc, table)
-}
-
-fn ids(
-    rt: &impl Abort,
-    alloc: Global,
-    engine: &Engine<'_, MemDisk>,
-    table: &Name,
-) -> Result<Option<Vec<u32>>, AllocError> {
-    assert!(rt; !engine.down());
-    let Some(rows) = engine.rows(alloc, table)? else {
-        return Ok(None);
-    };
-    let mut ids = Vec::new(alloc);
-    for row in rows.as_slice() {
-        ids.push(row.id)?;
-    }
-    Ok(Some(ids))
-}
-
-fn lengths(rt: &impl Abort, engine: &Engine<'_, MemDisk>) -> (u32, u32) {
-    assert!(rt; !engine.down());
-    assert_eq!(rt; engine.tables(), 1);
-    assert_eq!(rt; engine.table_name(0).as_slice(), b"T".as_slice());
-    (engine.l1_len(0), engine.l2_len(0))
-}
-
-fn begun(
-    rt: &impl Abort,
-    alloc: Global,
-    engine: &mut Engine<'_, MemDisk>,
-) -> Result<u32, SaveError> {
-    assert!(rt; !engine.down());
-    engine.save_begin(alloc)
-}
-
-fn stepped(rt: &impl Abort, engine: &mut Engine<'_, MemDisk>) -> Result<(), PhaseError> {
-    assert!(rt; !engine.down());
-    engine.save_step()
-}
-
-fn sealed(rt: &impl Abort, engine: &mut Engine<'_, MemDisk>) -> Result<(), PhaseError> {
-    assert!(rt; !engine.down());
-    engine.save_seal()
-}
-
-fn flipped(rt: &impl Abort, engine: &mut Engine<'_, MemDisk>) -> Result<u32, PhaseError> {
-    assert!(rt; !engine.down());
-    engine.save_flip()
-}
-
-fn dropped(rt: &impl Abort, engine: &mut Engine<'_, MemDisk>) -> Result<(), PhaseError> {
-    assert!(rt; !engine.down());
-    engine.save_drop()
-}
-
-fn phase(rt: &impl Abort, engine: &Engine<'_, MemDisk>) -> Progress {
-    assert!(rt; !engine.down());
-    engine.phase()
+    number: i64,
+) -> Result<bool, Fail> {
+    let statement = insert(rt, alloc, number)?;
+    Ok(changes_one(rt, alloc, engine, statement))
 }
 
 /// Makes the table, with two rows.
 fn fill(rt: &impl Abort, alloc: Global, engine: &mut Engine<'_, MemDisk>) -> Result<(), Fail> {
-    let statement = create(rt, alloc)?;
-    assert!(rt; commits(rt, alloc, engine, statement, 1));
-    let statement = insert(rt, alloc, 3)?;
-    assert!(rt; changes_one(rt, alloc, engine, statement));
-    let statement = insert(rt, alloc, 4)?;
-    assert!(rt; changes_one(rt, alloc, engine, statement));
+    assert!(rt; creates(rt, alloc, engine)?);
+    for number in [3, 4] {
+        assert!(rt; inserts(rt, alloc, engine, number)?, "row {number}");
+    }
     counts(rt, engine);
     Ok(())
 }
@@ -203,6 +42,28 @@ fn counts(rt: &impl Abort, engine: &Engine<'_, MemDisk>) {
     assert_eq!(rt; engine.moment(), engine.disk().calls());
 }
 
+/// The ids of a table's rows, if it is there.
+fn ids_of(
+    rt: &impl Abort,
+    alloc: Global,
+    engine: &Engine<'_, MemDisk>,
+    bytes: &[u8],
+) -> Result<Option<Vec<u32>>, AllocError> {
+    let table = name(rt, alloc, bytes)?;
+    ids(rt, alloc, engine, &table)
+}
+
+fn has_both_rows(
+    rt: &impl Abort,
+    alloc: Global,
+    engine: &Engine<'_, MemDisk>,
+) -> Result<bool, AllocError> {
+    match ids_of(rt, alloc, engine, b"T")? {
+        Some(found) => Ok(found.as_slice() == [1, 2].as_slice()),
+        None => Ok(false),
+    }
+}
+
 /// The rows of the table, and how many stand in each stage.
 fn check(
     rt: &impl Abort,
@@ -211,42 +72,66 @@ fn check(
     l1: u32,
     l2: u32,
 ) -> Result<(), Fail> {
-    let (first, second) = lengths(rt, engine);
-    assert_eq!(rt; first, l1);
-    assert_eq!(rt; second, l2);
-    let table = name(rt, alloc, b"T")?;
-    let Some(found) = ids(rt, alloc, engine, &table)? else {
-        panic!(rt; "there is no table")
-    };
-    assert_eq!(rt; found.as_slice(), [1, 2].as_slice());
-    let other = name(rt, alloc, b"t")?;
-    assert!(rt; ids(rt, alloc, engine, &other)?.is_none());
+    assert_eq!(rt; lengths(rt, engine), (l1, l2));
+    assert!(rt; has_both_rows(rt, alloc, engine)?);
+    assert!(rt; ids_of(rt, alloc, engine, b"t")?.is_none());
     Ok(())
+}
+
+/// Moves a row of a table to the second stage.
+fn moves(
+    rt: &impl Abort,
+    alloc: Global,
+    engine: &mut Engine<'_, MemDisk>,
+    bytes: &[u8],
+) -> Result<Result<u32, L1Error>, AllocError> {
+    let table = name(rt, alloc, bytes)?;
+    Ok(moved(rt, alloc, engine, &table))
+}
+
+/// How many rows of a table stand in its stages, if it is there.
+fn lens_of(
+    rt: &impl Abort,
+    alloc: Global,
+    engine: &mut Engine<'_, MemDisk>,
+    bytes: &[u8],
+) -> Result<Option<(u32, u32)>, AllocError> {
+    let table = name(rt, alloc, bytes)?;
+    let shape = shape(rt, alloc, engine, &table)?;
+    Ok(match &shape {
+        Some(shape) => Some((shape.l1, shape.l2)),
+        None => None,
+    })
 }
 
 /// Moves a row to the second stage.
 fn merge(rt: &impl Abort, alloc: Global, engine: &mut Engine<'_, MemDisk>) -> Result<(), Fail> {
-    let table = name(rt, alloc, b"T")?;
-    let other = name(rt, alloc, b"t")?;
-    assert_eq!(rt; moved(rt, alloc, engine, &other), Err(L1Error::Name));
-    assert_eq!(rt; moved(rt, alloc, engine, &table), Ok(1));
-    let found = shape(rt, alloc, engine, &table)?;
-    assert!(rt; matches!(&found, Some(shape) if shape.l1 == 1 && shape.l2 == 1));
-    assert!(rt; shape(rt, alloc, engine, &other)?.is_none());
+    assert_eq!(rt; moves(rt, alloc, engine, b"t")?, Err(L1Error::Name));
+    assert_eq!(rt; moves(rt, alloc, engine, b"T")?, Ok(1));
+    assert_eq!(rt; lens_of(rt, alloc, engine, b"T")?, Some((1, 1)));
+    assert_eq!(rt; lens_of(rt, alloc, engine, b"t")?, None);
     Ok(())
+}
+
+/// The table is filled, and a row is moved.
+fn fill_and_merge(
+    rt: &impl Abort,
+    alloc: Global,
+    engine: &mut Engine<'_, MemDisk>,
+) -> Result<(), Fail> {
+    fill(rt, alloc, engine)?;
+    check(rt, alloc, engine, 2, 0)?;
+    merge(rt, alloc, engine)?;
+    check(rt, alloc, engine, 1, 1)
 }
 
 #[test]
 fn a_store_is_made_and_opened_again(rt: HostRuntime) -> Result<(), Fail> {
     let alloc = rt.alloc();
-    let mut disk = MemDisk::of(alloc, &[], &[], &[])?;
+    let mut disk = new_disk(alloc)?;
     let mut engine = made(alloc, &mut disk)?;
-    fill(&rt, alloc, &mut engine)?;
-    check(&rt, alloc, &engine, 2, 0)?;
-    merge(&rt, alloc, &mut engine)?;
-    check(&rt, alloc, &engine, 1, 1)?;
-    let disk = engine.release();
-    let engine = opened(alloc, disk)?;
+    fill_and_merge(&rt, alloc, &mut engine)?;
+    let engine = opened_again(engine, alloc)?;
     check(&rt, alloc, &engine, 2, 0)?;
     Ok(())
 }
@@ -264,27 +149,14 @@ fn begins(
     Ok(job.number())
 }
 
-/// A table that isn't there is not merged.
-fn no_other_is_merged(
+fn begins_of(
     rt: &impl Abort,
     alloc: Global,
     engine: &mut Engine<'_, MemDisk>,
-) -> Result<(), Fail> {
-    let other = name(rt, alloc, b"t")?;
-    assert_eq!(rt; begins(rt, alloc, engine, &other), Err(BeginError::Name));
-    Ok(())
-}
-
-/// The table's merge begins once.
-fn it_begins_once(
-    rt: &impl Abort,
-    alloc: Global,
-    engine: &mut Engine<'_, MemDisk>,
-) -> Result<(), Fail> {
-    let table = name(rt, alloc, b"T")?;
-    assert_eq!(rt; begins(rt, alloc, engine, &table), Ok(1));
-    assert_eq!(rt; begins(rt, alloc, engine, &table), Err(BeginError::Busy(1)));
-    Ok(())
+    bytes: &[u8],
+) -> Result<Result<u32, BeginError>, AllocError> {
+    let table = name(rt, alloc, bytes)?;
+    Ok(begins(rt, alloc, engine, &table))
 }
 
 /// Whether the job of the first merge is had again.
@@ -304,28 +176,42 @@ fn it_is_pending(rt: &impl Abort, engine: &Engine<'_, MemDisk>) {
     assert_eq!(rt; engine.journal_len(), 4);
 }
 
+/// A table that isn't there is not merged, and the one that is there once.
 fn begin_merge(
     rt: &impl Abort,
     alloc: Global,
     engine: &mut Engine<'_, MemDisk>,
 ) -> Result<(), Fail> {
-    no_other_is_merged(rt, alloc, engine)?;
+    assert_eq!(rt; begins_of(rt, alloc, engine, b"t")?, Err(BeginError::Name));
     assert!(rt; engine.pending().is_none());
-    it_begins_once(rt, alloc, engine)?;
-    no_other_is_merged(rt, alloc, engine)?;
+    assert_eq!(rt; begins_of(rt, alloc, engine, b"T")?, Ok(1));
+    assert_eq!(rt;
+        begins_of(rt, alloc, engine, b"T")?,
+        Err(BeginError::Busy(1))
+    );
+    assert_eq!(rt; begins_of(rt, alloc, engine, b"t")?, Err(BeginError::Name));
     assert!(rt; has_job(rt, alloc, engine)?);
     it_is_pending(rt, engine);
     Ok(())
 }
 
+/// The table is filled, a row is moved, and its merge begins.
+fn fill_and_begin(
+    rt: &impl Abort,
+    alloc: Global,
+    engine: &mut Engine<'_, MemDisk>,
+) -> Result<(), Fail> {
+    fill(rt, alloc, engine)?;
+    merge(rt, alloc, engine)?;
+    begin_merge(rt, alloc, engine)
+}
+
 #[test]
 fn a_merge_begins_and_hands_out_its_job(rt: HostRuntime) -> Result<(), Fail> {
     let alloc = rt.alloc();
-    let mut disk = MemDisk::of(alloc, &[], &[], &[])?;
+    let mut disk = new_disk(alloc)?;
     let mut engine = made(alloc, &mut disk)?;
-    fill(&rt, alloc, &mut engine)?;
-    merge(&rt, alloc, &mut engine)?;
-    begin_merge(&rt, alloc, &mut engine)?;
+    fill_and_begin(&rt, alloc, &mut engine)?;
     Ok(())
 }
 
@@ -340,38 +226,70 @@ fn save(rt: &impl Abort, alloc: Global, engine: &mut Engine<'_, MemDisk>) -> Res
     Ok(())
 }
 
+/// There is no savepoint to be dropped; then the table is filled, a row is moved, and a savepoint is selected.
+fn fill_and_save(
+    rt: &impl Abort,
+    alloc: Global,
+    engine: &mut Engine<'_, MemDisk>,
+) -> Result<(), Fail> {
+    let none = dropped(rt, engine);
+    assert!(rt; matches!(none, Err(PhaseError::State(Why::Nothing))));
+    fill(rt, alloc, engine)?;
+    merge(rt, alloc, engine)?;
+    save(rt, alloc, engine)
+}
+
 #[test]
 fn a_store_is_opened_from_its_savepoint(rt: HostRuntime) -> Result<(), Fail> {
     let alloc = rt.alloc();
-    let mut disk = MemDisk::of(alloc, &[], &[], &[])?;
+    let mut disk = new_disk(alloc)?;
     let mut engine = made(alloc, &mut disk)?;
-    assert!(rt;
-        matches!(
-            dropped(&rt, &mut engine),
-            Err(PhaseError::State(Why::Nothing))
-        )
-    );
-    fill(&rt, alloc, &mut engine)?;
-    merge(&rt, alloc, &mut engine)?;
-    save(&rt, alloc, &mut engine)?;
-    let disk = engine.release();
-    let engine = opened(alloc, disk)?;
+    fill_and_save(&rt, alloc, &mut engine)?;
+    let engine = opened_again(engine, alloc)?;
     check(&rt, alloc, &engine, 1, 1)?;
     Ok(())
+}
+
+/// Why the store of a disk is not opened, if it isn't.
+fn cause_of(alloc: Global, disk: &mut MemDisk) -> Option<OpenError> {
+    match opened(alloc, disk) {
+        Ok(_) => None,
+        Err(cause) => Some(cause),
+    }
+}
+
+/// A store is made, or not, and left.
+fn left(alloc: Global, disk: &mut MemDisk) -> Result<(), OpenError> {
+    made_and_left(alloc, disk)
+}
+
+/// The same disk, without its log.
+fn without_log(alloc: Global, disk: &MemDisk) -> Result<MemDisk, AllocError> {
+    MemDisk::of(alloc, &[], &[], disk.bytes(Which::Pages))
+}
+
+/// A disk whose second call fails.
+fn failing(alloc: Global) -> Result<MemDisk, AllocError> {
+    let mut disk = new_disk(alloc)?;
+    disk.fail_at(1)?;
+    Ok(disk)
 }
 
 #[test]
 fn it_is_told_why_there_is_no_store(rt: HostRuntime) -> Result<(), Fail> {
     let alloc = rt.alloc();
-    let mut disk = MemDisk::of(alloc, &[], &[], &[])?;
-    assert!(rt; matches!(opened(alloc, &mut disk), Err(OpenError::NotMade)));
-    assert_eq!(rt; made_and_left(alloc, &mut disk), Ok(()));
-    assert_eq!(rt; made_and_left(alloc, &mut disk), Err(OpenError::Made));
-    let redo = disk.bytes(Which::Redo);
-    let mut cut = MemDisk::of(alloc, &redo[..0], &[], disk.bytes(Which::Pages))?;
-    assert!(rt; matches!(opened(alloc, &mut cut), Err(OpenError::Damaged)));
-    let mut failing = MemDisk::of(alloc, &[], &[], &[])?;
-    failing.fail_at(1)?;
-    assert_eq!(rt; made_and_left(alloc, &mut failing), Err(OpenError::Disk));
+    let mut disk = new_disk(alloc)?;
+    assert_eq!(rt; cause_of(alloc, &mut disk), Some(OpenError::NotMade));
+    assert_eq!(rt; left(alloc, &mut disk), Ok(()));
+    assert_eq!(rt; left(alloc, &mut disk), Err(OpenError::Made));
+    let mut cut = without_log(alloc, &disk)?;
+    assert_eq!(rt; cause_of(alloc, &mut cut), Some(OpenError::Damaged));
+    Ok(())
+}
+
+#[test]
+fn a_disk_that_fails_has_no_store(rt: HostRuntime) -> Result<(), Fail> {
+    let mut disk = failing(rt.alloc())?;
+    assert_eq!(rt; left(rt.alloc(), &mut disk), Err(OpenError::Disk));
     Ok(())
 }

@@ -4,6 +4,7 @@ ghost use Rattle.std.specs.List.{AllByRecursion};
 ghost use Rattle.ut_redo.specs.Frames.{IsEntry};
 
 use std::alloc::{AllocError, Global};
+use std::process::Abort;
 use ut_entry::entry_from;
 use ut_pages::Root;
 use ut_restart::{RestartError, reopen};
@@ -67,13 +68,7 @@ fn opened(alloc: Global, entries: Seq<Entry>) -> Result<Store, RestartError>
     )
 }
 
-#[test]
-fn a_log_is_a_store(rt: HostRuntime) -> Result<(), RestartError> {
-    let alloc = rt.alloc();
-    let log = [CREATE, INSERT, BEGUN, DELETE, ENDED, INSERT, BEGUN_SECOND];
-    let entries = entries_of(alloc, &log)?;
-    assert_eq!(rt; entries.len(), 7);
-    let store = opened(alloc, entries)?;
+fn check_numbers(rt: &impl Abort, store: &Store) {
     assert_eq!(rt; store.entries(), 7);
     assert_eq!(rt; store.commits(), 4);
     assert_eq!(rt; store.merges(), 2);
@@ -81,6 +76,20 @@ fn a_log_is_a_store(rt: HostRuntime) -> Result<(), RestartError> {
         store.pending().is_none(),
         "a merge that has not ended is lost"
     );
+}
+
+/// The store of seven entries.
+fn store_of_seven(rt: &impl Abort, alloc: Global) -> Result<Store, RestartError> {
+    let log = [CREATE, INSERT, BEGUN, DELETE, ENDED, INSERT, BEGUN_SECOND];
+    let entries = entries_of(alloc, &log)?;
+    assert_eq!(rt; entries.len(), 7);
+    opened(alloc, entries)
+}
+
+#[test]
+fn a_log_is_a_store(rt: HostRuntime) -> Result<(), RestartError> {
+    let store = store_of_seven(&rt, rt.alloc())?;
+    check_numbers(&rt, &store);
     Ok(())
 }
 
@@ -93,27 +102,26 @@ fn is_damaged(alloc: Global, log: &[&[u8]]) -> Result<bool, AllocError> {
     }
 }
 
+/// A log under the name of what is wrong with it.
+type Log = (&'static str, &'static [&'static [u8]]);
+
+const DAMAGED: &[Log] = &[
+    ("a name twice", &[CREATE, CREATE]),
+    ("no table", &[INSERT]),
+    ("another kind", &[CREATE, INSERT_TEXT]),
+    ("an id twice", &[CREATE, INSERT, INSERT]),
+    ("no row", &[CREATE, DELETE]),
+    ("no row any more", &[CREATE, INSERT, DELETE, DELETE]),
+    ("a merge of no table", &[BEGUN]),
+    ("the second merge first", &[CREATE, BEGUN_SECOND]),
+    ("the end of no merge", &[CREATE, ENDED]),
+];
+
 #[test]
 fn an_entry_that_does_not_suit_is_damage(rt: HostRuntime) -> Result<(), AllocError> {
-    let alloc = rt.alloc();
-    assert!(rt; !is_damaged(alloc, &[])?);
-    assert!(rt; is_damaged(alloc, &[CREATE, CREATE])?, "a name twice");
-    assert!(rt; is_damaged(alloc, &[INSERT])?, "no table");
-    assert!(rt; is_damaged(alloc, &[CREATE, INSERT_TEXT])?, "another kind");
-    assert!(rt;
-        is_damaged(alloc, &[CREATE, INSERT, INSERT])?,
-        "an id twice"
-    );
-    assert!(rt; is_damaged(alloc, &[CREATE, DELETE])?, "no row");
-    assert!(rt;
-        is_damaged(alloc, &[CREATE, INSERT, DELETE, DELETE])?,
-        "no row any more"
-    );
-    assert!(rt; is_damaged(alloc, &[BEGUN])?, "a merge of no table");
-    assert!(rt;
-        is_damaged(alloc, &[CREATE, BEGUN_SECOND])?,
-        "the second merge first"
-    );
-    assert!(rt; is_damaged(alloc, &[CREATE, ENDED])?, "the end of no merge");
+    assert!(rt; !is_damaged(rt.alloc(), &[])?);
+    for (name, log) in DAMAGED {
+        assert!(rt; is_damaged(rt.alloc(), log)?, "{name}");
+    }
     Ok(())
 }

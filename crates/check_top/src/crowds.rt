@@ -1,6 +1,7 @@
 //! Crowds: sessions on threads over the top call, with merges and savepoints beside them, over faults of the disk and the sink.
-use check_run::run::{Ran, run_between, run_on};
+use check_run::run::{Ran, Run, new_disk, run_between, run_on};
 use std::alloc::{AllocError, Global};
+use std::process::Abort;
 use std::sync::Wait;
 use std::test::Fail;
 use std::thread::Threads;
@@ -9,6 +10,9 @@ use ut_outside::{Disk, MemDisk, MemSink, MemSource, Tear};
 
 /// The words that make a store and answer a crowd, with merges of few rows.
 const CROWD_NEW: &[&str] = &["ut", "crowd", "--new", "--l1", "2"];
+
+/// The words that answer a crowd in a store that is there.
+const CROWD: &[&str] = &["ut", "crowd"];
 
 /// Four sessions, a comment, a line of nobody's, and one that speaks for the store.
 const LINES: &[u8] = b"nobody\n0 merge end\n# a comment\n\
@@ -22,7 +26,8 @@ const FRONT: &[u8] = b"> nobody\n? refused syntax\n> 0 merge end\n? refused synt
 /// How many of the lines are a session's.
 const TURNS: usize = 13;
 
-fn run_crowd(
+/// Runs the lines into a sink.
+fn run_into(
     rt: &(impl Threads + Wait + Sync),
     alloc: Global,
     words: &[&str],
@@ -31,6 +36,30 @@ fn run_crowd(
 ) -> Result<Ran, AllocError> {
     let source = MemSource::new(alloc, LINES, 7, None)?;
     run_between(rt, alloc, words, source, sink, disk)
+}
+
+/// The same, into a sink that takes all.
+fn run_crowd(
+    rt: &(impl Threads + Wait + Sync),
+    alloc: Global,
+    words: &[&str],
+    disk: &mut MemDisk,
+) -> Result<Ran, AllocError> {
+    run_into(rt, alloc, words, MemSink::new(alloc, None), disk)
+}
+
+/// Runs the lines on a new disk whose calls of these numbers fail.
+fn run_failing(
+    rt: &(impl Threads + Wait + Sync),
+    alloc: Global,
+    calls: &[u64],
+) -> Result<Run, AllocError> {
+    let mut disk = new_disk(alloc)?;
+    for call in calls {
+        disk.fail_at(*call)?;
+    }
+    let ran = run_crowd(rt, alloc, CROWD_NEW, &mut disk)?;
+    Ok(Run { ran, disk })
 }
 
 /// How often these bytes stand in a text.
@@ -63,6 +92,18 @@ fn commits_in(book: &[u8]) -> usize {
     times(book, b" commit ")
 }
 
+/// A number that is followed by what is no digit.
+fn number_in(bytes: &[u8]) -> usize {
+    let mut number: usize = 0;
+    for digit in bytes {
+        if digit.is_ascii_digit() {
+            number = number.saturating_mul(10);
+            number = number.saturating_add((*digit & 15) as usize);
+        }
+    }
+    number
+}
+
 /// How many commits a store has, as the number of the next one says.
 fn commits_on(
     rt: &(impl Threads + Wait + Sync),
@@ -70,102 +111,188 @@ fn commits_on(
     disk: &mut MemDisk,
 ) -> Result<usize, AllocError> {
     let ran = run_on(rt, alloc, &["ut", "run"], b"1 create Z k:int\n", disk)?;
-    let mut commits: usize = 0;
-    if let Some(number) = ran.replies.strip_prefix(b"1 ok commit ") {
-        for digit in number {
-            if digit.is_ascii_digit() {
-                commits = commits.saturating_mul(10);
-                commits = commits.saturating_add((*digit & 15) as usize);
-            }
-        }
-    }
-    Ok(commits.saturating_sub(1))
+    let next = match ran.replies.strip_prefix(b"1 ok commit ") {
+        Some(number) => number_in(number),
+        None => 0,
+    };
+    Ok(next.saturating_sub(1))
 }
 
-#[test]
-fn each_line_has_its_turn(rt: HostRuntime) -> Result<(), Fail> {
-    let alloc = rt.alloc();
-    let mut disk = MemDisk::of(alloc, &[], &[], &[])?;
-    let ran = run_crowd(&rt, alloc, CROWD_NEW, MemSink::new(alloc, None), &mut disk)?;
+fn check_turns(rt: &impl Abort, ran: &Ran) {
     assert_eq!(rt; ran.status, Status::Done);
     let book = ran.replies.as_slice();
     assert!(rt; book.starts_with(FRONT));
     assert_eq!(rt; turns_in(book), TURNS);
     assert_eq!(rt; times(book, b"> "), ran.acks.len());
-    assert_eq!(rt; commits_on(&rt, alloc, &mut disk)?, commits_in(book));
+}
+
+#[test]
+fn each_line_has_its_turn(rt: HostRuntime) -> Result<(), Fail> {
+    let mut run = run_failing(&rt, rt.alloc(), &[])?;
+    check_turns(&rt, &run.ran);
+    let there = commits_on(&rt, rt.alloc(), &mut run.disk)?;
+    assert_eq!(rt; there, commits_in(run.ran.replies.as_slice()));
     Ok(())
+}
+
+/// How a crowd ended, and what its book tells.
+#[derive(Clone, Copy)]
+struct Told {
+    status: Status,
+    turns: usize,
+    commits: usize,
+    /// Nothing was written, and no line answered.
+    is_nothing: bool,
+}
+
+fn told_in(ran: &Ran) -> Told {
+    let book = ran.replies.as_slice();
+    Told {
+        status: ran.status,
+        turns: turns_in(book),
+        commits: commits_in(book),
+        is_nothing: book.is_empty() && ran.acks.len() == 0,
+    }
+}
+
+fn told_on(
+    rt: &(impl Threads + Wait + Sync),
+    alloc: Global,
+    words: &[&str],
+    disk: &mut MemDisk,
+) -> Result<Told, AllocError> {
+    let ran = run_crowd(rt, alloc, words, disk)?;
+    Ok(told_in(&ran))
 }
 
 /// A crowd in a store that is there goes on where it stands; without a store there is none.
-#[test]
-fn a_crowd_opens_what_is_there(rt: HostRuntime) -> Result<(), Fail> {
-    let alloc = rt.alloc();
-    let mut disk = MemDisk::of(alloc, &[], &[], &[])?;
-    let words = &["ut", "crowd"];
-    let none = run_crowd(&rt, alloc, words, MemSink::new(alloc, None), &mut disk)?;
+fn check_opened(
+    rt: &(impl Abort + Threads + Wait + Sync),
+    alloc: Global,
+    disk: &mut MemDisk,
+) -> Result<(), AllocError> {
+    let none = told_on(rt, alloc, CROWD, disk)?;
     assert_eq!(rt; none.status, Status::NoStore);
-    let made = run_crowd(&rt, alloc, CROWD_NEW, MemSink::new(alloc, None), &mut disk)?;
+    let made = told_on(rt, alloc, CROWD_NEW, disk)?;
     assert_eq!(rt; made.status, Status::Done);
-    let twice = run_crowd(&rt, alloc, CROWD_NEW, MemSink::new(alloc, None), &mut disk)?;
+    let twice = told_on(rt, alloc, CROWD_NEW, disk)?;
     assert_eq!(rt; twice.status, Status::Exists);
-    let again = run_crowd(&rt, alloc, words, MemSink::new(alloc, None), &mut disk)?;
+    let again = told_on(rt, alloc, CROWD, disk)?;
     assert_eq!(rt; again.status, Status::Done);
-    assert_eq!(rt; turns_in(&again.replies), TURNS);
-    let commits = commits_in(&made.replies).saturating_add(commits_in(&again.replies));
-    assert_eq!(rt; commits_on(&rt, alloc, &mut disk)?, commits);
+    assert_eq!(rt; again.turns, TURNS);
+    let commits = made.commits.saturating_add(again.commits);
+    assert_eq!(rt; commits_on(rt, alloc, disk)?, commits);
     Ok(())
 }
 
-/// Nothing is run where there are too many lines, or the source fails.
 #[test]
-fn nothing_is_run_before_all_is_read(rt: HostRuntime) -> Result<(), Fail> {
-    let alloc = rt.alloc();
-    let mut disk = MemDisk::of(alloc, &[], &[], &[])?;
-    let few = &["ut", "crowd", "--new", "--lines", "15"];
-    let long = run_crowd(&rt, alloc, few, MemSink::new(alloc, None), &mut disk)?;
-    assert_eq!(rt; long.status, Status::TooLong);
-    assert!(rt; long.replies.is_empty() && long.acks.len() == 0);
+fn a_crowd_opens_what_is_there(rt: HostRuntime) -> Result<(), Fail> {
+    let mut disk = new_disk(rt.alloc())?;
+    check_opened(&rt, rt.alloc(), &mut disk)?;
+    Ok(())
+}
+
+/// What a crowd tells whose source fails.
+fn told_unread(
+    rt: &(impl Threads + Wait + Sync),
+    alloc: Global,
+    disk: &mut MemDisk,
+) -> Result<Told, AllocError> {
     let source = MemSource::new(alloc, LINES, 7, Some(3))?;
     let sink = MemSink::new(alloc, None);
-    let cut = run_between(&rt, alloc, &["ut", "crowd"], source, sink, &mut disk)?;
+    let ran = run_between(rt, alloc, CROWD, source, sink, disk)?;
+    Ok(told_in(&ran))
+}
+
+/// Nothing is run where there are too many lines, or the source fails.
+fn check_unread(
+    rt: &(impl Abort + Threads + Wait + Sync),
+    alloc: Global,
+    disk: &mut MemDisk,
+) -> Result<(), AllocError> {
+    let few = &["ut", "crowd", "--new", "--lines", "15"];
+    let long = told_on(rt, alloc, few, disk)?;
+    assert_eq!(rt; long.status, Status::TooLong);
+    assert!(rt; long.is_nothing);
+    let cut = told_unread(rt, alloc, disk)?;
     assert_eq!(rt; cut.status, Status::ReadFault);
-    assert!(rt; cut.replies.is_empty() && cut.acks.len() == 0);
-    assert_eq!(rt; commits_on(&rt, alloc, &mut disk)?, 0);
+    assert!(rt; cut.is_nothing);
+    assert_eq!(rt; commits_on(rt, alloc, disk)?, 0);
+    Ok(())
+}
+
+#[test]
+fn nothing_is_run_before_all_is_read(rt: HostRuntime) -> Result<(), Fail> {
+    let mut disk = new_disk(rt.alloc())?;
+    check_unread(&rt, rt.alloc(), &mut disk)?;
+    Ok(())
+}
+
+/// A crowd whose disk may fail ends well or tells of it, once, where it wrote its book.
+fn check_fault(rt: &impl Abort, ran: &Ran, call: u64) {
+    let book = ran.replies.as_slice();
+    let is_fault = ran.status == Status::DiskFault;
+    assert!(rt; is_fault || ran.status == Status::Done, "at {call}");
+    if is_fault && !book.is_empty() {
+        assert_eq!(rt; times(book, b" fault disk\n"), 1, "at {call}");
+    }
+}
+
+/// How many commits a crash behind all leaves.
+fn commits_behind(
+    rt: &(impl Threads + Wait + Sync),
+    alloc: Global,
+    disk: &MemDisk,
+) -> Result<usize, AllocError> {
+    let mut image = disk.image(disk.calls(), Tear::Old)?;
+    commits_on(rt, alloc, &mut image)
+}
+
+fn check_call(
+    rt: &(impl Abort + Threads + Wait + Sync),
+    alloc: Global,
+    call: u64,
+) -> Result<(), AllocError> {
+    let run = run_failing(rt, alloc, &[call])?;
+    check_fault(rt, &run.ran, call);
+    let told = commits_in(run.ran.replies.as_slice());
+    let there = commits_behind(rt, alloc, &run.disk)?;
+    let is_kept = told <= there && there <= told.saturating_add(1);
+    assert!(rt; is_kept, "at {call}: {told} told, {there} there");
     Ok(())
 }
 
 /// Each call of the disk fails in turn: what the book tells is there again.
 #[test]
 fn a_fault_of_the_disk_loses_nothing_that_was_told(rt: HostRuntime) -> Result<(), Fail> {
-    let alloc = rt.alloc();
     for call in 0..90 {
-        let mut disk = MemDisk::of(alloc, &[], &[], &[])?;
-        disk.fail_at(call)?;
-        let ran = run_crowd(&rt, alloc, CROWD_NEW, MemSink::new(alloc, None), &mut disk)?;
-        let book = ran.replies.as_slice();
-        let is_fault = ran.status == Status::DiskFault;
-        assert!(rt; is_fault || ran.status == Status::Done, "at {call}");
-        if is_fault && !book.is_empty() {
-            assert_eq!(rt; times(book, b" fault disk\n"), 1, "at {call}");
-        }
-        let told = commits_in(book);
-        let mut image = disk.image(disk.calls(), Tear::Old)?;
-        let there = commits_on(&rt, alloc, &mut image)?;
-        let is_kept = told <= there && there <= told.saturating_add(1);
-        assert!(rt; is_kept, "at {call}: {told} told, {there} there");
+        check_call(&rt, rt.alloc(), call)?;
     }
     Ok(())
+}
+
+/// A run into a sink whose call of a number fails.
+fn run_unwritten(
+    rt: &(impl Threads + Wait + Sync),
+    alloc: Global,
+    call: u64,
+) -> Result<Ran, AllocError> {
+    let mut disk = new_disk(alloc)?;
+    run_into(
+        rt,
+        alloc,
+        CROWD_NEW,
+        MemSink::new(alloc, Some(call)),
+        &mut disk,
+    )
 }
 
 /// The sink fails at each byte of the front: what was written is that front, and all lines were answered.
 #[test]
 fn a_fault_of_the_sink_cuts_the_book(rt: HostRuntime) -> Result<(), Fail> {
-    let alloc = rt.alloc();
-    for calls in [0, 1] {
-        let mut disk = MemDisk::of(alloc, &[], &[], &[])?;
-        let sink = MemSink::new(alloc, Some(calls));
-        let ran = run_crowd(&rt, alloc, CROWD_NEW, sink, &mut disk)?;
-        if calls == 0 {
+    for call in [0, 1] {
+        let ran = run_unwritten(&rt, rt.alloc(), call)?;
+        if call == 0 {
             assert_eq!(rt; ran.status, Status::WriteFault);
             assert!(rt; ran.replies.is_empty());
         }

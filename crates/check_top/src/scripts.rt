@@ -23,17 +23,32 @@ struct Script {
     replies: Vec<u8>,
 }
 
+/// Puts a line of the script of a seed behind the others, and what the slow store replies.
+fn put_line(
+    alloc: Global,
+    store: &mut Oracle,
+    script: &mut Script,
+    seed: u64,
+    number: u32,
+) -> Result<(), AllocError> {
+    let start = script.lines.len();
+    script_line(STORE_LINES, seed, number, &mut script.lines)?;
+    let line = script.lines.get(start..).unwrap_or(&[]);
+    store.answer(alloc, line, &mut script.replies)?;
+    script.lines.push(b'\n')?;
+    Ok(())
+}
+
 /// The script of a seed, and what the slow store replies.
 fn scripted(alloc: Global, store: &mut Oracle, seed: u64) -> Result<Script, AllocError> {
-    let mut lines = Vec::new(alloc);
-    let mut replies = Vec::new(alloc);
+    let mut script = Script {
+        lines: Vec::new(alloc),
+        replies: Vec::new(alloc),
+    };
     for number in 0..LINES {
-        let start = lines.len();
-        script_line(STORE_LINES, seed, number, &mut lines)?;
-        store.answer(alloc, lines.get(start..).unwrap_or(&[]), &mut replies)?;
-        lines.push(b'\n')?;
+        put_line(alloc, store, &mut script, seed, number)?;
     }
-    Ok(Script { lines, replies })
+    Ok(script)
 }
 
 /// The slow store and the program's disk.

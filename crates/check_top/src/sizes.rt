@@ -1,7 +1,11 @@
 //! A long log is opened, and many rows are replied.
-use check_run::run::{RUN, RUN_NEW, run_on};
+use crate::replies::check_replies;
+use check_run::run::{RUN, RUN_NEW, Run, run_failing, run_on};
 use std::alloc::{AllocError, Global};
+use std::process::Abort;
+use std::sync::Wait;
 use std::test::Fail;
+use std::thread::Threads;
 use ut_app::Status;
 use ut_outside::{MemDisk, Which};
 
@@ -28,37 +32,56 @@ fn long_log(alloc: Global) -> Result<Vec<u8>, AllocError> {
     Ok(redo)
 }
 
+/// The page file of a new store, and a long log.
+fn long_disk(
+    rt: &(impl Abort + Threads + Wait + Sync),
+    alloc: Global,
+) -> Result<MemDisk, AllocError> {
+    let made = run_failing(rt, alloc, RUN_NEW, b"", &[])?;
+    assert_eq!(rt; made.ran.status, Status::Done);
+    let redo = long_log(alloc)?;
+    MemDisk::of(alloc, &redo, &[], made.disk.bytes(Which::Pages))
+}
+
 #[test]
 fn a_log_of_many_entries_is_opened(rt: HostRuntime) -> Result<(), Fail> {
-    let alloc = rt.alloc();
-    let mut made = MemDisk::of(alloc, &[], &[], &[])?;
-    assert_eq!(rt;
-        run_on(&rt, alloc, RUN_NEW, b"", &mut made)?.status,
-        Status::Done
-    );
-    let redo = long_log(alloc)?;
-    let mut disk = MemDisk::of(alloc, &redo, &[], made.bytes(Which::Pages))?;
+    let mut disk = long_disk(&rt, rt.alloc())?;
     let script = b"1 count T where k = 5\n1 insert T 6\n1 count T\n";
-    let ran = run_on(&rt, alloc, RUN, script, &mut disk)?;
-    assert_eq!(rt; ran.status, Status::Done);
+    let ran = run_on(&rt, rt.alloc(), RUN, script, &mut disk)?;
     let wanted = b"1 count 100000\n1 ok 1 commit 100002\n1 count 100001\n";
-    assert_eq!(rt; ran.replies.as_slice(), wanted.as_slice());
+    check_replies(&rt, &ran, wanted);
     Ok(())
+}
+
+/// The lines that insert and select many rows.
+fn long_script(alloc: Global) -> Result<Vec<u8>, AllocError> {
+    let mut script = Vec::from_slice(alloc, b"1 create T k:int\n1 bulk T")?;
+    for _ in 0..ROWS {
+        script.extend_from_slice(b" 7")?;
+    }
+    script.extend_from_slice(b"\n1 select T *\n")?;
+    Ok(script)
+}
+
+/// What they are answered.
+fn long_replies(alloc: Global) -> Result<Vec<u8>, AllocError> {
+    let mut replies = Vec::from_slice(alloc, b"1 ok commit 1\n1 ok 1000 commit 2\n1 rows 1000\n")?;
+    for _ in 0..ROWS {
+        replies.extend_from_slice(b"7\n")?;
+    }
+    Ok(replies)
+}
+
+/// Runs the lines on a new disk.
+fn run_long(rt: &(impl Threads + Wait + Sync), alloc: Global) -> Result<Run, AllocError> {
+    let script = long_script(alloc)?;
+    run_failing(rt, alloc, RUN_NEW, &script, &[])
 }
 
 #[test]
 fn many_rows_are_replied(rt: HostRuntime) -> Result<(), Fail> {
-    let alloc = rt.alloc();
-    let mut script = Vec::from_slice(alloc, b"1 create T k:int\n1 bulk T")?;
-    let mut wanted = Vec::from_slice(alloc, b"1 ok commit 1\n1 ok 1000 commit 2\n1 rows 1000\n")?;
-    for _ in 0..ROWS {
-        script.extend_from_slice(b" 7")?;
-        wanted.extend_from_slice(b"7\n")?;
-    }
-    script.extend_from_slice(b"\n1 select T *\n")?;
-    let mut disk = MemDisk::of(alloc, &[], &[], &[])?;
-    let ran = run_on(&rt, alloc, RUN_NEW, &script, &mut disk)?;
-    assert_eq!(rt; ran.status, Status::Done);
-    assert_eq!(rt; ran.replies.as_slice(), wanted.as_slice());
+    let wanted = long_replies(rt.alloc())?;
+    let run = run_long(&rt, rt.alloc())?;
+    check_replies(&rt, &run.ran, &wanted);
     Ok(())
 }

@@ -1,12 +1,11 @@
 //! The bytes that savepoints leave, beside those worked out by hand.
-use check_run::run::{RUN, RUN_NEW, SCRIPT, run_on};
-use check_run::saved::{TRANSACTION, joined};
+use crate::disks::{made_by, run_script, saved_disk};
+use check_run::run::{RUN, RUN_NEW, SCRIPT, new_disk};
 use std::alloc::{AllocError, Global};
 use std::process::Abort;
 use std::sync::Wait;
 use std::test::Fail;
 use std::thread::Threads;
-use ut_app::Status;
 use ut_outside::{MemDisk, Which};
 
 /// So many bytes has a page.
@@ -46,34 +45,23 @@ fn root_in(disk: &MemDisk, page: usize) -> &[u8] {
     )
 }
 
-fn run_script(
-    rt: &(impl Abort + Threads + Wait + Sync),
-    alloc: Global,
-    words: &[&str],
-    script: &[u8],
-    replies: &[u8],
-    disk: &mut MemDisk,
-) -> Result<(), AllocError> {
-    let ran = run_on(rt, alloc, words, script, disk)?;
-    assert_eq!(rt; ran.status, Status::Done);
-    let told = ran.replies.as_slice();
-    assert_eq!(rt; told, replies);
-    Ok(())
+fn check_pages(rt: &impl Abort, pages: &[u8]) {
+    assert_eq!(rt; cut(pages, PAGE * 3, DIRECTORY.len()), DIRECTORY);
+    assert_eq!(rt; cut(pages, 0, 2), b"\x55\x01".as_slice());
+    assert!(rt; pages.len() >= PAGE * 4);
+}
+
+fn check_logs(rt: &impl Abort, disk: &MemDisk) {
+    assert_eq!(rt; disk.bytes(Which::Redo), REDO);
+    assert_eq!(rt; disk.bytes(Which::Redo2), REDO2);
 }
 
 #[test]
 fn a_first_savepoint_leaves_these_bytes(rt: HostRuntime) -> Result<(), Fail> {
-    let alloc = rt.alloc();
-    let (script, replies) = joined(alloc, TRANSACTION.table)?;
-    let mut disk = MemDisk::of(alloc, &[], &[], &[])?;
-    run_script(&rt, alloc, RUN_NEW, &script, &replies, &mut disk)?;
-    assert_eq!(rt; disk.bytes(Which::Redo), REDO);
-    assert_eq!(rt; disk.bytes(Which::Redo2), REDO2);
+    let disk = saved_disk(&rt, rt.alloc())?;
+    check_logs(&rt, &disk);
     assert_eq!(rt; root_in(&disk, 2), ROOT);
-    let pages = disk.bytes(Which::Pages);
-    assert_eq!(rt; cut(pages, PAGE * 3, DIRECTORY.len()), DIRECTORY);
-    assert_eq!(rt; cut(pages, 0, 2), b"\x55\x01".as_slice());
-    assert!(rt; pages.len() >= PAGE * 4);
+    check_pages(&rt, disk.bytes(Which::Pages));
     Ok(())
 }
 
@@ -82,9 +70,7 @@ fn first_version(
     rt: &(impl Abort + Threads + Wait + Sync),
     alloc: Global,
 ) -> Result<MemDisk, AllocError> {
-    let mut disk = MemDisk::of(alloc, &[], &[], &[])?;
-    let ran = run_on(rt, alloc, RUN_NEW, SCRIPT, &mut disk)?;
-    assert_eq!(rt; ran.status, Status::Done);
+    let disk = made_by(rt, alloc, SCRIPT)?;
     let mut pages = Vec::from_slice(alloc, disk.bytes(Which::Pages))?;
     assert!(rt; pages.len() > PAGE);
     pages[PAGE] = 1;
@@ -115,25 +101,42 @@ fn root_of(
     Ok(root)
 }
 
+/// Makes a savepoint, with these replies.
+fn save(
+    rt: &(impl Abort + Threads + Wait + Sync),
+    alloc: Global,
+    replies: &[u8],
+    disk: &mut MemDisk,
+) -> Result<(), AllocError> {
+    run_script(rt, alloc, RUN, SAVE, replies, disk)
+}
+
+/// The root in page 2 has so many entries, as many commits, and the next id of that number.
+fn check_root(
+    rt: &impl Abort,
+    alloc: Global,
+    disk: &MemDisk,
+    entries: u8,
+    offset: u8,
+    len: u8,
+) -> Result<(), AllocError> {
+    let root = root_of(alloc, entries, entries, offset, len)?;
+    assert_eq!(rt; root_in(disk, 2), root.as_slice());
+    Ok(())
+}
+
 /// A directory of one row has 19 bytes for its table, 3 for a second column v, 4 for the row's id, 8 for its number and 2 for its text.
 #[test]
 fn a_root_of_version_one_is_followed_by_one_of_version_two(rt: HostRuntime) -> Result<(), Fail> {
     let alloc = rt.alloc();
     let mut disk = first_version(&rt, alloc)?;
     let replies = b"0 ok 0 of 1\n0 ok 1 of 1\n0 ok sealed 1\n0 ok root 2\n";
-    run_script(&rt, alloc, RUN, SAVE, replies, &mut disk)?;
-    let root = root_of(alloc, 2, 2, 0, 36)?;
-    assert_eq!(rt; root_in(&disk, 2), root.as_slice());
+    save(&rt, alloc, replies, &mut disk)?;
+    check_root(&rt, alloc, &disk, 2, 0, 36)?;
     assert_eq!(rt; disk.bytes(Which::Redo2), b"\0".as_slice());
+    let question = b"1 select T *\n0 shape T\n";
     let again = b"1 rows 1\n5 'a'\n0 shape l1 1 l2 0 closed none parts none\n";
-    run_script(
-        &rt,
-        alloc,
-        RUN,
-        b"1 select T *\n0 shape T\n",
-        again,
-        &mut disk,
-    )?;
+    run_script(&rt, alloc, RUN, question, again, &mut disk)?;
     Ok(())
 }
 
@@ -142,55 +145,69 @@ fn a_root_of_version_one_is_followed_by_one_of_version_two(rt: HostRuntime) -> R
 fn a_savepoint_that_was_given_up_leaves_the_log_where_it_is(rt: HostRuntime) -> Result<(), Fail> {
     let alloc = rt.alloc();
     let mut disk = first_version(&rt, alloc)?;
-    run_script(
-        &rt,
-        alloc,
-        RUN,
-        b"0 save begin\n0 save drop\n1 insert T 6 'b'\n",
-        b"0 ok 0 of 1\n0 ok\n1 ok 1 commit 3\n",
-        &mut disk,
-    )?;
+    let given_up = b"0 save begin\n0 save drop\n1 insert T 6 'b'\n";
+    let replies = b"0 ok 0 of 1\n0 ok\n1 ok 1 commit 3\n";
+    run_script(&rt, alloc, RUN, given_up, replies, &mut disk)?;
     let replies = b"0 ok 0 of 1\n0 ok 1 of 1\n0 ok sealed 1\n0 ok root 3\n";
-    run_script(&rt, alloc, RUN, SAVE, replies, &mut disk)?;
-    let root = root_of(alloc, 3, 3, 30, 50)?;
-    assert_eq!(rt; root_in(&disk, 2), root.as_slice());
+    save(&rt, alloc, replies, &mut disk)?;
+    check_root(&rt, alloc, &disk, 3, 30, 50)?;
     assert_eq!(rt; disk.bytes(Which::Redo2).len(), 31);
     Ok(())
+}
+
+/// The root in a page names a file of the log, which is empty.
+fn check_file(rt: &impl Abort, disk: &MemDisk, page: usize, file: u8) {
+    let log = cut(root_in(disk, page), 40, 4);
+    assert_eq!(rt; log.first().copied(), Some(file), "in page {page}");
+    let which = if file == 0 { Which::Redo } else { Which::Redo2 };
+    assert_eq!(rt; disk.bytes(which), b"\0".as_slice(), "in page {page}");
 }
 
 /// The third savepoint moves the log back to the first file, which no root reads any more, and so on by turns.
 #[test]
 fn the_log_goes_from_file_to_file_by_turns(rt: HostRuntime) -> Result<(), Fail> {
     let alloc = rt.alloc();
-    let mut disk = MemDisk::of(alloc, &[], &[], &[])?;
+    let mut disk = new_disk(alloc)?;
     run_script(&rt, alloc, RUN_NEW, b"", b"", &mut disk)?;
     for (page, file) in [(2, 1), (1, 0), (2, 1), (1, 0)] {
         let replies = b"0 ok 0 of 1\n0 ok 1 of 1\n0 ok sealed 1\n0 ok root 0\n";
-        run_script(&rt, alloc, RUN, SAVE, replies, &mut disk)?;
-        let log = cut(root_in(&disk, page), 40, 4);
-        assert_eq!(rt; log.first().copied(), Some(file), "in page {page}");
-        let which = if file == 0 { Which::Redo } else { Which::Redo2 };
-        assert_eq!(rt; disk.bytes(which), b"\0".as_slice());
+        save(&rt, alloc, replies, &mut disk)?;
+        check_file(&rt, &disk, page, file);
     }
     Ok(())
 }
 
-/// A directory of a thousand rows is a chain of three pages: 19 bytes, and 12 for each row.
-#[test]
-fn a_long_directory_is_a_chain_of_pages(rt: HostRuntime) -> Result<(), Fail> {
-    let alloc = rt.alloc();
+/// A script that makes a savepoint of a thousand rows.
+fn long_script(alloc: Global) -> Result<Vec<u8>, AllocError> {
     let mut script = Vec::from_slice(alloc, b"1 create T k:int\n1 bulk T")?;
     for _ in 0..1000 {
         script.extend_from_slice(b" 7")?;
     }
     script.extend_from_slice(b"\n0 save begin\n0 save step 1\n0 save step 1\n0 save step 9\n")?;
     script.extend_from_slice(b"0 save seal\n0 save flip\n")?;
-    let replies = b"1 ok commit 1\n1 ok 1000 commit 2\n\
-        0 ok 0 of 3\n0 ok 1 of 3\n0 ok 2 of 3\n0 ok 3 of 3\n0 ok sealed 3\n0 ok root 2\n";
-    let mut disk = MemDisk::of(alloc, &[], &[], &[])?;
-    run_script(&rt, alloc, RUN_NEW, &script, replies, &mut disk)?;
-    let again = b"0 shape l1 0 l2 1000 closed none parts none\n1 count 1000\n";
+    Ok(script)
+}
+
+/// What it is answered.
+const LONG_REPLIES: &[u8] = b"1 ok commit 1\n1 ok 1000 commit 2\n\
+    0 ok 0 of 3\n0 ok 1 of 3\n0 ok 2 of 3\n0 ok 3 of 3\n0 ok sealed 3\n0 ok root 2\n";
+
+fn long_disk(
+    rt: &(impl Abort + Threads + Wait + Sync),
+    alloc: Global,
+) -> Result<MemDisk, AllocError> {
+    let script = long_script(alloc)?;
+    let mut disk = new_disk(alloc)?;
+    run_script(rt, alloc, RUN_NEW, &script, LONG_REPLIES, &mut disk)?;
+    Ok(disk)
+}
+
+/// A directory of a thousand rows is a chain of three pages: 19 bytes, and 12 for each row.
+#[test]
+fn a_long_directory_is_a_chain_of_pages(rt: HostRuntime) -> Result<(), Fail> {
+    let mut disk = long_disk(&rt, rt.alloc())?;
     let question = b"0 shape T\n1 count T where k = 7\n";
-    run_script(&rt, alloc, RUN, question, again, &mut disk)?;
+    let again = b"0 shape l1 0 l2 1000 closed none parts none\n1 count 1000\n";
+    run_script(&rt, rt.alloc(), RUN, question, again, &mut disk)?;
     Ok(())
 }
