@@ -1,13 +1,18 @@
 -- Pairs of a left and a right row, one list of each.
-use Rattle.std.proofs.Common.{ℕ, ◌+◌, ◌<◌, ◌≡◌, List, [], ◌∷◌, ◌++◌, length, map, get_or, drop, IsTrue, refl, sym, ap, ◌∙◌, arith}
+use Rattle.std.proofs.Common.{ℕ, ◌+◌, ◌<◌, ◌≡◌, List, [], ◌∷◌, ◌++◌, length, map, get_or, drop, All, Bor, IsTrue, refl, sym, ap, ◌∙◌, arith}
 use Rattle.std.specs.List.{flat_map}
+use Rattle.std.specs.Option.{option_map}
+use Rattle.std.proofs.lemmas.Option.{slice_get-map, slice_get_read}
 use Rattle.std.proofs.lemmas.List.{length-append, length-map}
 use Rattle.std.proofs.lemmas.List.Elements.{All-append}
+use Rattle.ut_value.specs.declared.value.Value.{Value}
+use Rattle.ut_rows.specs.Columns.{values_at as values_in}
 use Rattle.ut_scan.specs.declared.place.Found.{Found}
 use Rattle.ut_staged.specs.Staged.{Staged, row_at}
 use Rattle.ut_ops.specs.Fit.{Fit, is_row, values_at}
-use Rattle.ut_ops.specs.Index.{beside, beside_each}
+use Rattle.ut_ops.specs.Index.{lists_now, beside, beside_each}
 use Rattle.ut_ops.proofs.ColumnLemmas.{fit_first, fit_rest, all_cons}
+use Rattle.ut_ops.proofs.SeenLemmas.{place-there, place-inside, at-place}
 use Rattle.ut_ops.proofs.JoinLemmas.{flat_more}
 
 -- a row, as often as there are others
@@ -67,3 +72,17 @@ pairs-next h fs i d gs lefts new_lefts rights new_rights lt is left right before
   flat_more (λ f. repeated f (h f)) fs i d lefts (repeated (get_or fs i d) gs) new_lefts (flat_map (λ f. repeated f (h f)) fs) lt (ap (repeated (get_or fs i d)) is) left before,
   flat_more h fs i d rights gs new_rights (flat_map h fs) lt is right after,
 )
+
+-- ---- the partners of each value that was read
+
+pub partners-there : (h : Value → List Found) (f : Found → Value) (hits : List Found) (vs : List Value) (ps : List ℕ) (lists : List (Bor (List Found))) (i p : ℕ) → i < length hits → All (λ q. q < length vs) ps → values_in vs ps ≡ map f hits
+    → lists_now lists ≡ map h vs → p ≡ get_or ps i p → p < length lists
+partners-there h f hits vs ps lists i p lt inside read is at =
+    let there : i < length ps = omega (arith, lt, place-there f hits vs ps read) in
+    omega (arith, place-inside h vs ps (lists_now lists) i p inside is there at, length-map lists (λ (l : Bor (List Found)). l.now))
+
+pub partners-read : (h : Value → List Found) (f : Found → Value) (hits : List Found) (vs : List Value) (ps : List ℕ) (lists : List (Bor (List Found))) (i p : ℕ) (d : Found) (others : Bor (List Found)) → i < length hits → All (λ q. q < length vs) ps → values_in vs ps ≡ map f hits
+    → lists_now lists ≡ map h vs → p ≡ get_or ps i p → others ≡ get_or lists p others → others.now ≡ h (f (get_or hits i d))
+partners-read h f hits vs ps lists i p d others lt inside read is at found =
+    at-place f h hits vs ps (lists_now lists) i p d others.now lt inside read is at
+    (slice_get-map (λ (l : Bor (List Found)). l.now) lists p ∙ ap (option_map (λ (l : Bor (List Found)). l.now)) (slice_get_read lists (length lists) p others refl (partners-there h f hits vs ps lists i p lt inside read is at) found))

@@ -3,9 +3,9 @@ use Rattle.std.proofs.Common.{ℕ, zero, suc, ◌+◌, ◌-◌, ◌<◌, ◌≡�
 use Rattle.std.specs.Prelude.{slice_get, pos, unwrap_or}
 use Rattle.std.specs.Option.{option_map}
 use Rattle.std.proofs.lemmas.Bool.{cases_eq}
-use Rattle.std.proofs.lemmas.List.{length-append, map-append, take_more, get_or-set_same, get_or-set_other, get_or_append_left}
+use Rattle.std.proofs.lemmas.List.{length-append, length-map, map-append, take_more, get_or-set_same, get_or-set_other, get_or_append_left}
 use Rattle.std.proofs.lemmas.List.Elements.{All-head, All-tail, All-weaker, All-push}
-use Rattle.std.proofs.lemmas.Option.{slice_get-map, slice_get_within, slice_get_read, slice_get-get_or, get_or_from_slice_get}
+use Rattle.std.proofs.lemmas.Option.{same_Some, slice_get-map, slice_get_within, slice_get_read, slice_get-get_or, get_or_from_slice_get}
 use Rattle.ut_value.specs.declared.value.Value.{Value}
 use Rattle.ut_value.specs.declared.value.Value.TheVariants.{Int}
 use Rattle.ut_value.specs.declared.value.Kind.{Kind}
@@ -144,3 +144,28 @@ reads-next vs new ps xs p v m inside is at = (
 -- what is made of each so far, and of one more
 pub one-more : {X Y : Type 0} (f : X → Y) (xs : List X) (i : ℕ) (d : X) → i < length xs → map f (take i xs) ++ f (get_or xs i d) ∷ [] ≡ map f (take (i + 1) xs)
 one-more f xs i d lt = sym (map-append f (take i xs) (get_or xs i d ∷ [])) ∙ ap (map f) (sym (take_more xs i d lt))
+
+-- each row has a place, at which there is a list where each value has one
+pub place-there : {X : Type 0} (f : X → Value) (hits : List X) (vs : List Value) (ps : List ℕ) → values_at vs ps ≡ map f hits → length ps ≡ length hits
+place-there f hits vs ps is = sym (length-map ps (value_in vs)) ∙ ap length is ∙ length-map hits f
+
+pub place-inside : {A : Type 0} (h : Value → A) (vs : List Value) (ps : List ℕ) (lists : List A) (i p : ℕ) → All (λ q. q < length vs) ps → lists ≡ map h vs → i < length ps → p ≡ get_or ps i p → p < length lists
+place-inside h vs ps lists i p inside is lt at = omega (arith, inside i p lt, at, ap length is ∙ length-map vs h)
+
+-- what is there for the value of a row
+pub at-place : {X A : Type 0} (f : X → Value) (h : Value → A) (hits : List X) (vs : List Value) (ps : List ℕ) (lists : List A) (i p : ℕ) (d : X) (a : A) → i < length hits → All (λ q. q < length vs) ps → values_at vs ps ≡ map f hits → lists ≡ map h vs
+    → p ≡ get_or ps i p → slice_get lists p ≡ Some a → a ≡ h (f (get_or hits i d))
+at-place f h hits vs ps lists i p d a lt inside read is at found =
+    same_Some a (h (f (get_or hits i d)))
+    (sym found ∙ ap (λ ls. slice_get ls p) is ∙ slice_get-map h vs p ∙ ap (option_map h) (slice_get-get_or vs p (Int (pos 0)) below) ∙ ap (λ v. Some (h v)) value)
+  where
+    there : i < length ps
+    there = omega (arith, lt, place-there f hits vs ps read)
+
+    below : p < length vs
+    below = omega (arith, inside i p there, at)
+
+    value : value_in vs p ≡ f (get_or hits i d)
+    value = same_Some (value_in vs p) (f (get_or hits i d))
+        (sym (slice_get-map (value_in vs) ps i ∙ ap (option_map (value_in vs)) (slice_get_read ps (length ps) i p refl there at))
+        ∙ ap (λ ws. slice_get ws i) read ∙ slice_get-map f hits i ∙ ap (option_map f) (slice_get-get_or hits i d lt))

@@ -1,13 +1,14 @@
 -- The total of numbers is that of their codes' numbers, each as often as its code occurs.
-use Rattle.std.proofs.Common.{◌≡◌, inl, inr, ℕ, zero, suc, ◌+◌, ◌-◌, ◌<◌, ◌≤◌, min, ℤ, pos, ◌+ℤ◌, cond, nat_eq, List, [], ◌∷◌, ◌++◌, length, map, drop, get_or, All, None, Some, IsTrue, refl, sym, ◌∙◌, ap, arith, true≢false}
+use Rattle.std.proofs.Common.{◌≡◌, inl, inr, ℕ, zero, suc, ◌+◌, ◌<◌, ◌^◌, ℤ, pos, negsuc, ◌+ℤ◌, cond, nat_eq, List, [], ◌∷◌, ◌++◌, length, map, drop, get_or, All, None, Some, IsTrue, refl, sym, ◌∙◌, ap, arith, ltb-true, true≢false}
 use Rattle.std.specs.Prelude.{slice_get, ◌*ℤ◌, ◌-ℤ◌}
 use Rattle.std.specs.Option.{option_map, option_and_then}
 use Rattle.std.specs.List.{sum_by}
 use Rattle.std.specs.List.Sorted.{IsPermutation}
 use Rattle.std.proofs.Math.IntN.{zero-*ℤ, suc_ℤ-*ℤ}
-use Rattle.std.proofs.lemmas.Bool.{cases_eq, cases_lt, eq-eqb, ne_eqb}
+use Rattle.std.proofs.lemmas.Bool.{cases_eq, eq-eqb, ne_eqb}
+use Rattle.std.proofs.lemmas.Nat.{from_be_bytes-to_be_bytes_8}
 use Rattle.std.proofs.lemmas.Int.{ints}
-use Rattle.std.proofs.lemmas.List.{get_or_past, length-drop, map-append}
+use Rattle.std.proofs.lemmas.List.{map-append}
 use Rattle.std.proofs.lemmas.List.Sums.{sum_by-cons}
 use Rattle.std.proofs.lemmas.List.Elements.{All-nil, All-cons, All-head, All-tail}
 use Rattle.std.proofs.lemmas.List.Sorted.{All-permutation, IsPermutation-map, IsPermutation-sym, sum_by-IsPermutation}
@@ -17,7 +18,8 @@ use Rattle.ut_value.specs.declared.value.Value.{Value}
 use Rattle.ut_value.specs.declared.value.Value.TheVariants.{Int, Text}
 use Rattle.ut_value.specs.declared.value.Kind.TheVariants as kinds
 use Rattle.ut_value.specs.declared.value.Column.{Column}
-use Rattle.ut_value.specs.KeyBytes.{is_int, is_of_kind, is_value, int_key, key_of}
+use Rattle.ut_value.specs.KeyBytes.{is_int, is_of_kind, is_value, int_key, key_of, sign_flipped}
+use Rattle.ut_table.specs.Totals.{key_number, weighed}
 use Rattle.ut_plain.specs.Query.{column_values, number_of, total}
 use Rattle.ut_plain.specs.Tables.{column_of}
 use Rattle.ut_scan.specs.declared.place.Found.{Found}
@@ -28,10 +30,7 @@ use Rattle.ut_staged.specs.Staged.{Staged, row_at}
 use Rattle.ut_table.specs.Coded.{keyed_main}
 use Rattle.ut_table.specs.Finds.{rows_at}
 use Rattle.ut_table.specs.Tallied.{value_at, IsTally}
-use Rattle.ut_table.specs.Decoded.{decoded}
-use Rattle.ut_table.proofs.DecodedLemmas.{decoded-key_of}
 use Rattle.ut_ops.specs.Fit.{Fit, is_row, cell}
-use Rattle.ut_ops.specs.Weighed.{counted, key_number, weighed}
 use Rattle.ut_ops.proofs.CellLemmas.{is_cell, one_kind, within_kind}
 use Rattle.ut_ops.proofs.ColumnLemmas.{fit_first, fit_rest, values_some}
 
@@ -64,113 +63,83 @@ once z = suc_ℤ-*ℤ (pos 0) z ∙ ap (λ m. m +ℤ z) (zero-*ℤ z) ∙ none_b
 
 -- ---- the numbers of codes
 
-module _ (keys : List (List ℕ)) where
-  abbrev number : ℕ → ℤ
-  number code = key_number (get_or keys code [])
+-- the numbers of keys, each as often as its code is counted
+abbrev counted : (ℕ → ℕ) → List (List ℕ) → ℤ
+counted count [] = pos 0
+counted count (key ∷ keys) = (pos (count 0) *ℤ key_number key) +ℤ counted (λ code. count (suc code)) keys
 
-  -- the numbers of codes together
-  abbrev numbered : List ℕ → ℤ
-  numbered [] = pos 0
-  numbered (c ∷ cs) = number c +ℤ numbered cs
+counted-same : (f g : ℕ → ℕ) (keys : List (List ℕ)) → ((c : ℕ) → f c ≡ g c) → counted f keys ≡ counted g keys
+counted-same f g [] h = refl
+counted-same f g (key ∷ keys) h = λ i. (pos (h 0 i) *ℤ key_number key) +ℤ counted-same (λ c. f (suc c)) (λ c. g (suc c)) keys (λ c. h (suc c)) i
 
-  weighed-same : (f g : ℕ → ℕ) (n : ℕ) → ((k : ℕ) → k < n → f k ≡ g k) → weighed f keys n ≡ weighed g keys n
-  weighed-same f g zero h = refl
-  weighed-same f g (suc n) h = λ i. weighed-same f g n (λ k lt. h k (omega (arith, lt))) i +ℤ (pos (h n (omega arith) i) *ℤ number n)
+counted-none : (f : ℕ → ℕ) (keys : List (List ℕ)) → ((c : ℕ) → f c ≡ 0) → counted f keys ≡ pos 0
+counted-none f [] h = refl
+counted-none f (key ∷ keys) h =
+    (λ i. (pos (h 0 i) *ℤ key_number key) +ℤ counted-none (λ c. f (suc c)) keys (λ c. h (suc c)) i)
+    ∙ none_behind (pos 0 *ℤ key_number key) ∙ zero-*ℤ (key_number key)
 
-  weighed-none : (f : ℕ → ℕ) (n : ℕ) → ((k : ℕ) → k < n → f k ≡ 0) → weighed f keys n ≡ pos 0
-  weighed-none f zero h = refl
-  weighed-none f (suc n) h =
-      ap (λ m. m +ℤ (pos (f n) *ℤ number n)) (weighed-none f n (λ k lt. h k (omega (arith, lt))))
-      ∙ none_before (pos (f n) *ℤ number n) ∙ ap (λ k. pos k *ℤ number n) (h n (omega arith)) ∙ zero-*ℤ (number n)
+counted-both : (f g : ℕ → ℕ) (keys : List (List ℕ)) → counted (λ c. f c + g c) keys ≡ counted f keys +ℤ counted g keys
+counted-both f g [] = refl
+counted-both f g (key ∷ keys) =
+    (λ i. shared (f 0) (g 0) (key_number key) i +ℤ counted-both (λ c. f (suc c)) (λ c. g (suc c)) keys i)
+    ∙ regrouped (pos (f 0) *ℤ key_number key) (pos (g 0) *ℤ key_number key) (counted (λ c. f (suc c)) keys) (counted (λ c. g (suc c)) keys)
 
-  weighed-both : (f g : ℕ → ℕ) (n : ℕ) → weighed (λ k. f k + g k) keys n ≡ weighed f keys n +ℤ weighed g keys n
-  weighed-both f g zero = refl
-  weighed-both f g (suc n) =
-      (λ i. weighed-both f g n i +ℤ shared (f n) (g n) (number n) i)
-      ∙ regrouped (weighed f keys n) (weighed g keys n) (pos (f n) *ℤ number n) (pos (g n) *ℤ number n)
+next-code : (c code : ℕ) → nat_eq (suc c) (suc code) ≡ nat_eq c code
+next-code c code = elim (cases_eq c code) [
+  | inl same ↦ eq-eqb (suc c) (suc code) (ap suc same) ∙ sym (eq-eqb c code same)
+  | inr other ↦ ne_eqb (suc c) (suc code) (λ e. other (omega (arith, e))) ∙ sym (ne_eqb c code other)
+]
 
-  weighed-one : (c n : ℕ) → c < n → weighed (λ k. cond (nat_eq k c) 1 0) keys n ≡ number c
-  weighed-one c zero lt = absurd (omega (arith, lt))
-  weighed-one c (suc n) lt = elim (cases_eq n c) [
-    | inl same ↦ ap (λ m. m +ℤ (pos (cond (nat_eq n c) 1 0) *ℤ number n)) (weighed-none (λ k. cond (nat_eq k c) 1 0) n (λ k less. ap {B = ℕ} (λ b. cond b 1 0) (ne_eqb k c (λ e. absurd (omega (arith, less, e, same))))))
-        ∙ none_before (pos (cond (nat_eq n c) 1 0) *ℤ number n) ∙ ap (λ b. pos (cond b 1 0) *ℤ number n) (eq-eqb n c same) ∙ once (number n) ∙ ap number same
-    | inr other ↦ ap (λ b. weighed (λ k. cond (nat_eq k c) 1 0) keys n +ℤ (pos (cond b 1 0) *ℤ number n)) (ne_eqb n c other)
-        ∙ ap (λ m. weighed (λ k. cond (nat_eq k c) 1 0) keys n +ℤ m) (zero-*ℤ (number n)) ∙ none_behind (weighed (λ k. cond (nat_eq k c) 1 0) keys n)
-        ∙ weighed-one c n (below other)
-  ]
-    where
-      below : (n ≡ c → ⊥) → c < n
-      below other = elim (cases_lt c n) [ inl less ↦ less | inr le ↦ absurd (other (omega (arith, lt, le))) ]
+-- one code once
+counted-one : (code : ℕ) (keys : List (List ℕ)) → code < length keys → counted (λ c. cond (nat_eq c code) 1 0) keys ≡ key_number (get_or keys code [])
+counted-one code [] lt = absurd (omega (arith, lt))
+counted-one zero (key ∷ keys) lt =
+    (λ i. (pos (cond (eq-eqb 0 0 refl i) 1 0) *ℤ key_number key) +ℤ counted-none (λ c. cond (nat_eq (suc c) 0) 1 0) keys (λ c. ap {B = ℕ} (λ b. cond b 1 0) (ne_eqb (suc c) 0 (λ e. absurd (omega (arith, e))))) i)
+    ∙ none_behind (pos 1 *ℤ key_number key) ∙ once (key_number key)
+counted-one (suc code) (key ∷ keys) lt =
+    (λ i. (pos (cond (ne_eqb 0 (suc code) (λ e. absurd (omega (arith, e))) i) 1 0) *ℤ key_number key) +ℤ counted-same (λ c. cond (nat_eq (suc c) (suc code)) 1 0) (λ c. cond (nat_eq c code) 1 0) keys (λ c. ap {B = ℕ} (λ b. cond b 1 0) (next-code c code)) i)
+    ∙ ap (λ z. z +ℤ counted (λ c. cond (nat_eq c code) 1 0) keys) (zero-*ℤ (key_number key)) ∙ none_before (counted (λ c. cond (nat_eq c code) 1 0) keys)
+    ∙ counted-one code keys (omega (arith, lt))
 
-  -- each code as often as it occurs
-  pub weighed-codes : (codes : List ℕ) (n : ℕ) → All (λ c. c < n) codes → weighed (how_often codes) keys n ≡ numbered codes
-  weighed-codes [] n h = weighed-none (how_often []) n (λ k lt. refl)
-  weighed-codes (c ∷ cs) n h =
-      weighed-same (how_often (c ∷ cs)) (λ k. cond (nat_eq k c) 1 0 + how_often cs k) n (λ k lt. sum_by-cons (λ x. cond (nat_eq k x) 1 0) c cs)
-      ∙ weighed-both (λ k. cond (nat_eq k c) 1 0) (how_often cs) n
-      ∙ (λ i. weighed-one c n (All-head (λ x. x < n) c cs h) i +ℤ weighed-codes cs n (All-tail (λ x. x < n) c cs h) i)
+-- the numbers of codes together
+abbrev numbered : List (List ℕ) → List ℕ → ℤ
+numbered keys [] = pos 0
+numbered keys (c ∷ cs) = key_number (get_or keys c []) +ℤ numbered keys cs
 
-  weighed-more : (f : ℕ → ℕ) (n m : ℕ) → ((k : ℕ) → n ≤ k → k < n + m → f k ≡ 0) → weighed f keys (n + m) ≡ weighed f keys n
-  weighed-more f n zero h = let e : n + 0 ≡ n = omega arith in ap (weighed f keys) e
-  weighed-more f n (suc m) h =
-      let e : n + suc m ≡ suc (n + m) = omega arith in
-      ap (weighed f keys) e
-      ∙ ap (λ k. weighed f keys (n + m) +ℤ (pos k *ℤ number (n + m))) (h (n + m) (omega arith) (omega arith))
-      ∙ ap (λ z. weighed f keys (n + m) +ℤ z) (zero-*ℤ (number (n + m))) ∙ none_behind (weighed f keys (n + m))
-      ∙ weighed-more f n m (λ k lo hi. h k lo (omega (arith, hi)))
+-- each code as often as it occurs
+counted-codes : (keys : List (List ℕ)) (codes : List ℕ) → All (λ c. c < length keys) codes → counted (how_often codes) keys ≡ numbered keys codes
+counted-codes keys [] h = counted-none (how_often []) keys (λ c. refl)
+counted-codes keys (c ∷ cs) h =
+    counted-same (how_often (c ∷ cs)) (λ k. cond (nat_eq k c) 1 0 + how_often cs k) keys (λ k. sum_by-cons (λ x. cond (nat_eq k x) 1 0) c cs)
+    ∙ counted-both (λ k. cond (nat_eq k c) 1 0) (how_often cs) keys
+    ∙ (λ i. counted-one c keys (All-head (λ x. x < length keys) c cs h) i +ℤ counted-codes keys cs (All-tail (λ x. x < length keys) c cs h) i)
 
-  -- behind the counts nothing is counted
-  pub weighed-all : (counts : List ℕ) → weighed (counted counts) keys (min (length keys) (length counts)) ≡ weighed (counted counts) keys (length keys)
-  weighed-all counts =
-      let n = min (length keys) (length counts) in
-      let all : min (length keys) (length counts) + (length keys - min (length keys) (length counts)) ≡ length keys = omega arith in
-      sym (weighed-more (counted counts) n (length keys - n) (λ k lo hi. get_or_past counts k 0 (omega (arith, lo, hi))))
-      ∙ ap (weighed (counted counts) keys) all
-
--- one code more
-pub weighed-step : (counts : List ℕ) (keys : List (List ℕ)) (n : ℕ) (a b : ℤ) (count : ℕ) (key : List ℕ) → a ≡ weighed (counted counts) keys n → b ≡ pos count *ℤ key_number key → count ≡ get_or counts n 0 → key ≡ get_or keys n [] → a +ℤ b ≡ weighed (counted counts) keys (n + 1)
-weighed-step counts keys n a b count key so_far one is at =
-    let e : n + 1 ≡ suc n = omega arith in
-    (λ i. so_far i +ℤ (one ∙ (λ j. pos (is j) *ℤ key_number (at j))) i) ∙ ap (weighed (counted counts) keys) (sym e)
-
--- ---- the keys of a walk
-
--- the first of the keys that are left
-pub walk-first : (all : List (List ℕ)) (i : ℕ) (key : List ℕ) (left : List (List ℕ)) → drop i all ≡ key ∷ left → (i < length all) × (get_or all i [] ≡ key) × (drop (i + 1) all ≡ left)
-walk-first [] zero key left e = cc
-walk-first [] (suc i) key left e = cc
-walk-first (x ∷ all) zero key left e = (omega arith, ap (λ (l : List (List ℕ)). get_or l 0 []) e, ap (λ (l : List (List ℕ)). drop 1 l) e)
-walk-first (x ∷ all) (suc i) key left e =
-    let rest = walk-first all i key left e in
-    let next : suc i + 1 ≡ suc (i + 1) = omega arith in
-    (omega (arith, rest.0), rest.1, ap (λ (n : ℕ). drop n (x ∷ all)) next ∙ rest.2)
-
--- where none is left
-pub walk-end : (all : List (List ℕ)) (i : ℕ) → drop i all ≡ [] → length all ≤ i
-walk-end all i e = omega (arith, length-drop i all, ap (λ (l : List (List ℕ)). length l) e)
+-- counts that are listed
+weighed-counted : (counts : List ℕ) (keys : List (List ℕ)) → weighed counts keys ≡ counted (λ code. get_or counts code 0) keys
+weighed-counted [] keys = sym (counted-none (λ code. 0) keys (λ code. refl))
+weighed-counted (n ∷ counts) [] = refl
+weighed-counted (n ∷ counts) (key ∷ keys) = ap (λ z. (pos n *ℤ key_number key) +ℤ z) (weighed-counted counts keys)
 
 -- ---- the keys of rows
 
+-- a number out of its bits
+unflipped : (x : ℤ) → IsTrue (is_int x) → (sign_flipped x < 2 ^ 64) × (pos (sign_flipped x) -ℤ pos 9223372036854775808 ≡ x)
+unflipped (pos n) h = let lt = ltb-true n (2 ^ 63) h in (omega (arith, lt), omega (arith, ints))
+unflipped (negsuc n) h = let lt = ltb-true n (2 ^ 63) h in (omega (arith, lt), omega (arith, ints, lt))
+
+-- the number of a number's key
 key_number-int : (x : ℤ) → IsTrue (is_int x) → key_number (int_key x) ≡ x
-key_number-int x h = ap number_of (decoded-key_of kinds.Int (Int x) refl h)
-
--- the number of a key that was read
-pub key_number-is : (key : List ℕ) (x : ℤ) → IsTrue (is_int x) → key ≡ int_key x → key_number key ≡ x
-key_number-is key x h is = ap key_number is ∙ key_number-int x h
-
-pub key_number-none : (key : List ℕ) → (length key ≡ 8 → ⊥) → key_number key ≡ pos 0
-key_number-none key other = ap (λ b. cond b (number_of (decoded_int key)) (pos 0)) (ne_eqb (length key) 8 other)
-  where
-    decoded_int : List ℕ → Value
-    decoded_int k = decoded kinds.Int k
+key_number-int x h =
+    let bits = unflipped x h in
+    ap (λ (n : ℕ). pos n -ℤ pos 9223372036854775808) (from_be_bytes-to_be_bytes_8 (sign_flipped x) bits.0) ∙ bits.1
 
 cell-number : (key : List ℕ) (v : Value) → IsTrue (is_of_kind kinds.Int v) → IsTrue (is_value v) → key ≡ key_of v → key_number key ≡ number_of v
-cell-number key (Int x) of kept is = key_number-is key x kept is
+cell-number key (Int x) of kept is = ap key_number is ∙ key_number-int x kept
 cell-number key (Text t) of kept is = absurd (true≢false (sym of))
 
 module _ (s : Staged) (column : ℕ) (kind : option_map (λ (c : Column). c.kind) (slice_get s.columns column) ≡ Some kinds.Int) (keys : List (List ℕ)) where
   -- a row's number by its code
-  one-code : (f : Found) (code : ℕ) → IsTrue (is_row s.columns (row_at s f.place)) → slice_get keys code ≡ option_map key_of (value_at s column f) → (number keys code ≡ number_of (cell s column f)) × (code < length keys)
+  one-code : (f : Found) (code : ℕ) → IsTrue (is_row s.columns (row_at s f.place)) → slice_get keys code ≡ option_map key_of (value_at s column f) → (key_number (get_or keys code []) ≡ number_of (cell s column f)) × (code < length keys)
   one-code f code fit e =
       let x = is_cell s column f fit (within_kind s.columns column kinds.Int kind) in
       let of = ap (λ k. is_of_kind k (cell s column f)) (one_kind kinds.Int x.kind (sym kind ∙ x.kind_is)) ∙ x.of_kind in
@@ -218,13 +187,13 @@ all-behind P (x ∷ xs) ys h = all-behind P xs ys (All-tail P x (xs ++ ys) h)
 -- the total of rows by the codes of those in main, and by the others
 pub tally-total : (s : Staged) (column n : ℕ) (name : List ℕ) (found : List Found) (counts : List ℕ) (rest : List Found) (keys : List (List ℕ)) (a b : ℤ) → option_map (λ (c : Column). c.kind) (slice_get s.columns column) ≡ Some kinds.Int
     → column_of s.columns name ≡ Some column → Fit s found → IsTally s column found counts rest → keys ≡ keys_in (keyed_main s) column
-    → a ≡ weighed (counted counts) keys (min (length keys) (length counts)) → b ≡ total (map (cell s column) rest) → a +ℤ b ≡ total (column_values s.columns name (rows_at n s found))
+    → a ≡ weighed counts keys → b ≡ total (map (cell s column) rest) → a +ℤ b ≡ total (column_values s.columns name (rows_at n s found))
 tally-total s column n name found counts rest keys a b kind at fit tally keys_is a_is b_is =
     let row = λ (f : Found). IsTrue (is_row s.columns (row_at s f.place)) in
     let fit_main : Fit s tally.in_main = record { each = all-behind row rest tally.in_main (All-permutation row found (rest ++ tally.in_main) (IsPermutation-sym (rest ++ tally.in_main) found tally.all) fit.each) } in
     let of = coded s column kind keys tally.codes tally.in_main fit_main (ap (λ ks. map (slice_get ks) tally.codes) keys_is ∙ tally.keys) in
     let main : a ≡ total (map (cell s column) tally.in_main) =
-    a_is ∙ weighed-all keys counts ∙ weighed-same keys (counted counts) (how_often tally.codes) (length keys) (λ k lt. tally.each k) ∙ weighed-codes keys tally.codes (length keys) of.1 ∙ of.0 in
+    a_is ∙ weighed-counted counts keys ∙ counted-same (λ code. get_or counts code 0) (how_often tally.codes) keys tally.each ∙ counted-codes keys tally.codes of.1 ∙ of.0 in
     (λ i. main i +ℤ b_is i)
     ∙ turned (total (map (cell s column) tally.in_main)) (total (map (cell s column) rest))
     ∙ sym (total-append (map (cell s column) rest) (map (cell s column) tally.in_main))

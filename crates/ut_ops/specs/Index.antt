@@ -4,6 +4,7 @@ use Rattle.std.specs.List.{filter}
 use Rattle.std.specs.Prelude.{map}
 use Rattle.std.specs.Ordering.{is_eq}
 use Rattle.std.specs.BTreeMap.{BTreeMap, get}
+use Rattle.std.proofs.Common.{Bor}
 use Rattle.ut_value.specs.declared.value.Value.{Value}
 use Rattle.ut_value.specs.KeyOrder.{value_cmp}
 use Rattle.ut_scan.specs.declared.place.Found.{Found}
@@ -13,6 +14,10 @@ use Rattle.ut_ops.specs.Fit.{Fit, cell, values_at}
 -- the rows that a map lists under a value
 abbrev pub listed : BTreeMap Value (List Found) → Value → List Found
 listed index v = unwrap_or (get value_cmp index v) []
+
+-- the lists that are lent
+abbrev pub lists_now : List (Bor (List Found)) → List (List Found)
+lists_now lists = map (λ l. l.now) lists
 
 -- the rows with a value, in their order
 abbrev pub with_cell : Staged → ℕ → Value → List Found → List Found

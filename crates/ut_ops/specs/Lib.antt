@@ -6,4 +6,3 @@ pub mod Index
 pub mod Noted
 pub mod Gathered
 pub mod Seen
-pub mod Weighed

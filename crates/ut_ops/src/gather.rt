@@ -1,5 +1,6 @@
 //! The values of a column over rows that were found: the key of a code is read once.
-ghost use Rattle.std.specs.Prelude.{◌≡◌, ◌+◌, ◌<◌, ◌^◌, ◌++◌, ◌∷◌, [], ℕ, suc, length, map, get_or, slice_get, Some, IsTrue, IfOk, OnOk};
+ghost use Rattle.std.specs.Prelude.{◌≡◌, ◌+◌, ◌<◌, ◌^◌, ◌++◌, ◌∷◌, [], ℕ, suc, length, map, get_or, slice_get, All, Some, IsTrue, IfOk, OnOk};
+ghost use Rattle.ut_rows.specs.Columns.{values_at};
 ghost use Rattle.ut_staged.specs.Staged.{row_at};
 ghost use Rattle.ut_table.specs.Coded.{coded_values};
 ghost use Rattle.ut_ops.specs.Fit.{is_row, Fit, cell};
@@ -30,6 +31,14 @@ pub(crate) struct Seen {
     pub marks: Vec<u32>,
 }
 
+/// The values of a column over some rows: those that were read, and for each row the place of its
+/// value among them. Two of them may be equal.
+#[derive(Drop)]
+pub(crate) struct Distinct {
+    pub values: Vec<Value>,
+    pub places: Vec<u32>,
+}
+
 /// The values of a column, in the order of the rows. Where there are more than a place of 32 bits
 /// tells, there is no memory for them.
 pub(crate) fn cells(
@@ -42,6 +51,22 @@ pub(crate) fn cells(
     requires fit { Fit table.now.stages hits.now }
     ensures { IfOk result (λ cells. cells ≡ map (cell table.now.stages column) hits.now) }
 {
+    let Distinct { values, places } = distinct_cells(alloc, table, column, hits)?;
+    Ok(Cells::of(values, places))
+}
+
+/// The same, with the values that were read apart from the rows' places.
+pub(crate) fn distinct_cells(
+    alloc: Global,
+    table: &Table,
+    column: usize,
+    hits: &[Found],
+) -> Result<Distinct, AllocError>
+    requires column { column < length table.now.stages.columns }
+    requires fit { Fit table.now.stages hits.now }
+    ensures inside { IfOk result (λ read. All (λ place. place < length read.values.items) read.places.items) }
+    ensures read { IfOk result (λ read. values_at read.values.items read.places.items ≡ map (cell table.now.stages column) hits.now) }
+{
     let mut seen = seen_first(alloc, table, column, hits.len())?;
     let mut places = Vec::with_capacity(alloc, hits.len())?;
     for hit in hits {
@@ -49,7 +74,7 @@ pub(crate) fn cells(
         places.push(place)?;
     }
     let Seen { values, .. } = seen;
-    Ok(Cells::of(values, places))
+    Ok(Distinct { values, places })
 }
 
 /// What is read before the rows are: where they are many, marks for the codes of the column, and

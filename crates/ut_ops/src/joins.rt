@@ -8,10 +8,10 @@ ghost use Rattle.ut_plain.specs.Tables.{column_of};
 ghost use Rattle.ut_plain.specs.Query.{joined};
 ghost use Rattle.ut_table.specs.Finds.{rows_at};
 ghost use Rattle.ut_ops.specs.Fit.{Fit, cell};
-ghost use Rattle.ut_ops.specs.Index.{listed, IsIndex, beside_each};
+ghost use Rattle.ut_ops.specs.Index.{listed, lists_now, IsIndex, beside_each};
 
 use crate::columns::{add_columns, all_places};
-use crate::gather::cells;
+use crate::gather::{Distinct, cells, distinct_cells};
 use crate::ranked::Ranked;
 use std::alloc::{AllocError, Global};
 use std::collections::BTreeMap;
@@ -118,29 +118,32 @@ fn pairs_of(
     ensures lefts { IfOk result (λ pairs. pairs.lefts.items ≡ flat_map (λ f. map (λ g. f) (listed index.now (cell left.now.stages column f))) hits.now) }
     ensures rights { IfOk result (λ pairs. pairs.rights.items ≡ flat_map (λ f. listed index.now (cell left.now.stages column f)) hits.now) }
 {
-    let keys = cells(alloc, left, column, hits)?;
+    let Distinct { values, places } = distinct_cells(alloc, left, column, hits)?;
+    let partners = partners_of(alloc, index, values)?;
     let lefts = Vec::with_capacity(alloc, hits.len())?;
     let rights = Vec::with_capacity(alloc, hits.len())?;
     let mut pairs = Pairs { lefts, rights };
     for row in 0..hits.len() {
-        pair(alloc, index, keys.value(row), hits[row], &mut pairs)?;
+        let others = partners[places[row] as usize];
+        add_pairs(hits[row], others, &mut pairs)?;
     }
     Ok(pairs)
 }
 
-/// A left row, which has this value, beside those that have it too.
-fn pair(
+/// For each value the rows that have it.
+fn partners_of<'a>(
     alloc: Global,
-    index: &BTreeMap<Ranked, Seq<Found>>,
-    value: &Value,
-    hit: Found,
-    pairs: &mut Pairs,
-) -> Result<(), AllocError>
-    ensures lefts { OnOk result (pairs.new.lefts.items ≡ pairs.old.lefts.items ++ map (λ g. hit) (listed index.now value.now)) }
-    ensures rights { OnOk result (pairs.new.rights.items ≡ pairs.old.rights.items ++ listed index.now value.now) }
+    index: &'a BTreeMap<Ranked, Seq<Found>>,
+    values: Vec<Value>,
+) -> Result<Vec<&'a [Found]>, AllocError>
+    ensures { IfOk result (λ partners. lists_now partners.items ≡ map (listed index.now) values.items) }
 {
-    let value = Ranked::new(value.copy(alloc)?);
-    add_pairs(hit, partners(index, &value), pairs)
+    let mut all = Vec::with_capacity(alloc, values.len())?;
+    for value in values {
+        let key = Ranked::new(value);
+        all.push(partners(index, &key))?;
+    }
+    Ok(all)
 }
 
 /// A left row beside each of these.

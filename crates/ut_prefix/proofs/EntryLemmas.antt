@@ -1,5 +1,5 @@
 -- Reading keys one by one: a key that may follow another, and what all of them spell.
-use Rattle.std.proofs.Common.{◌≡◌, ◌≢◌, ℕ, zero, suc, ◌+◌, ◌-◌, ◌*◌, ◌/◌, ◌%◌, ◌<◌, ◌≤◌, nat_eq, true, false, if◌then◌else◌, List, [], ◌∷◌, ◌++◌, append_assoc, append-nil, length, length-append, take, drop, get_or, refl, sym, ◌∙◌, ap, subst, arith, inl, inr}
+use Rattle.std.proofs.Common.{◌≡◌, ◌≢◌, ℕ, ℤ, pos, ◌+ℤ◌, zero, suc, ◌+◌, ◌-◌, ◌*◌, ◌/◌, ◌%◌, ◌<◌, ◌≤◌, nat_eq, true, false, if◌then◌else◌, List, [], ◌∷◌, ◌++◌, append_assoc, append-nil, length, length-append, take, drop, get_or, refl, sym, ◌∙◌, ap, subst, arith, inl, inr}
 use Rattle.std.specs.declared.cmp.Ordering.TheVariants.{Less, Equal, Greater}
 use Rattle.std.specs.Ordering.{nat_cmp, ordering_then}
 use Rattle.std.specs.Cmp.Lexicographic.{slice_cmp}
@@ -12,9 +12,11 @@ use borrow.Author.Tests.{eqb-true, eq-eqb}
 use Rattle.ut_key.specs.Keys.{key_cmp, IsAscending, AreShort}
 use Rattle.ut_prefix.specs.Spelling.{IsDictionary, shared, key_bytes, rest_bytes, block_bytes, blocks_bytes}
 use Rattle.ut_prefix.specs.Reading.{next_key, after_key, entry, entries, IsEntry, starts_of, CanFollow, IsRead}
+use Rattle.ut_prefix.specs.Totals.{key_number, IsTotal, IsWithin}
 use Rattle.ut_prefix.proofs.OrderLemmas.{either}
 use Rattle.ut_prefix.proofs.LayoutLemmas.{IsShort}
 use Rattle.ut_prefix.proofs.SpellingLemmas.{shared_le, next_key-key_bytes, after_key-key_bytes}
+use Rattle.ut_prefix.proofs.TotalLemmas.{IsTotal-none, IsTotal-more}
 
 unequal : (x y : ℕ) → x < y → nat_eq x y ≡ false
 unequal x y lt = either (nat_eq x y) (λ yes. let e = eqb-true x y yes in absurd (omega (arith, e, lt))) (λ other. other)
@@ -247,7 +249,7 @@ starts_of-push i keys key at starts new size is s n =
     pick_not other = rw other refl
 
 -- what was read before key i: keys that may stand in a dictionary
-pub record IsReading (i : ℕ) (bytes key rest starts : List ℕ) : Type 0 where
+pub record IsReading (i : ℕ) (bytes key rest starts : List ℕ) (total : ℤ) : Type 0 where
   pub keys : List (List ℕ)
   pub count : length keys ≡ i
   pub last : key ≡ get_or ([] ∷ keys) i []
@@ -255,8 +257,9 @@ pub record IsReading (i : ℕ) (bytes key rest starts : List ℕ) : Type 0 where
   pub short : AreShort keys
   pub spelled : bytes ≡ entries 0 [] keys ++ rest
   pub begins : starts ≡ starts_of ((i + 15) / 16) 0 keys
+  pub sum : IsTotal keys total
 
-pub IsReading-none : (bytes : List ℕ) → IsReading 0 bytes [] bytes []
+pub IsReading-none : (bytes : List ℕ) → IsReading 0 bytes [] bytes [] (pos 0)
 IsReading-none bytes = record {
   keys = [];
   count = refl;
@@ -265,15 +268,16 @@ IsReading-none bytes = record {
   short = All-nil IsShort;
   spelled = refl;
   begins = refl;
+  sum = IsTotal-none;
 }
 
 -- where the next key begins
-pub length-read : (i : ℕ) (bytes key rest starts : List ℕ) (h : IsReading i bytes key rest starts) → length bytes ≡ length (entries 0 [] h.keys) + length rest
-length-read i bytes key rest starts h = ap (λ (l : List ℕ). length l) h.spelled ∙ length-append (entries 0 [] h.keys) rest
+pub length-read : (i : ℕ) (bytes key rest starts : List ℕ) (total : ℤ) (h : IsReading i bytes key rest starts total) → length bytes ≡ length (entries 0 [] h.keys) + length rest
+length-read i bytes key rest starts total h = ap (λ (l : List ℕ). length l) h.spelled ∙ length-append (entries 0 [] h.keys) rest
 
-pub IsReading-more : (i : ℕ) (bytes key rest starts next later new : List ℕ) (at : ℕ) → IsReading i bytes key rest starts → IsEntry i key next rest later → at + length rest ≡ length bytes
-    → new ≡ (if nat_eq (i % 16) 0 then starts ++ at ∷ [] else starts) → IsReading (i + 1) bytes next later new
-IsReading-more i bytes key rest starts next later new at h e a n =
+pub IsReading-more : (i : ℕ) (bytes key rest starts next later new : List ℕ) (at : ℕ) (total number more : ℤ) → IsReading i bytes key rest starts total → IsEntry i key next rest later → at + length rest ≡ length bytes
+    → new ≡ (if nat_eq (i % 16) 0 then starts ++ at ∷ [] else starts) → number ≡ key_number next → IsWithin 9223372036854775808 1 number → more ≡ total +ℤ number → IsReading (i + 1) bytes next later new more
+IsReading-more i bytes key rest starts next later new at total number more h e a n is size_of sum =
     let size : length (h.keys ++ next ∷ []) ≡ length h.keys + 1 = length-append h.keys (next ∷ []) in
     let here : get_or ([] ∷ h.keys) (length h.keys) [] ≡ key = ap (λ (k : ℕ). get_or ([] ∷ h.keys) k []) h.count ∙ sym h.last in
     let at_next : i + 1 ≡ suc (length h.keys + 0) = omega (arith, h.count) in
@@ -286,16 +290,17 @@ IsReading-more i bytes key rest starts next later new at h e a n =
       spelled =
           h.spelled ∙ ap (λ (l : List ℕ). entries 0 [] h.keys ++ l) (e.spelled ∙ ap (λ (l : List ℕ). entry i l next ++ later) (sym here) ∙ ap (λ (k : ℕ). entry k (get_or ([] ∷ h.keys) (length h.keys) []) next ++ later) (count_is h))
           ∙ sym (append_assoc (entries 0 [] h.keys) (entry (0 + length h.keys) (get_or ([] ∷ h.keys) (length h.keys) []) next) later) ∙ ap (λ (l : List ℕ). l ++ later) (sym (entries-push 0 [] h.keys next));
-      begins = starts_of-push i h.keys next at starts new h.count (omega (arith, a, length-read i bytes key rest starts h)) h.begins n;
+      begins = starts_of-push i h.keys next at starts new h.count (omega (arith, a, length-read i bytes key rest starts total h)) h.begins n;
+      sum = IsTotal-more h.keys next total number more h.sum is size_of sum;
     }
   where
-    count_is : (h : IsReading i bytes key rest starts) → i ≡ 0 + length h.keys
+    count_is : (h : IsReading i bytes key rest starts total) → i ≡ 0 + length h.keys
     count_is h = omega (arith, h.count)
 
 -- all keys were read
-pub IsRead-all : (n : ℕ) (bytes key rest starts : List ℕ) (taken : ℕ) → (h : IsReading n bytes key rest starts) → taken + length rest ≡ length bytes → IsRead n bytes starts taken h.keys
-IsRead-all n bytes key rest starts taken h t =
-    let size : taken ≡ length (entries 0 [] h.keys) = omega (arith, t, length-read n bytes key rest starts h) in
+pub IsRead-all : (n : ℕ) (bytes key rest starts : List ℕ) (taken : ℕ) (total : ℤ) → (h : IsReading n bytes key rest starts total) → taken + length rest ≡ length bytes → IsRead n bytes starts taken total h.keys
+IsRead-all n bytes key rest starts taken total h t =
+    let size : taken ≡ length (entries 0 [] h.keys) = omega (arith, t, length-read n bytes key rest starts total h) in
     record {
       count = h.count;
       ascending = h.ascending;
@@ -303,6 +308,7 @@ IsRead-all n bytes key rest starts taken h t =
       within = omega (arith, t);
       spelled = ap (λ (k : ℕ). take k bytes) size ∙ ap (λ (l : List ℕ). take (length (entries 0 [] h.keys)) l) h.spelled ∙ take-append_seam (entries 0 [] h.keys) rest;
       begins = h.begins;
+      sum = h.sum;
     }
 
 -- whatever dictionary of n keys the bytes spell: it agrees with what was read

@@ -6,4 +6,5 @@ pub mod SpellingLemmas
 pub mod EntryLemmas
 pub mod ParseLemmas
 pub mod ChainLemmas
-pub mod CursorLemmas
+pub mod TotalLemmas
+pub mod AboveLemmas

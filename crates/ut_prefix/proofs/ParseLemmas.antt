@@ -1,23 +1,23 @@
 -- A whole dictionary that was read.
-use Rattle.std.proofs.Common.{◌≡◌, ℕ, ◌+◌, ◌-◌, ◌/◌, ◌^◌, ◌<◌, ◌≤◌, List, [], ◌++◌, length, take, drop, refl, sym, ◌∙◌, ap, arith}
+use Rattle.std.proofs.Common.{◌≡◌, ℕ, ℤ, ◌+◌, ◌-◌, ◌/◌, ◌^◌, ◌<◌, ◌≤◌, List, [], ◌++◌, length, take, drop, refl, sym, ◌∙◌, ap, arith}
 use Rattle.std.specs.Int.{to_le_bytes, from_le_bytes, w32}
 use Rattle.std.proofs.lemmas.List.{length-drop, take_rest}
 use Rattle.std.proofs.lemmas.Nat.{from_le_bytes-to_le_bytes_4}
 use Rattle.std.proofs.Math.Seq.{take-add}
 use Rattle.ut_prefix.specs.Spelling.{blocks_bytes, dict_bytes, IsDictionary, Spells}
-use Rattle.ut_prefix.specs.Reading.{entries, IsRead, IsLaidOut, keys_of}
+use Rattle.ut_prefix.specs.Reading.{entries, IsRead, IsKept, keys_of}
 use Rattle.ut_prefix.proofs.EntryLemmas.{entries-blocks}
-use Rattle.ut_prefix.proofs.SpellingLemmas.{keys_of-written, IsLaidOut-written}
+use Rattle.ut_prefix.proofs.SpellingLemmas.{keys_of-written, IsKept-written}
 
 -- the blocks that were read are those of the keys
-blocks_read : (n : ℕ) (body own starts : List ℕ) (size : ℕ) (keys : List (List ℕ)) → IsRead n body starts size keys → own ≡ take size body → own ≡ blocks_bytes ((n + 15) / 16) keys
-blocks_read n body own starts size keys r o =
+blocks_read : (n : ℕ) (body own starts : List ℕ) (size : ℕ) (total : ℤ) (keys : List (List ℕ)) → IsRead n body starts size total keys → own ≡ take size body → own ≡ blocks_bytes ((n + 15) / 16) keys
+blocks_read n body own starts size total keys r o =
     let m : (n + 15) / 16 ≡ (length keys + 15) / 16 = ap (λ (k : ℕ). (k + 15) / 16) (sym r.count) in
     o ∙ r.spelled ∙ entries-blocks ((n + 15) / 16) 0 [] keys refl m
 
-pub IsLaidOut-read : (n : ℕ) (body own starts : List ℕ) (size : ℕ) → (r : (keys : List (List ℕ)) × IsRead n body starts size keys) → own ≡ take size body → n < 2 ^ 31 → IsLaidOut starts n own
-IsLaidOut-read n body own starts size r o few =
-    IsLaidOut-written r.0 n starts own r.1.count r.1.begins (blocks_read n body own starts size r.0 r.1 o) few r.1.short r.1.ascending
+pub IsKept-read : (n : ℕ) (body own starts : List ℕ) (size : ℕ) (total : ℤ) → (r : (keys : List (List ℕ)) × IsRead n body starts size total keys) → own ≡ take size body → n < 2 ^ 31 → IsKept starts n own total
+IsKept-read n body own starts size total r o few =
+    IsKept-written r.0 n starts own total r.1.count r.1.begins (blocks_read n body own starts size total r.0 r.1 o) few r.1.short r.1.ascending r.1.sum
 
 -- a number and blocks are the first bytes
 joined : (number : ℕ → List ℕ) (n size : ℕ) (bytes : List ℕ) (keys : List (List ℕ)) → take 4 bytes ≡ number n → length keys ≡ n → take size (drop 4 bytes) ≡ blocks_bytes ((n + 15) / 16) keys
@@ -26,11 +26,11 @@ joined number n size bytes keys f e b =
     take-add 4 size bytes ∙ ap (λ (l : List ℕ). l ++ take size (drop 4 bytes)) f ∙ ap (λ (l : List ℕ). number n ++ l) b
     ∙ ap (λ (k : ℕ). number k ++ blocks_bytes ((k + 15) / 16) keys) (sym e)
 
-pub Spells-read : (n : ℕ) (bytes own starts : List ℕ) (size : ℕ) → (r : (keys : List (List ℕ)) × IsRead n (take (length bytes - 4) (drop 4 bytes)) starts size keys)
+pub Spells-read : (n : ℕ) (bytes own starts : List ℕ) (size : ℕ) (total : ℤ) → (r : (keys : List (List ℕ)) × IsRead n (take (length bytes - 4) (drop 4 bytes)) starts size total keys)
     → own ≡ take size (take (length bytes - 4) (drop 4 bytes)) → 4 ≤ length bytes → take 4 bytes ≡ to_le_bytes w32 n → Spells bytes (keys_of starts n own) (4 + size)
-Spells-read n bytes own starts size r o long f =
+Spells-read n bytes own starts size total r o long f =
     let body = take_rest bytes 4 in
-    let blocks = blocks_read n (take (length bytes - 4) (drop 4 bytes)) own starts size r.0 r.1 o in
+    let blocks = blocks_read n (take (length bytes - 4) (drop 4 bytes)) own starts size total r.0 r.1 o in
     let keys = keys_of-written r.0 n starts own r.1.count r.1.begins blocks in
     let size_is = ap (λ (l : List ℕ). length l) body in
     record {

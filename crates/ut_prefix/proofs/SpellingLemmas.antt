@@ -1,5 +1,5 @@
 -- What is spelled is read again.
-use Rattle.std.proofs.Common.{◌≡◌, ℕ, zero, suc, ◌+◌, ◌-◌, ◌*◌, ◌/◌, ◌<◌, ◌≤◌, min, nat_eq, List, [], ◌∷◌, ◌++◌, append_assoc, append-nil, ◌^◌, length, length-append, take, drop, get_or, refl, sym, ◌∙◌, ap, subst, arith}
+use Rattle.std.proofs.Common.{◌≡◌, ℕ, ℤ, zero, suc, ◌+◌, ◌-◌, ◌*◌, ◌/◌, ◌<◌, ◌≤◌, min, nat_eq, List, [], ◌∷◌, ◌++◌, append_assoc, append-nil, ◌^◌, length, length-append, take, drop, get_or, refl, sym, ◌∙◌, ap, subst, arith}
 use Rattle.std.proofs.lemmas.List.{drop-drop, length-drop, length-take, take-append-drop}
 use Rattle.std.proofs.lemmas.List.Elements.{All-head, All-tail, All-take, All-drop}
 use Rattle.std.proofs.Math.Seq.{take-append_seam, drop-append_seam, drop-cons}
@@ -8,7 +8,8 @@ use Rattle.ut_prefix.proofs.OrderLemmas.{either}
 use Rattle.ut_prefix.proofs.LayoutLemmas.{IsShort}
 use Rattle.ut_key.specs.Keys.{AreShort, IsAscending}
 use Rattle.ut_prefix.specs.Spelling.{shared, key_bytes, rest_bytes, block_bytes, blocks_bytes, dict_bytes}
-use Rattle.ut_prefix.specs.Reading.{next_key, after_key, first_key, after_first, decoded, block_keys, keys_of, CanDecode, IsBlock, AreBlocks, starts_of, IsLaidOut}
+use Rattle.ut_prefix.specs.Reading.{next_key, after_key, first_key, after_first, decoded, block_keys, keys_of, CanDecode, IsBlock, AreBlocks, starts_of, IsLaidOut, IsKept}
+use Rattle.ut_prefix.specs.Totals.{IsTotal}
 use Rattle.std.specs.Int.{to_le_bytes, w32}
 
 pub take-shared : (xs ys : List ℕ) → take (shared xs ys) xs ≡ take (shared xs ys) ys
@@ -226,7 +227,7 @@ pub keys_of-written : (keys : List (List ℕ)) (n : ℕ) (starts bytes : List �
 keys_of-written keys n starts bytes e s b =
     ap (λ (l : List ℕ). keys_of l n bytes) s ∙ keys_of-blocks_bytes ((n + 15) / 16) n 0 keys [] bytes b refl e refl
 
-pub IsLaidOut-written : (keys : List (List ℕ)) (n : ℕ) (starts bytes : List ℕ) → length keys ≡ n → starts ≡ starts_of ((n + 15) / 16) 0 keys → bytes ≡ blocks_bytes ((n + 15) / 16) keys
+IsLaidOut-written : (keys : List (List ℕ)) (n : ℕ) (starts bytes : List ℕ) → length keys ≡ n → starts ≡ starts_of ((n + 15) / 16) 0 keys → bytes ≡ blocks_bytes ((n + 15) / 16) keys
     → n < 2 ^ 31 → AreShort keys → IsAscending keys → IsLaidOut starts n bytes
 IsLaidOut-written keys n starts bytes e s b small short up = record {
   count = ap (λ (l : List ℕ). length l) s ∙ length-starts_of ((n + 15) / 16) 0 keys;
@@ -234,6 +235,13 @@ IsLaidOut-written keys n starts bytes e s b small short up = record {
   blocks = subst (λ (l : List ℕ). AreBlocks l n bytes) (sym s) (AreBlocks-blocks_bytes ((n + 15) / 16) n 0 keys [] bytes b refl e refl short);
   ascending = subst (λ (l : List (List ℕ)). IsAscending l) (sym (keys_of-written keys n starts bytes e s b)) up;
   spelled = b ∙ ap (λ (l : List (List ℕ)). blocks_bytes ((n + 15) / 16) l) (sym (keys_of-written keys n starts bytes e s b));
+}
+
+pub IsKept-written : (keys : List (List ℕ)) (n : ℕ) (starts bytes : List ℕ) (total : ℤ) → length keys ≡ n → starts ≡ starts_of ((n + 15) / 16) 0 keys → bytes ≡ blocks_bytes ((n + 15) / 16) keys
+    → n < 2 ^ 31 → AreShort keys → IsAscending keys → IsTotal keys total → IsKept starts n bytes total
+IsKept-written keys n starts bytes total e s b small short up sum = record {
+  laid = IsLaidOut-written keys n starts bytes e s b small short up;
+  sum = subst (λ (l : List (List ℕ)). IsTotal l total) (sym (keys_of-written keys n starts bytes e s b)) sum;
 }
 
 pub dict_bytes-written : (keys : List (List ℕ)) (n : ℕ) (out number bytes mid new : List ℕ) → number ≡ to_le_bytes w32 n → mid ≡ out ++ number → new ≡ mid ++ bytes → n ≡ length keys → bytes ≡ blocks_bytes ((n + 15) / 16) keys

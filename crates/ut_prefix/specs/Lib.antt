@@ -1,5 +1,5 @@
 pub mod Spelling
+pub mod Totals
 pub mod Reading
 pub mod Lookup
 pub mod Chain
-pub mod Walk

@@ -1,8 +1,9 @@
 -- Reading keys out of blocks, and what a dictionary's bytes and the starts of its blocks keep.
-use Rattle.std.specs.Prelude.{◌≡◌, ◌≢◌, ℕ, zero, suc, ◌+◌, ◌-◌, ◌/◌, ◌%◌, ◌^◌, ◌<◌, ◌≤◌, min, nat_eq, if◌then◌else◌, List, [], ◌∷◌, ◌++◌, length, take, drop, get_or}
+use Rattle.std.specs.Prelude.{◌≡◌, ◌≢◌, ℕ, ℤ, zero, suc, ◌+◌, ◌-◌, ◌/◌, ◌%◌, ◌^◌, ◌<◌, ◌≤◌, min, nat_eq, if◌then◌else◌, List, [], ◌∷◌, ◌++◌, length, take, drop, get_or}
 use Rattle.std.specs.declared.cmp.Ordering.TheVariants.{Less}
 use Rattle.ut_key.specs.Keys.{AreShort, IsAscending, key_cmp}
 use Rattle.ut_prefix.specs.Spelling.{key_bytes, block_bytes, blocks_bytes}
+use Rattle.ut_prefix.specs.Totals.{IsTotal}
 
 -- the key behind another: the first bytes of that one, and those that follow
 abbrev pub next_key : List ℕ → List ℕ → List ℕ
@@ -60,6 +61,11 @@ pub record IsLaidOut (starts : List ℕ) (n : ℕ) (bytes : List ℕ) : Type 0 w
   pub ascending : IsAscending (keys_of starts n bytes)
   pub spelled : bytes ≡ blocks_bytes ((n + 15) / 16) (keys_of starts n bytes)
 
+-- what a dictionary of n keys keeps, and the sum of their numbers
+pub record IsKept (starts : List ℕ) (n : ℕ) (bytes : List ℕ) (total : ℤ) : Type 0 where
+  pub laid : IsLaidOut starts n bytes
+  pub sum : IsTotal (keys_of starts n bytes) total
+
 -- the bytes of key i of all, behind another: whole where it is its block's first
 abbrev pub entry : ℕ → List ℕ → List ℕ → List ℕ
 entry i before key = if nat_eq (i % 16) 0 then length key ∷ key else key_bytes before key
@@ -91,11 +97,12 @@ pub record CanFollow (before : List ℕ) (count : ℕ) (rest : List ℕ) : Type 
   pub short : count + length rest ≤ 255
   pub above : count < length before → get_or before count 0 < get_or rest 0 0
 
--- n ascending, short keys were read from the first bytes, so many, and where their blocks start was noted
-pub record IsRead (n : ℕ) (bytes starts : List ℕ) (taken : ℕ) (keys : List (List ℕ)) : Type 0 where
+-- n ascending, short keys were read from the first bytes, so many, and where their blocks start and the sum of their numbers were noted
+pub record IsRead (n : ℕ) (bytes starts : List ℕ) (taken : ℕ) (total : ℤ) (keys : List (List ℕ)) : Type 0 where
   pub count : length keys ≡ n
   pub ascending : IsAscending keys
   pub short : AreShort keys
   pub within : taken ≤ length bytes
   pub spelled : take taken bytes ≡ entries 0 [] keys
   pub begins : starts ≡ starts_of ((n + 15) / 16) 0 keys
+  pub sum : IsTotal keys total

@@ -1,9 +1,9 @@
 //! Dictionaries laid end to end.
-ghost use Rattle.std.specs.Prelude.{◌≡◌, [], ◌∷◌, ◌+◌, ◌*◌, ◌^◌, ◌<◌, ◌≤◌, ◌++◌, ◌↔◌, length, take, slice_get, slice_index_or, Contains, IsNone, IsTrue, IfOk, IfSome, OnOk, OnErr};
+ghost use Rattle.std.specs.Prelude.{◌≡◌, [], ◌∷◌, ◌+◌, ◌*◌, ◌^◌, ◌<◌, ◌≤◌, ◌++◌, ◌↔◌, length, take, slice_get, slice_index_or, Contains, IsNone, IsTrue, IfOk, IfSome, OnOk, OnErr, pos, neg_ℤ, ◌≤ℤ◌};
 ghost use Rattle.std.specs.Arc.{arc_value};
 ghost use Rattle.ut_prefix.specs.Chain.{chain_steps, end_to_end, ranges_between, shared_dicts, AddsRanges, IsChain, LacksAll};
+ghost use Rattle.ut_prefix.specs.Totals.{weighed, IsWithin};
 
-use crate::cursor::ChainCursor;
 use crate::dict::PrefixDict;
 use std::alloc::{AllocError, Global};
 use std::marker::Model;
@@ -64,6 +64,23 @@ fn find_in<L: Ledger>(dicts: &[Arc<PrefixDict>], key: &[u8], steps: &mut Steps<L
         }
     }
     None
+}
+
+/// The sum of the numbers of all keys, each times its weight.
+fn weighed_in(dicts: &[Arc<PrefixDict>], weights: &[u32]) -> i128
+    requires { length (end_to_end (shared_dicts dicts.now)) < 2 ^ 31 }
+    ensures sum { result ≡ weighed weights.now (end_to_end (shared_dicts dicts.now)) }
+    ensures within { IsWithin 79228162514264337593543950336
+        (length (end_to_end (shared_dicts dicts.now))) result }
+{
+    let mut sum: i128 = 0;
+    let mut left = weights;
+    for dict in dicts {
+        let (own, later) = left.split_at((dict.len() as usize).min(left.len()));
+        sum += dict.weighed_total(own);
+        left = later;
+    }
+    sum
 }
 
 /// The same dictionaries once more.
@@ -209,11 +226,14 @@ impl DictChain {
         key_in(self.dicts.as_slice(), code, steps)
     }
 
-    /// A place before the first key.
-    pub fn cursor(&self) -> ChainCursor<'_>
-        ensures { result.left ≡ end_to_end self.now }
+    /// The sum of the keys' numbers, each times its code's weight. Where a dictionary's weights are
+    /// all the same its keys aren't read.
+    pub fn weighed_total(&self, weights: &[u32]) -> i128
+        ensures sum { result ≡ weighed weights.now (end_to_end self.now) }
+        ensures low { neg_ℤ (pos 170141183381241069217422966122340155392) ≤ℤ result }
+        ensures high { result ≤ℤ pos 170141183381241069217422966122340155392 }
     {
-        ChainCursor::new(self.dicts.as_slice())
+        weighed_in(self.dicts.as_slice(), weights)
     }
 
     /// The code of `key`, where a dictionary holds it. They are asked in order.

@@ -4,12 +4,14 @@ ghost use Rattle.std.specs.Int.{to_le_bytes, w32};
 ghost use Rattle.ut_key.specs.Keys.{IsAscending};
 ghost use Rattle.ut_prefix.specs.Spelling.{dict_bytes, IsDictionary, Spells, SpellsNone};
 ghost use Rattle.ut_prefix.specs.Reading.{keys_of, AreBlocks};
+ghost use Rattle.ut_prefix.specs.Totals.{weighed, IsWithin};
 ghost use Rattle.ut_prefix.specs.Lookup.{count_below, search_steps, IsSplit};
 
 use crate::block::{BLOCK, block_of, key_in_block, push_block};
-use crate::cursor::Cursor;
+use crate::number::total_of;
 use crate::parse::read_blocks;
 use crate::search::search;
+use crate::weigh::{all_above, usual_of};
 use crate::write::write_block;
 use std::alloc::{AllocError, Global};
 use std::marker::Model;
@@ -23,17 +25,18 @@ pub struct PrefixDict {
     bytes: Vec<u8>,
     starts: Vec<usize>,
     len: u32,
+    total: i128,
 }
 
 impl Model for PrefixDict {
     ghost use Rattle.std.specs.Prelude.{List, ℕ};
-    ghost use Rattle.ut_prefix.specs.Reading.{keys_of, IsLaidOut};
+    ghost use Rattle.ut_prefix.specs.Reading.{keys_of, IsKept};
 
     ghost Value = { List (List ℕ) };
 
     ghost view = { λ d. keys_of d.starts.items d.len d.bytes.items };
 
-    ghost invariant = { λ d. IsLaidOut d.starts.items d.len d.bytes.items };
+    ghost invariant = { λ d. IsKept d.starts.items d.len d.bytes.items d.total };
 }
 
 /// Where a key stands among ascending keys: those before `below` are below it, those from `above`
@@ -86,6 +89,7 @@ impl PrefixDict {
         ensures { IfOk result (λ dict. dict ≡ keys.now) }
     {
         let len = keys.len();
+        let total = total_of(keys);
         let blocks = (len + 15) / 16;
         let mut bytes = Vec::new(alloc);
         let mut starts = Vec::with_capacity(alloc, blocks)?;
@@ -97,6 +101,7 @@ impl PrefixDict {
             bytes,
             starts,
             len: len as u32,
+            total,
         })
     }
 
@@ -133,11 +138,21 @@ impl PrefixDict {
         Ok(keys)
     }
 
-    /// A place before the first key.
-    pub fn cursor(&self) -> Cursor<'_>
-        ensures { result.left ≡ self.now }
+    /// The sum of the numbers of the first keys, each times its weight.
+    pub(crate) fn weighed_total(&self, weights: &[u32]) -> i128
+        requires { length weights.now ≤ length self.now }
+        ensures sum { result ≡ weighed weights.now self.now }
+        ensures within { IsWithin 79228162514264337593543950336 (length self.now) result }
     {
-        Cursor::new(self.bytes.as_slice(), self.len)
+        let usual = usual_of(weights, self.len);
+        let above = all_above(
+            self.bytes.as_slice(),
+            self.starts.as_slice(),
+            self.len,
+            weights,
+            usual,
+        );
+        i128::from(usual) * self.total + above
     }
 
     /// Where a key stands.
@@ -219,6 +234,7 @@ impl PrefixDict {
                     bytes: own,
                     starts: blocks.starts,
                     len,
+                    total: blocks.total,
                 };
                 Ok(Some((dict, size)))
             }

@@ -3,12 +3,12 @@
 
 mod block;
 mod chain;
-mod cursor;
 mod dict;
+mod number;
 mod parse;
 mod search;
+mod weigh;
 mod write;
 
 pub use chain::DictChain;
-pub use cursor::{ChainCursor, Cursor};
 pub use dict::PrefixDict;

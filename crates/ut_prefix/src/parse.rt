@@ -6,14 +6,16 @@ ghost use Rattle.ut_prefix.specs.Spelling.{IsDictionary};
 ghost use Rattle.ut_prefix.specs.Reading.{entries, CanFollow, IsEntry, IsNoEntry, IsRead};
 
 use crate::block::BLOCK;
+use crate::number::number_of;
 use std::alloc::{AllocError, Global};
 use ut_key::Key;
 
-/// Where blocks start, and how many bytes they take.
+/// Where blocks start, how many bytes they take, and the sum of their keys' numbers.
 #[derive(Drop)]
 pub(crate) struct Blocks {
     pub starts: Vec<usize>,
     pub size: usize,
+    pub total: i128,
 }
 
 /// Whether a key may be the first of a block that begins at place `i`.
@@ -108,7 +110,7 @@ pub(crate) fn read_blocks(
     len: u32,
 ) -> Result<Option<Blocks>, AllocError>
     ensures some { IfOk result (λ found. IfSome found (λ blocks.
-        (keys : List (List ℕ)) × IsRead len bytes.now blocks.starts.items blocks.size keys)) }
+        (keys : List (List ℕ)) × IsRead len bytes.now blocks.starts.items blocks.size blocks.total keys)) }
     ensures none { IfOk result (λ found. IfNone found (
         (keys : List (List ℕ)) (rest : List ℕ)
         → IsDictionary keys → length keys ≡ len → bytes.now ≢ entries 0 [] keys ++ rest)) }
@@ -116,13 +118,19 @@ pub(crate) fn read_blocks(
     let mut starts = Vec::new(alloc);
     let mut key = Key::new();
     let mut rest = bytes;
+    let mut total: i128 = 0;
     for i in 0..len {
         note_start(&mut starts, i, bytes.len() - rest.len())?;
         match read_key(i, &mut key, rest) {
             Some(later) => rest = later,
             None => return Ok(None),
         }
+        total += i128::from(number_of(key.as_slice()));
     }
     let size = bytes.len() - rest.len();
-    Ok(Some(Blocks { starts, size }))
+    Ok(Some(Blocks {
+        starts,
+        size,
+        total,
+    }))
 }

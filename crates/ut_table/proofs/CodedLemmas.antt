@@ -1,5 +1,5 @@
 -- The codes of a column stand for the values of its rows.
-use Rattle.std.proofs.Common.{◌≡◌, ℕ, zero, suc, ◌+◌, ◌<◌, ◌≤◌, List, [], ◌++◌, length, map, replicate, get_or, Option, None, Some, unwrap_or, All, refl, sym, ◌∙◌, ap, subst, arith}
+use Rattle.std.proofs.Common.{◌≡◌, ℕ, zero, suc, ◌+◌, ◌<◌, ◌≤◌, List, [], ◌∷◌, ◌++◌, length, map, replicate, get_or, Option, None, Some, unwrap_or, All, refl, sym, ◌∙◌, ap, subst, arith}
 use Rattle.std.specs.Prelude.{slice_get, IsSome}
 use Rattle.std.specs.Option.{option_map}
 use Rattle.std.proofs.lemmas.List.{length-map, length-append, get_or-append-add, get_or_append_left}
@@ -10,7 +10,7 @@ use Rattle.ut_stamps.specs.declared.place.Place.TheVariants.{L2, Closed, Main}
 use Rattle.ut_unsorted.specs.FirstSeen.{first_seen}
 use Rattle.ut_l2.specs.KeyRows.{KeyRow, cells_at, key_at, no_row}
 use Rattle.ut_l2.specs.Delta.{Delta}
-use Rattle.ut_main.specs.Parts.{PartValue, MainValue, dicts_behind, first_parts}
+use Rattle.ut_main.specs.Parts.{PartValue, MainValue, dicts_of, dicts_behind, first_parts}
 use Rattle.ut_scan.specs.Coded.{code_at, keys_in}
 use Rattle.ut_own.specs.Own.{own_dict}
 use Rattle.ut_prefix.specs.Chain.{end_to_end}
@@ -50,6 +50,13 @@ no-keys : (width j : ℕ) → get_or (replicate {A = Chain} width []) j [] ≡ [
 no-keys zero j = refl
 no-keys (suc width) zero = refl
 no-keys (suc width) (suc j) = no-keys width j
+
+pub keys-empty : (main : MainValue) (j : ℕ) → length main.parts ≡ 0 → [] ≡ keys_in main j
+keys-empty main j e = by main.parts e
+  where
+    by : (parts : List (List KeyRow)) → length parts ≡ 0 → [] ≡ end_to_end (get_or (dicts_of (replicate {A = Chain} main.width []) parts) j [])
+    by [] e = sym (ap (λ (c : Chain). end_to_end c) (no-keys main.width j))
+    by (part ∷ parts) e = absurd (omega (arith, e))
 
 -- the keys of no parts, and of one part more
 pub keys-none : (main : MainValue) (j : ℕ) → [] ≡ keys_first main j 0

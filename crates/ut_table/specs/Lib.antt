@@ -11,4 +11,4 @@ pub mod Numbered
 pub mod Filled
 pub mod Coded
 pub mod Tallied
-pub use Rattle.ut_prefix.specs.Walk
+pub use Rattle.ut_prefix.specs.Totals

@@ -1,7 +1,8 @@
 //! The rows of a table by the codes of their keys.
-ghost use Rattle.std.specs.Prelude.{◌≡◌, ◌+◌, ◌<◌, ◌≤◌, ◌^◌, ◌++◌, length, get_or, slice_get, Some, IsSome, IfSome, IfOk};
+ghost use Rattle.std.specs.Prelude.{◌≡◌, ◌+◌, ◌<◌, ◌≤◌, ◌^◌, ◌++◌, length, get_or, slice_get, Some, IsSome, IfSome, IfOk, pos, neg_ℤ, ◌≤ℤ◌};
 ghost use Rattle.ut_exact.specs.Places.{StagedRow};
 ghost use Rattle.ut_unsorted.specs.FirstSeen.{first_seen};
+ghost use Rattle.ut_prefix.specs.Totals.{weighed};
 ghost use Rattle.ut_l2.specs.KeyRows.{cells_at, key_at, no_row};
 ghost use Rattle.ut_scan.specs.Coded.{code_at, keys_in};
 ghost use Rattle.ut_staged.specs.Staged.{row_at};
@@ -12,7 +13,6 @@ use std::alloc::{AllocError, Global};
 use ut_key::KeyList;
 use ut_l2::L2;
 use ut_main::{Main, Part};
-use ut_prefix::ChainCursor;
 use ut_scan::Place;
 
 /// How many codes the dictionaries of main have in a column.
@@ -43,17 +43,19 @@ fn main_keys(alloc: Global, main: &Main, column: usize) -> Result<KeyList, Alloc
     Ok(keys)
 }
 
-/// A place before the keys of main in a column.
-fn main_cursor(main: &Main, column: usize) -> ChainCursor<'_>
+/// The sum of the numbers of main's keys in a column, each times the count of its code.
+fn main_total(main: &Main, column: usize, counts: &[u32]) -> i128
     requires column { column < main.now.width }
     requires narrow { main.now.width ≤ 64 }
-    ensures { result.left ≡ keys_in main.now column }
+    ensures sum { result ≡ weighed counts.now (keys_in main.now column) }
+    ensures low { neg_ℤ (pos 170141183381241069217422966122340155392) ≤ℤ result }
+    ensures high { result ≤ℤ pos 170141183381241069217422966122340155392 }
 {
     let parts = main.parts();
     if parts == 0 {
-        return ChainCursor::end();
+        return 0;
     }
-    main.chain(column as u8, parts - 1).cursor()
+    main.chain(column as u8, parts - 1).weighed_total(counts)
 }
 
 /// Keys and others behind them: where there are none, the others as they are.
@@ -97,12 +99,16 @@ impl Table {
         main_keys(alloc, &self.main, column)
     }
 
-    /// A place before the keys of main's codes in a column. There is no list of them.
-    pub fn main_cursor(&self, column: usize) -> ChainCursor<'_>
+    /// The sum of the numbers that main's keys in a column stand for, each times the count of its
+    /// code. Where a dictionary's counts are all the same its keys aren't read.
+    pub fn main_total(&self, column: usize, counts: &[u32]) -> i128
         requires { column < length self.now.stages.columns }
-        ensures { result.left ≡ keys_in (keyed_main self.now.stages) column }
+        ensures sum { let keys = keys_in (keyed_main self.now.stages) column in
+            result ≡ weighed counts.now keys }
+        ensures low { neg_ℤ (pos 170141183381241069217422966122340155392) ≤ℤ result }
+        ensures high { result ≤ℤ pos 170141183381241069217422966122340155392 }
     {
-        main_cursor(&self.main, column)
+        main_total(&self.main, column, counts)
     }
 
     /// How many codes main and the second stage have in a column.

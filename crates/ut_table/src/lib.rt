@@ -16,4 +16,3 @@ mod standing;
 mod table;
 
 pub use table::Table;
-pub use ut_prefix::ChainCursor;

@@ -1,7 +1,8 @@
 use Rattle.std.proofs.Common.{◌≡◌, ◌+◌, ◌-◌, ◌*◌, ◌/◌, ◌++◌, length, take, drop, ◌∙◌, sym, ap, arith, refl, [], ◌∷◌, List, ℕ}
 use Rattle.ut_prefix.specs.Spelling.{block_bytes, blocks_bytes}
 use Rattle.ut_prefix.specs.Reading.{starts_of}
-use Rattle.ut_prefix.proofs.SpellingLemmas.{block_is, next_blocks, blocks-step, starts-step, no_blocks, no_starts, keys_of-written, IsLaidOut-written}
+use Rattle.ut_prefix.proofs.SpellingLemmas.{block_is, next_blocks, blocks-step, starts-step, no_blocks, no_starts, keys_of-written, IsKept-written}
+use Rattle.ut_prefix.proofs.AboveLemmas.{IsKept-bits}
 use Rattle.ut_prefix.proofs.dict.PrefixDict.from_sorted.Goals as goal
 
 pub loop-i-preserved : goal.loop-i-preserved
@@ -21,7 +22,8 @@ none_left c = omega arith
 
 pub invariant_of-result : goal.invariant_of-result
 invariant_of-result c =
-    IsLaidOut-written c.args.keys.now c.len-len.result c.loop-i.starts.items c.loop-i.bytes.items (sym c.len-len.ensures.len) (no_starts _ _ _ c.loop-i.starts.items _ (none_left c) c.loop-i.invariant.1) (no_blocks _ _ c.loop-i.bytes.items _ (none_left c) c.loop-i.invariant.0) (omega (arith, c.requires.few, c.len-len.ensures.len)) c.len-len.ensures.short c.requires.ascending
+    IsKept-bits _ _ _ _
+    (IsKept-written c.args.keys.now c.len-len.result c.loop-i.starts.items c.loop-i.bytes.items c.total_of-total.result (sym c.len-len.ensures.len) (no_starts _ _ _ c.loop-i.starts.items _ (none_left c) c.loop-i.invariant.1) (no_blocks _ _ c.loop-i.bytes.items _ (none_left c) c.loop-i.invariant.0) (omega (arith, c.requires.few, c.len-len.ensures.len)) c.len-len.ensures.short c.requires.ascending c.total_of-total.ensures)
 
 pub returns : goal.returns
 returns c =

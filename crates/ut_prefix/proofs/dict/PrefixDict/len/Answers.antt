@@ -4,11 +4,11 @@ use Rattle.ut_prefix.proofs.LayoutLemmas.{length-keys_of, AreShort-keys_of}
 use Rattle.ut_prefix.proofs.dict.PrefixDict.len.Goals as goal
 
 pub returns-clause-len : goal.returns-clause-len
-returns-clause-len c = sym (length-keys_of c.self.inside.starts.items c.self.inside.len c.self.inside.bytes.items c.self.invariant.count) ∙ ap (λ l. length l) c.self.view_is
+returns-clause-len c = sym (length-keys_of c.self.inside.starts.items c.self.inside.len c.self.inside.bytes.items c.self.invariant.laid.count) ∙ ap (λ l. length l) c.self.view_is
 
 pub returns-clause-dictionary : goal.returns-clause-dictionary
 returns-clause-dictionary c = record {
-  ascending = subst (λ l. IsAscending l) c.self.view_is c.self.invariant.ascending;
-  short = subst (λ l. AreShort l) c.self.view_is (AreShort-keys_of c.self.inside.starts.items c.self.inside.len c.self.inside.bytes.items c.self.invariant.blocks);
-  few = subst (λ (n : ℕ). n < 2 ^ 31) (sym (length-keys_of c.self.inside.starts.items c.self.inside.len c.self.inside.bytes.items c.self.invariant.count) ∙ ap (λ l. length l) c.self.view_is) c.self.invariant.size;
+  ascending = subst (λ l. IsAscending l) c.self.view_is c.self.invariant.laid.ascending;
+  short = subst (λ l. AreShort l) c.self.view_is (AreShort-keys_of c.self.inside.starts.items c.self.inside.len c.self.inside.bytes.items c.self.invariant.laid.blocks);
+  few = subst (λ (n : ℕ). n < 2 ^ 31) (sym (length-keys_of c.self.inside.starts.items c.self.inside.len c.self.inside.bytes.items c.self.invariant.laid.count) ∙ ap (λ l. length l) c.self.view_is) c.self.invariant.laid.size;
 }
