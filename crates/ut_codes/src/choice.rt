@@ -13,13 +13,18 @@ use ut_sparse::{Frequency, most_frequent};
 
 /// A form, and the code that the sparse one leaves out.
 #[derive(Clone, Copy)]
-pub struct Choice {
+pub(crate) struct Choice {
     pub form: Form,
     pub top: Frequency,
 }
 
 /// The form of least size.
-pub fn choose(alloc: Global, codes: &[u32], reach: u32, width: u8) -> Result<Choice, AllocError>
+pub(crate) fn choose(
+    alloc: Global,
+    codes: &[u32],
+    reach: u32,
+    width: u8,
+) -> Result<Choice, AllocError>
     requires count { length codes.now ≤ 2 ^ 31 }
     requires width { width ≡ code_width reach }
     requires narrow { width ≤ 32 }
@@ -34,7 +39,7 @@ pub fn choose(alloc: Global, codes: &[u32], reach: u32, width: u8) -> Result<Cho
 }
 
 /// How many runs of equal codes there are.
-pub fn count_runs(codes: &[u32]) -> u32
+pub(crate) fn count_runs(codes: &[u32]) -> u32
     requires { length codes.now ≤ 2 ^ 31 }
     ensures { result ≡ length (runs_of codes.now) }
 {
@@ -51,7 +56,7 @@ pub fn count_runs(codes: &[u32]) -> u32
 }
 
 /// The form of the least of three sizes.
-pub fn least(rows: u32, width: u8, runs: u32, exceptions: u32) -> Form
+pub(crate) fn least(rows: u32, width: u8, runs: u32, exceptions: u32) -> Form
     requires { width ≤ 32 }
     ensures { result ≡ least_form (rows * width) (64 * runs) (rows + exceptions * width) }
 {
@@ -68,7 +73,7 @@ pub fn least(rows: u32, width: u8, runs: u32, exceptions: u32) -> Form
 }
 
 /// Whether every code is below a limit.
-pub fn are_below(codes: &[u32], limit: u32) -> bool
+pub(crate) fn are_below(codes: &[u32], limit: u32) -> bool
     ensures { result ≡ list_all (λ c. nat_lt c limit) codes.now }
 {
     codes.iter().all(|code| *code < limit)

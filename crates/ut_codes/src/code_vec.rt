@@ -1,4 +1,4 @@
-ghost use Rattle.std.specs.Prelude.{◌≡◌, ◌^◌, ◌<◌, ◌≤◌, length, slice_index, take, map, List, ℕ, ◌≢◌, IfOk, IfSome, IfNone, OnOk, OnErr, ◌++◌};
+ghost use Rattle.std.specs.Prelude.{◌≡◌, ◌+◌, ◌^◌, ◌<◌, ◌≤◌, length, slice_index, take, drop, map, List, ℕ, ◌≢◌, IfOk, IfSome, IfNone, OnOk, OnErr, ◌++◌};
 ghost use Rattle.ut_bits.specs.Bits.{AllBelow};
 ghost use Rattle.ut_bits.specs.Places.{is_in, places_where};
 ghost use Rattle.ut_mask.specs.Mask.{both};
@@ -110,6 +110,35 @@ impl CodeVec {
         }
     }
 
+    /// The eight codes from a place on, the form looked at once.
+    pub fn eight(&self, i: u32) -> [u32; 8]
+        requires { i + 8 ≤ length self.now.codes }
+        ensures { result ≡ take 8 (drop i self.now.codes) }
+    {
+        match &self.shape {
+            Shape::Packed(vector) => vector.eight(i),
+            _ => self.eight_by_one(i),
+        }
+    }
+
+    /// The same, each code read by itself.
+    fn eight_by_one(&self, i: u32) -> [u32; 8]
+        requires { i + 8 ≤ length self.now.codes }
+        ensures { result ≡ take 8 (drop i self.now.codes) }
+    {
+        prove!(i < self.len());
+        [
+            self.get(i),
+            self.get(i + 1),
+            self.get(i + 2),
+            self.get(i + 3),
+            self.get(i + 4),
+            self.get(i + 5),
+            self.get(i + 6),
+            self.get(i + 7),
+        ]
+    }
+
     /// All codes in order.
     pub fn codes(&self, alloc: Global) -> Result<Vec<u32>, AllocError>
         ensures codes { IfOk result (λ v. v.items ≡ self.now.codes) }
@@ -192,7 +221,7 @@ impl CodeVec {
     }
 }
 
-/// All codes of a packed vector.
+// All codes of a packed vector.
 fn packed_codes(alloc: Global, vector: &Packed) -> Result<Vec<u32>, AllocError>
     ensures { IfOk result (λ v. v.items ≡ vector.now.codes) }
 {
@@ -201,7 +230,7 @@ fn packed_codes(alloc: Global, vector: &Packed) -> Result<Vec<u32>, AllocError>
     Ok(codes)
 }
 
-/// All codes of a vector of runs.
+// All codes of a vector of runs.
 fn run_codes(alloc: Global, vector: &Runs) -> Result<Vec<u32>, AllocError>
     ensures { IfOk result (λ v. v.items ≡ vector.now.codes) }
 {
@@ -210,7 +239,7 @@ fn run_codes(alloc: Global, vector: &Runs) -> Result<Vec<u32>, AllocError>
     Ok(codes)
 }
 
-/// The byte that stands for the form.
+// The byte that stands for the form.
 fn form_byte(shape: &Shape) -> u8
     ensures { result ≡ byte_of (form_in shape.now) }
 {
@@ -221,7 +250,7 @@ fn form_byte(shape: &Shape) -> u8
     }
 }
 
-/// Appends the bytes of the codes in their form.
+// Appends the bytes of the codes in their form.
 fn append_form(shape: &Shape, out: &mut Vec<u8>) -> Result<(), AllocError>
     ensures ok { OnOk result (out.new.items ≡ out.old.items ++ bytes_in (form_in shape.now) (coded_in shape.now).width (coded_in shape.now).codes) }
     ensures err { OnErr result (out.new.items ≡ out.old.items) }

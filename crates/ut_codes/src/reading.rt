@@ -15,7 +15,7 @@ use ut_rle::Runs;
 use ut_sparse::Sparse;
 
 /// The vector that begins the bytes, in the form that a byte stands for, and how many it takes.
-pub fn shape_from(
+pub(crate) fn shape_from(
     alloc: Global,
     form: u8,
     bytes: &[u8],
@@ -49,7 +49,7 @@ pub fn shape_from(
     }
 }
 
-/// Whether the codes are below their reach and their form of least size is this one.
+// Whether the codes are below their reach and their form of least size is this one.
 fn is_form(
     alloc: Global,
     codes: &[u32],
@@ -88,8 +88,8 @@ fn is_same(a: Form, b: Form) -> bool
     }
 }
 
-/// Whether packed is the form of least size. Codes of no bits are not written out: their number
-/// may be great, and their size is 0.
+// Whether packed is the form of least size. Codes of no bits are not written out: their number
+// may be great, and their size is 0.
 fn is_packed_least(alloc: Global, vector: &Packed, reach: u32) -> Result<bool, AllocError>
     requires width { vector.now.width ≡ code_width reach }
     requires below { AllBelow (2 ^ vector.now.width) vector.now.codes }
@@ -105,8 +105,8 @@ fn is_packed_least(alloc: Global, vector: &Packed, reach: u32) -> Result<bool, A
     is_form(alloc, codes.as_slice(), reach, width, Form::Packed)
 }
 
-/// Whether runs is the form of least size. Where the runs are few the codes are not written out:
-/// the sparse form then has more bits by its marks alone.
+// Whether runs is the form of least size. Where the runs are few the codes are not written out:
+// the sparse form then has more bits by its marks alone.
 fn is_runs_least(alloc: Global, vector: &Runs, reach: u32) -> Result<bool, AllocError>
     requires width { vector.now.width ≡ code_width reach }
     ensures { IfOk result (λ b. IsTrue b ↔ IsForm vector.now.codes reach runs_form) }
@@ -122,8 +122,8 @@ fn is_runs_least(alloc: Global, vector: &Runs, reach: u32) -> Result<bool, Alloc
     is_form(alloc, codes.as_slice(), reach, width, Form::Runs)
 }
 
-/// Whether sparse is the form of least size. The vector knows how many codes differ from the most
-/// frequent one, so that they are not counted again.
+// Whether sparse is the form of least size. The vector knows how many codes differ from the most
+// frequent one, so that they are not counted again.
 fn is_sparse_least(alloc: Global, vector: &Sparse, reach: u32) -> Result<bool, AllocError>
     requires width { vector.now.width ≡ code_width reach }
     requires count { length vector.now.codes ≤ 2 ^ 31 }
@@ -140,7 +140,7 @@ fn is_sparse_least(alloc: Global, vector: &Sparse, reach: u32) -> Result<bool, A
 }
 
 /// Whether the codes are below their reach and in their form of least size.
-pub fn is_least(alloc: Global, shape: &Shape, reach: u32) -> Result<bool, AllocError>
+pub(crate) fn is_least(alloc: Global, shape: &Shape, reach: u32) -> Result<bool, AllocError>
     requires width { (coded_in shape.now).width ≡ code_width reach }
     requires below { AllBelow (2 ^ (coded_in shape.now).width) (coded_in shape.now).codes }
     requires count { length (coded_in shape.now).codes ≤ 2 ^ 31 }

@@ -7,7 +7,7 @@ use std::alloc::{AllocError, Global};
 use ut_bits::BitList;
 
 /// How many codes a block has.
-pub const BLOCK: u32 = 1024;
+pub(crate) const BLOCK: u32 = 1024;
 
 /// The least and the greatest code of a block.
 #[derive(Clone, Copy)]
@@ -37,7 +37,7 @@ impl Bounds {
 }
 
 /// The bounds of each block of a list.
-pub fn bounds_of(alloc: Global, list: &BitList) -> Result<Vec<Bounds>, AllocError>
+pub(crate) fn bounds_of(alloc: Global, list: &BitList) -> Result<Vec<Bounds>, AllocError>
     ensures { IfOk result (λ bounds. AreBounds list.now.codes bounds.items) }
 {
     let blocks = (list.len() + (BLOCK - 1)) / BLOCK;
@@ -50,7 +50,7 @@ pub fn bounds_of(alloc: Global, list: &BitList) -> Result<Vec<Bounds>, AllocErro
     Ok(bounds)
 }
 
-/// The least and the greatest code from a place up to an end.
+// The least and the greatest code from a place up to an end.
 fn bounds_between(list: &BitList, start: u32, end: u32) -> Bounds
     requires { end ≤ length list.now.codes }
     ensures { (i : ℕ) → start ≤ i → i < end → IsBetween result (get_or list.now.codes i 0) }

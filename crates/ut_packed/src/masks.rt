@@ -15,7 +15,7 @@ const NO_CODES: (u32, u32) = (0, 0);
 
 /// Keeps of a mask the places whose code stands in one of the ranges; 64 places none of which
 /// stands are passed over, and so are the codes of a block whose bounds tell all of its answers.
-pub fn keep_words(list: &BitList, bounds: &[Bounds], ranges: &[(u32, u32)], mask: &mut Mask)
+pub(crate) fn keep_words(list: &BitList, bounds: &[Bounds], ranges: &[(u32, u32)], mask: &mut Mask)
     requires length { length mask.old ≡ length list.now.codes }
     requires bounds { AreBounds list.now.codes bounds.now }
     ensures { mask.new ≡ both mask.old (map (is_in ranges.now) list.now.codes) }
@@ -32,8 +32,8 @@ pub fn keep_words(list: &BitList, bounds: &[Bounds], ranges: &[(u32, u32)], mask
     }
 }
 
-/// For up to 64 codes of a block whether each stands in one of the ranges, the first as the lowest
-/// bit.
+// For up to 64 codes of a block whether each stands in one of the ranges, the first as the lowest
+// bit.
 fn bits_between(list: &BitList, block: Bounds, start: u32, end: u32, ranges: &[(u32, u32)]) -> u64
     requires order { start ≤ end }
     requires few { end ≤ start + 64 }
@@ -47,7 +47,7 @@ fn bits_between(list: &BitList, block: Bounds, start: u32, end: u32, ranges: &[(
     bits_in(list, start, end, ranges)
 }
 
-/// The same by looking at each code.
+// The same by looking at each code.
 fn bits_in(list: &BitList, start: u32, end: u32, ranges: &[(u32, u32)]) -> u64
     requires order { start ≤ end }
     requires few { end ≤ start + 64 }
@@ -61,7 +61,7 @@ fn bits_in(list: &BitList, start: u32, end: u32, ranges: &[(u32, u32)]) -> u64
     }
 }
 
-/// The same for two ranges, as a comparison has at most.
+// The same for two ranges, as a comparison has at most.
 fn bits_in_either(list: &BitList, start: u32, end: u32, low: (u32, u32), high: (u32, u32)) -> u64
     requires order { start ≤ end }
     requires few { end ≤ start + 64 }
@@ -77,7 +77,7 @@ fn bits_in_either(list: &BitList, start: u32, end: u32, low: (u32, u32), high: (
     bits
 }
 
-/// The same for any number of ranges.
+// The same for any number of ranges.
 fn bits_among(list: &BitList, start: u32, end: u32, ranges: &[(u32, u32)]) -> u64
     requires order { start ≤ end }
     requires few { end ≤ start + 64 }
@@ -93,7 +93,7 @@ fn bits_among(list: &BitList, start: u32, end: u32, ranges: &[(u32, u32)]) -> u6
     bits
 }
 
-/// Whether a code stands in one of two ranges, by one comparison each.
+// Whether a code stands in one of two ranges, by one comparison each.
 fn is_in_either(code: u32, low: (u32, u32), high: (u32, u32)) -> bool
     ensures { result ≡ is_in (low ∷ high ∷ []) code }
 {

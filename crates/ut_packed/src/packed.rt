@@ -1,4 +1,4 @@
-ghost use Rattle.std.specs.Prelude.{◌≡◌, ◌^◌, ◌<◌, ◌≤◌, length, slice_index, IfOk, IfSome, IfNone, OnOk, OnErr, ◌++◌, ◌∷◌, [], ◌≢◌, List, ℕ, take, map};
+ghost use Rattle.std.specs.Prelude.{◌≡◌, ◌^◌, ◌<◌, ◌≤◌, length, slice_index, IfOk, IfSome, IfNone, OnOk, OnErr, ◌++◌, ◌+◌, ◌∷◌, [], ◌≢◌, List, ℕ, take, drop, map};
 ghost use Rattle.ut_bits.specs.Bits.{AllBelow, packed_bytes};
 ghost use Rattle.ut_bits.specs.Places.{is_in, places_where};
 ghost use Rattle.ut_mask.specs.Mask.{both};
@@ -41,7 +41,7 @@ impl Packed {
         Packed::of(alloc, BitList::from_codes(alloc, codes, width)?)
     }
 
-    /// The vector of a list.
+    // The vector of a list.
     fn of(alloc: Global, list: BitList) -> Result<Self, AllocError>
         ensures { IfOk result (λ p. p ≡ list) }
     {
@@ -69,6 +69,25 @@ impl Packed {
         ensures { result ≡ slice_index self.now.codes i }
     {
         self.list.get(i)
+    }
+
+    /// The eight codes from a place on.
+    pub fn eight(&self, i: u32) -> [u32; 8]
+        requires { i + 8 ≤ length self.now.codes }
+        ensures { result ≡ take 8 (drop i self.now.codes) }
+    {
+        prove!(i < self.len());
+        let list = &self.list;
+        [
+            list.get(i),
+            list.get(i + 1),
+            list.get(i + 2),
+            list.get(i + 3),
+            list.get(i + 4),
+            list.get(i + 5),
+            list.get(i + 6),
+            list.get(i + 7),
+        ]
     }
 
     /// Appends the places, ascending, whose code stands in one of the ranges.
@@ -140,14 +159,14 @@ impl Packed {
     }
 }
 
-/// Whether a code stands in a range without its end.
+// Whether a code stands in a range without its end.
 fn is_between(code: u32, range: (u32, u32)) -> bool
     ensures { result ≡ is_in (range ∷ []) code }
 {
     range.0 <= code && code < range.1
 }
 
-/// The places of one range, the common case.
+// The places of one range, the common case.
 fn places_between(list: &BitList, range: (u32, u32), out: &mut Vec<u32>) -> Result<(), AllocError>
     ensures ok { OnOk result (out.new.items ≡ out.old.items ++ places_where (is_in (range ∷ [])) list.now.codes) }
     ensures err { OnErr result (out.new.items ≡ out.old.items) }
@@ -167,7 +186,7 @@ fn places_between(list: &BitList, range: (u32, u32), out: &mut Vec<u32>) -> Resu
     Ok(())
 }
 
-/// The places of several ranges.
+// The places of several ranges.
 fn places_among(list: &BitList, ranges: &[(u32, u32)], out: &mut Vec<u32>) -> Result<(), AllocError>
     ensures ok { OnOk result (out.new.items ≡ out.old.items ++ places_where (is_in ranges.now) list.now.codes) }
     ensures err { OnErr result (out.new.items ≡ out.old.items) }

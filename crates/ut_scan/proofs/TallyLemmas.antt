@@ -1,15 +1,17 @@
 -- How often codes occur, one code and one part more.
-use Rattle.std.proofs.Common.{◌≡◌, inl, inr, ℕ, zero, suc, ◌+◌, ◌-◌, ◌<◌, ◌≤◌, ◌^◌, ◌&&◌, Bool, true, false, cond, nat_eq, List, [], ◌∷◌, ◌++◌, length, map, filter, take, get_or, set, Some, All, refl, sym, ◌∙◌, ap, subst, arith}
+use Rattle.std.proofs.Common.{◌≡◌, inl, inr, ℕ, zero, suc, ◌+◌, ◌-◌, ◌<◌, ◌≤◌, ◌^◌, ◌&&◌, Bool, true, false, cond, nat_eq, List, [], ◌∷◌, ◌++◌, length, map, filter, take, drop, get_or, set, Some, All, refl, sym, ◌∙◌, ap, subst, arith}
 use Rattle.std.specs.Prelude.{slice_get}
 use Rattle.std.specs.List.{range_with_len, sum_by}
+use Rattle.std.proofs.Math.Seq.{take-add}
 use Rattle.std.proofs.lemmas.Bool.{cases_eq, eq-eqb, ne_eqb}
-use Rattle.std.proofs.lemmas.List.{append-nil, length-append, length-map, length-set, map-append, get_or-set_same, get_or-set_other, take_more}
+use Rattle.std.proofs.lemmas.List.{append-nil, length-append, length-drop, length-map, length-set, length-take-le, map-append, get_or-set_same, get_or-set_other, take_more}
 use Rattle.std.proofs.lemmas.List.Elements.{All-filter, All-head, All-tail}
 use Rattle.std.proofs.lemmas.List.FromFn.{length-range_with_len}
 use Rattle.std.proofs.lemmas.List.Sums.{count_by-le-length, length-filter, sum_by-append, sum_by_more, sum_by-take-le}
 use Rattle.std.proofs.lemmas.Option.{slice_get-get_or}
 use Rattle.std.proofs.lemmas.Simd.{map-map}
 use Rattle.ut_bits.specs.Bits.{AllBelow}
+use Rattle.ut_bits.proofs.BitLemmas.{AllBelow-drop, AllBelow-take}
 use Rattle.ut_stamps.specs.declared.place.Place.TheVariants.{Main}
 use Rattle.ut_stamps.specs.declared.visibility.Stamp.{Stamp}
 use Rattle.ut_l2.specs.KeyRows.{KeyRow}
@@ -130,6 +132,22 @@ list-room codes old now i c few so_far lt = omega (arith, few c, more-few (take 
     short zero xs = omega arith
     short (suc n) [] = omega arith
     short (suc n) (x ∷ xs) = omega (arith, short n xs)
+
+-- eight more of a list's codes, read together
+module _ (codes old now eight : List ℕ) (i : ℕ) (so_far : AreMore (take i codes) old now) (is : eight ≡ take 8 (drop i codes)) where
+  pub eight-more : (new : List ℕ) (end : ℕ) → end ≡ i + 8 → AreMore eight now new → AreMore (take end codes) old new
+  eight-more new end at more =
+      let joined : take i codes ++ eight ≡ take end codes = ap (λ (l : List ℕ). take i codes ++ l) is ∙ sym (take-add i 8 codes) ∙ ap (λ (m : ℕ). take m codes) (sym at) in
+      subst (λ (l : List ℕ). AreMore l old new) joined (more-both (take i codes) eight old now new so_far more)
+
+  pub eight-counts : AllBelow (length old) codes → AllBelow (length now) eight
+  eight-counts below =
+      subst (λ n. AllBelow n eight) (sym so_far.size) (subst (AllBelow (length old)) (sym is) (AllBelow-take (length old) 8 (drop i codes) (AllBelow-drop (length old) i codes below)))
+
+  pub eight-room : ((k : ℕ) → get_or old k 0 + length codes < 2 ^ 32) → i + 8 ≤ length codes → (k : ℕ) → get_or now k 0 + length eight < 2 ^ 32
+  eight-room few within k =
+      let size : length eight ≡ 8 = ap length is ∙ length-take-le 8 (drop i codes) (omega (arith, length-drop i codes, within)) in
+      omega (arith, few k, more-few (take i codes) old now k so_far, length-take-le i codes (omega (arith, within)), size, within)
 
 -- all codes of a part
 module _ (part : PartValue) (column : ℕ) (counts : List ℕ) (codes : List ℕ) (is : codes ≡ (codes_in part column).codes) (room : HasRoom part column counts) where

@@ -1,5 +1,5 @@
 //! How often each code of a column occurs in the rows of main's parts that a scan finds.
-ghost use Rattle.std.specs.Prelude.{◌≡◌, ℕ, ◌+◌, ◌<◌, ◌≤◌, ◌^◌, [], ◌∷◌, length, get_or, All, IfOk, OnOk};
+ghost use Rattle.std.specs.Prelude.{◌≡◌, ℕ, ◌+◌, ◌<◌, ◌≤◌, ◌^◌, [], ◌∷◌, length, take, get_or, All, IfOk, OnOk};
 ghost use Rattle.ut_bits.specs.Bits.{AllBelow};
 ghost use Rattle.ut_scan.specs.Coded.{held_places, keys_in, standing};
 ghost use Rattle.ut_scan.specs.Finds.{all_places};
@@ -145,7 +145,7 @@ impl PartProbe<'_, '_> {
     }
 }
 
-/// Counts all codes of a vector. Packed codes are read one by one, others are written out first.
+/// Counts all codes of a vector. Packed codes are read in place, others are written out first.
 fn add_all(alloc: Global, codes: &CodeVec, counts: &mut [u32]) -> Result<(), AllocError>
     requires there { AllBelow (length counts.old) codes.now.codes }
     requires few { (code : ℕ) → get_or counts.old code 0 + length codes.now.codes < 2 ^ 32 }
@@ -158,14 +158,30 @@ fn add_all(alloc: Global, codes: &CodeVec, counts: &mut [u32]) -> Result<(), All
     Ok(())
 }
 
+/// Counts all codes of a packed vector: eight at a time, and the last few one by one.
 fn add_packed(codes: &CodeVec, counts: &mut [u32])
     requires there { AllBelow (length counts.old) codes.now.codes }
     requires few { (code : ℕ) → get_or counts.old code 0 + length codes.now.codes < 2 ^ 32 }
     ensures { AreMore codes.now.codes counts.old counts.new }
 {
-    for i in 0..codes.len() {
+    let start = add_eights(codes, counts);
+    for i in start..codes.len() {
         add_code(codes.get(i), counts);
     }
+}
+
+/// Counts eight codes after eight, and says how many there were.
+fn add_eights(codes: &CodeVec, counts: &mut [u32]) -> u32
+    requires there { AllBelow (length counts.old) codes.now.codes }
+    requires few { (code : ℕ) → get_or counts.old code 0 + length codes.now.codes < 2 ^ 32 }
+    ensures within { result ≤ length codes.now.codes }
+    ensures counts { AreMore (take result codes.now.codes) counts.old counts.new }
+{
+    let eights = codes.len() / 8;
+    for k in 0..eights {
+        add_list(&codes.eight(8 * k), counts);
+    }
+    8 * eights
 }
 
 fn add_list(codes: &[u32], counts: &mut [u32])

@@ -1,11 +1,11 @@
 use Rattle.std.proofs.Common.{◌<◌, length, subst, arith}
 use Rattle.std.proofs.lemmas.List.{take_all}
 use Rattle.ut_scan.specs.Tallies.{AreMore}
-use Rattle.ut_scan.proofs.TallyLemmas.{list-count, list-room, more-none, more-take}
+use Rattle.ut_scan.proofs.TallyLemmas.{list-count, list-room, more-take}
 use Rattle.ut_scan.proofs.part_tally.add_packed.Goals as goal
 
 pub loop-i-init : goal.loop-i-init
-loop-i-init c = more-none c.args.counts.now
+loop-i-init c = c.add_eights-start.ensures.counts
 
 pub add_code-requires-clause-there : goal.add_code-requires-clause-there
 add_code-requires-clause-there c =
