@@ -1,5 +1,5 @@
 -- A savepoint begins: what it captures is an image of the journal, and what the store then is.
-use Rattle.std.proofs.Common.{◌≡◌, ◌≢◌, inl, inr, ℕ, ◌+◌, ◌*◌, ◌≤◌, ◌^◌, Bool, true, false, cond, List, length, None, Some, Ok, Err, refl, sym, ◌∙◌, ap, subst, arith}
+use Rattle.std.proofs.Common.{◌≡◌, ◌≢◌, inl, inr, ℕ, ◌+◌, ◌*◌, ◌≤◌, ◌^◌, Bool, true, false, cond, List, length, Option, None, Some, Ok, Err, refl, sym, ◌∙◌, ap, subst, arith}
 use Rattle.std.specs.List.{AllPairs}
 use Rattle.std.proofs.lemmas.Bool.{le-leb, leb-true}
 use Rattle.ut_outside.specs.declared.disk.Which.{Which}
@@ -7,14 +7,14 @@ use Rattle.ut_outside.specs.declared.disk.Which.TheVariants.{Redo, Pages, Redo2}
 use Rattle.ut_outside.specs.Disk.{Image, View, IsTold}
 use Rattle.ut_outside.specs.Faults.{Rose}
 use Rattle.ut_outside.specs.Run.{LeavesOnly}
-use Rattle.ut_redo.specs.Appends.{Place}
+use Rattle.ut_redo.specs.Appends.{LogPlace}
 use Rattle.ut_redo.specs.Logs.{IsLogFile, other_log, switched_place}
 use Rattle.ut_plain.specs.declared.stage.Progress.TheVariants as steps
+use Rattle.ut_plain.specs.declared.statement.Statement.{Statement}
 use Rattle.ut_plain.specs.declared.statement.Statement.TheVariants as statements
 use Rattle.ut_plain.specs.declared.reply.Reply.{Reply}
 use Rattle.ut_plain.specs.declared.reply.Reply.TheVariants as replies
 use Rattle.ut_plain.specs.declared.reply.Refusal.TheVariants as refusals
-use Rattle.ut_plain.specs.declared.reply.Why.{Why}
 use Rattle.ut_plain.specs.State.{IsState}
 use Rattle.ut_plain.specs.Journal.{journal_len, current}
 use Rattle.ut_plain.specs.Capture.{Directory, capture, AreHeldBy}
@@ -30,7 +30,7 @@ use Rattle.ut_plain.proofs.StateLaws.{IsState-current}
 use Rattle.ut_pages.specs.declared.root.Root.{Root}
 use Rattle.ut_pages.specs.Layout.{IsRoot}
 use Rattle.ut_durable.specs.Bytes.{image_pages}
-use Rattle.ut_durable.specs.Calls.{Held as Files, Moves}
+use Rattle.ut_durable.specs.Calls.{FilesHeld, Moves}
 use Rattle.ut_durable.specs.Files.{IsImageOf}
 use Rattle.ut_durable.specs.Journals.{place_of}
 use Rattle.ut_durable.specs.Moments.{Leaves}
@@ -45,7 +45,7 @@ use Rattle.ut_store.specs.Stands.{StandsFor}
 use Rattle.ut_engine.specs.Logged.{Logged}
 use Rattle.ut_engine.specs.Runs.{Runs}
 use Rattle.ut_engine.specs.declared.error.SaveError.TheVariants as begins
-use Rattle.ut_engine.specs.Savepoints.{progress_of, told_of, IsCounted, TellsBegin}
+use Rattle.ut_engine.specs.Savepoints.{progress_of, told_of, IsCounted, IsOutOfTurn, TellsBegin}
 use Rattle.ut_engine.specs.Saves.{LeavesLog, Moved, Stayed, MayLeaveLog, IsCapturedRoot}
 use Rattle.ut_engine.specs.Serves.{IsAnswered, Serves}
 use Rattle.ut_engine.proofs.CapturedLemmas.{captured_distinct}
@@ -137,7 +137,7 @@ module _ (old : Logged) (before : View) (p : Plain) (runs : Runs old before p) w
           le-leb (3 + p.image_pages image + p.root_pages) 4294967295 (omega (arith, few, pages, reached))
 
       -- the log stands in another file than the selected root's, and what is known of the files is known still
-      begun : (files : Files) (after : View) → place_of root ≡ files.log → files.reached ≡ old.files.reached → IsStored p.journal files runs.root runs.directory None Idle after → (files.log.file ≢ (place_of runs.root).file) → IsRoot root
+      begun : (files : FilesHeld) (after : View) → place_of root ≡ files.log → files.reached ≡ old.files.reached → IsStored p.journal files runs.root runs.directory None Idle after → (files.log.file ≢ (place_of runs.root).file) → IsRoot root
           → IsStored p.journal files runs.root runs.directory (Some s) (Writing (journal_len p.journal) 0 (length s.planned) image) after
       begun files after place reached stored apart rules =
           begin_is_stored (two after after) p.journal files runs.root runs.directory s image false (image_of rules) (same (λ (r : Root). r.length) ∙ length_is) (same place_of ∙ place)
@@ -160,7 +160,7 @@ module _ (old : Logged) (before : View) (session : ℕ) (p : Plain) (runs : Runs
 
   module _ (root : Root) (captured : IsCapturedRoot old root) (s : Saving) (plans : Plans root old.files.reached (captured_now p) s) (after : View) where
     -- where the log stands elsewhere
-    answer_at : (files : Files) (new : Logged) (reply : Reply) → new ≡ record old { files = files; saving = Some s } → reply ≡ told_of (progress_of new.saving) → (IsTold before → LeavesOnly before after (Leaves p.journal (journal_len p.journal) old.files runs.root runs.directory))
+    answer_at : (files : FilesHeld) (new : Logged) (reply : Reply) → new ≡ record old { files = files; saving = Some s } → reply ≡ told_of (progress_of new.saving) → (IsTold before → LeavesOnly before after (Leaves p.journal (journal_len p.journal) old.files runs.root runs.directory))
         → IsStored p.journal files runs.root runs.directory (Some s) (Writing (journal_len p.journal) 0 (length s.planned) (captured_now p)) after → IsLogFile files.log.file → files.log.end ≤ 2147483648 * journal_len p.journal → files.reached ≡ old.files.reached
         → IsAnswered p before session statements.SaveBegin reply new after
     answer_at files new reply is is_told run stored log short reached =
@@ -186,16 +186,16 @@ module _ (old : Logged) (before : View) (session : ℕ) (p : Plain) (runs : Runs
 
     pub begun_answer : (mid new : Logged) (reply : Reply) → LeavesLog old before mid after → new ≡ record mid { saving = Some s } → MayLeaveLog old before after → reply ≡ told_of (progress_of new.saving) → IsAnswered p before session statements.SaveBegin reply new after
     begun_answer mid new reply (Moved here same moves) is may is_told =
-        let files : Files = record old.files { log = switched_place old.files.log } in
-        let moved : Moves old.files files before after = subst (λ (f : Files). Moves old.files f before after) (ap (λ (e : Logged). e.files) same) moves in
+        let files : FilesHeld = record old.files { log = switched_place old.files.log } in
+        let moved : Moves old.files files before after = subst (λ (f : FilesHeld). Moves old.files f before after) (ap (λ (e : Logged). e.files) same) moves in
         let place : place_of root ≡ files.log = captured.place.moved here in
-        let rules = is_root old before p runs root captured (omega (arith, ap (λ (l : Place). l.end) place)) in
+        let rules = is_root old before p runs root captured (omega (arith, ap (λ (l : LogPlace). l.end) place)) in
         let stored = switch_is_stored (two before after) p.journal old.files files runs.root runs.directory false true (here ∙ runs.begins) refl moved idle_stored in
         answer_at files new reply (is ∙ ap (λ (e : Logged). record e { saving = Some s }) same) is_told (begin_run after may)
         (begun old before p runs root captured s plans files after place refl stored.0 stored.1 rules) (other_is_log old.files.log.file runs.log) (omega arith) refl
     begun_answer mid new reply (Stayed there same reads) is may is_told =
         let place : place_of root ≡ old.files.log = captured.place.stays there in
-        let rules = is_root old before p runs root captured (let short = runs.short in omega (arith, short, ap (λ (l : Place). l.end) place)) in
+        let rules = is_root old before p runs root captured (let short = runs.short in omega (arith, short, ap (λ (l : LogPlace). l.end) place)) in
         let stored = stored_read before after reads p.journal old.files runs.root runs.directory None Idle idle_stored in
         answer_at old.files new reply (is ∙ ap (λ (e : Logged). record e { saving = Some s }) same) is_told (begin_run after may)
         (begun old before p runs root captured s plans old.files after place refl stored (λ at. there (at ∙ sym runs.begins)) rules) runs.log runs.short refl
@@ -229,10 +229,10 @@ serves_begun old mid new before after session reply root s none captured plans l
   cause = λ fault. absurd (told_sound new.saving (sym is_told ∙ fault));
 }
 
-pub serves_unbegun : (old new : Logged) (before after : View) (session : ℕ) (root : Root) (s : Saving) → ((p : Plain) → Runs old before p → save_why p.phase statements.SaveBegin ≡ None) → IsCapturedRoot old root
-    → ((p : Plain) → StandsFor old.store p → Plans root old.files.reached (captured_now p) s) → MayLeaveLog old before after → new.down ≡ true
-    → after.told ≡ before.told → before.faults ≤ after.faults → Rose before.faults after.faults → Serves old before session statements.SaveBegin replies.DiskFault new after
-serves_unbegun old new before after session root s none captured plans may down told later rose = record {
+pub serves_unbegun : (old new : Logged) (before after : View) (session : ℕ) (reply : Reply) (root : Root) (s : Saving) → ((p : Plain) → Runs old before p → save_why p.phase statements.SaveBegin ≡ None) → IsCapturedRoot old root
+    → ((p : Plain) → StandsFor old.store p → Plans root old.files.reached (captured_now p) s) → MayLeaveLog old before after → reply ≡ replies.DiskFault → new.down ≡ true
+    → after.told ≡ before.told → before.faults ≤ after.faults → Rose before.faults after.faults → Serves old before session statements.SaveBegin reply new after
+serves_unbegun old new before after session reply root s none captured plans may fault down told later rose = subst (λ (r : Reply). Serves old before session statements.SaveBegin r new after) (sym fault) (record {
   each = λ p runs. inr (lost_save old new before after session statements.SaveBegin p refl
       (may_fault p session statements.SaveBegin refl (none p runs) (has_pages old before p runs root captured s (plans p runs.stands) session) refl) down
       (λ t. to_prefix before after p.journal (journal_len p.journal) old p runs (begin_run old before session p runs (none p runs) after may t)));
@@ -241,7 +241,7 @@ serves_unbegun old new before after session root s none captured plans may down 
   told = told;
   later = later;
   cause = λ _. rose;
-}
+})
 
 -- ---- where there are no numbers for its pages
 
@@ -270,8 +270,8 @@ memory_told = (Err begins.Memory, refl)
 pub full_told : TellsBegin (replies.Refused refusals.Full)
 full_told = (Err begins.Full, refl)
 
-pub out_of_turn_begin : (why : Why) → TellsBegin (replies.Refused (refusals.State why))
-out_of_turn_begin why = (Err (begins.State why), refl)
+pub out_of_turn_begin : (saving : Option Saving) (st : Statement) (reply : Reply) → IsOutOfTurn saving st reply → TellsBegin reply
+out_of_turn_begin saving st reply out = (Err (begins.State out.why), sym out.says)
 
 pub fault_begin : (reply : Reply) → reply ≡ replies.DiskFault → TellsBegin reply
 fault_begin reply is = (Err begins.Disk, sym is)

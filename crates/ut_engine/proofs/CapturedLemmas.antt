@@ -259,7 +259,7 @@ not_true false is = refl
 
 pub captured_distinct : (e : Held) (p : Plain) → AreRows e p → AllPairs (λ a b. a ≢ b) (image_ids (capture (current p.journal) p.stages).stages)
 captured_distinct e p rows = subst (λ (l : Stages). AllPairs (λ a b. a ≢ b) (image_ids (map (captured_table (current p.journal).rows) l))) (sym rows.stages)
-    (image_distinct (current p.journal).rows e.staged (λ n m x y row other a b c d same. rows.places.once n m x y row other a b (alive row c) (alive other d) same))
+    (image_distinct (current p.journal).rows e.rows.staged (λ n m x y row other a b c d same. rows.places.once n m x y row other a b (alive row c) (alive other d) same))
   where
     alive : (row : StagedRow) → is_live (current p.journal).rows (placed_of row) ≡ true → is_dead row.stamp ≡ false
     alive row live_row = not_true (is_dead row.stamp) (and_first (not (is_dead row.stamp)) (is_some (finmap.get (current p.journal).rows row.id)) live_row)

@@ -11,7 +11,7 @@ use Rattle.ut_pages.specs.Layout.{IsMade, made_pages, empty_root}
 use Rattle.ut_pages.specs.declared.root.Root.{Root}
 use Rattle.ut_pages.specs.declared.slot.Slot.{Slot}
 use Rattle.ut_redo.specs.Frames.{Holds}
-use Rattle.ut_redo.specs.Appends.{Place}
+use Rattle.ut_redo.specs.Appends.{LogPlace}
 use Rattle.ut_redo.specs.Logs.{IsLogFile, LogHolds}
 use Rattle.ut_redo.specs.declared.error.RedoError.{RedoError}
 use Rattle.ut_redo.specs.declared.error.RedoError.TheVariants as redo_errors
@@ -33,7 +33,7 @@ use Rattle.ut_store.specs.Stands.{StandsFor}
 use Rattle.ut_store.specs.Standing.{Reopened}
 use Rattle.ut_plain.specs.Journal.{Journal, empty_journal, after_all, can_all}
 use Rattle.ut_durable.specs.Bytes.{image_pages, no_directory}
-use Rattle.ut_durable.specs.Calls.{Held as Files}
+use Rattle.ut_durable.specs.Calls.{FilesHeld}
 use Rattle.ut_durable.specs.Directories.{IsBase}
 use Rattle.ut_durable.specs.Images.{HasImage}
 use Rattle.ut_durable.specs.Journals.{log_file, place_of, HoldsJournal}
@@ -155,10 +155,10 @@ new_runs v1 v2 v3 store next rows noted stands told12 told23 empty pages =
       next = subst (λ (n : Noted). Keeps n (new_store (no_image image_pages) rows)) (sym (noted empty_state refl refl)) (opened_noted (no_image image_pages) empty_journal rows);
     }
 
-pub is_new : (v0 v1 v2 v3 : View) (store : Held) (files : Files) (next : Noted) (rows : ℕ) → NotedBehind 1 [] next → ReadsOnly v0 v1 → (IsTold v0 → IsMade v0.seen.pages → ⊥) → StandsFor store (new_store (no_image image_pages) rows) → files ≡ made_held → v2.told ≡ v1.told → v3.told ≡ v2.told → (IsTold v1 → EmptyLog v1 v2)
+pub is_new : (v0 v1 v2 v3 : View) (store : Held) (files : FilesHeld) (next : Noted) (rows : ℕ) → NotedBehind 1 [] next → ReadsOnly v0 v1 → (IsTold v0 → IsMade v0.seen.pages → ⊥) → StandsFor store (new_store (no_image image_pages) rows) → files ≡ made_held → v2.told ≡ v1.told → v3.told ≡ v2.told → (IsTold v1 → EmptyLog v1 v2)
     → (IsTold v2 → Always v3 (ComesFrom v2 Pages (λ _ c. c ≡ made_pages))) → IsNew (record { store = store; files = files; begins = Redo; saving = None; next = next; down = false }) rows v0 v3
 is_new v0 v1 v2 v3 store files next rows noted read unmade stands is told12 told23 empty pages =
-    subst (λ (f : Files). IsNew (record { store = store; files = f; begins = Redo; saving = None; next = next; down = false }) rows v0 v3) (sym is)
+    subst (λ (f : FilesHeld). IsNew (record { store = store; files = f; begins = Redo; saving = None; next = next; down = false }) rows v0 v3) (sym is)
     (record {
       runs = new_runs v1 v2 v3 store next rows noted stands told12 told23 empty pages;
       unmade = unmade;
@@ -175,38 +175,41 @@ began image d begins = let base = directory_base image.root d begins.directory i
 directory_rules : (slot : Slot) (reached : List ℕ) (root : Root) (d : Directory) (file : List ℕ) → HasImage slot reached root d file → IsDirectory root.next root.commits d
 directory_rules slot reached root d file has = (in_keys reached root d file has.image).rules
 
--- the files were settled, and were read without a change
-pub record IsRead (v0 v1 v2 v3 v4 : View) : Type 0 where
+-- the files were settled, were asked whether they are made, and their image was read, without a change
+pub record IsRead (v0 v1 v2 v3 : View) : Type 0 where
   pub settle : ReadsOnly v0 v1
   pub made : ReadsOnly v1 v2
   pub image : ReadsOnly v2 v3
-  pub log : ReadsOnly v3 v4
-  pub settled : IsTold v0 → Always v1 (λ c. (file : Which) → content file c ≡ content file v0.seen)
+  pub is_made : IsTold v1 → IsMade v1.seen.pages
 
-module _ (v0 v1 v2 v3 v4 : View) (r : IsRead v0 v1 v2 v3 v4) where
-  pub told_1 : IsTold v0 → IsTold v1
+module _ (v0 v1 v2 v3 : View) (r : IsRead v0 v1 v2 v3) where
+  told_1 : IsTold v0 → IsTold v1
   told_1 told = subst IsTrue (sym r.settle.told) told
 
-  pub told_2 : IsTold v0 → IsTold v2
+  told_2 : IsTold v0 → IsTold v2
   told_2 told = subst IsTrue (sym r.made.told) (told_1 told)
 
-  pub told_3 : IsTold v0 → IsTold v3
+  told_3 : IsTold v0 → IsTold v3
   told_3 told = subst IsTrue (sym r.image.told) (told_2 told)
 
-  told_0 : IsTold v4 → IsTold v0
-  told_0 told = subst IsTrue (r.log.told ∙ r.image.told ∙ r.made.told ∙ r.settle.told) told
-
-  pub seen_2 : v2.seen ≡ v0.seen
+  seen_2 : v2.seen ≡ v0.seen
   seen_2 = r.made.seen ∙ r.settle.seen
 
-  pub seen_3 : v3.seen ≡ v0.seen
+  seen_3 : v3.seen ≡ v0.seen
   seen_3 = r.image.seen ∙ seen_2
 
-  same_seen : IsTold v4 → (c : Image) → v4.crash_states c → c ≡ v0.seen
-  same_seen told c left = same_image c v0.seen (r.settled (told_0 told) c (r.made.no_more c (r.image.no_more c (r.log.no_more c left))))
+  made_first : IsTold v0 → IsMade v0.seen.pages
+  made_first told = subst (λ (i : Image). IsMade i.pages) r.settle.seen (r.is_made (told_1 told))
 
-  module _ (store : Held) (log : Place) (next : Noted) (image : ReadImage) (entries : List Entry) (rows : ℕ) where
-    abbrev files : Files
+module _ (v0 v1 v2 v3 v4 : View) (r : IsRead v0 v1 v2 v3) (reads : ReadsOnly v3 v4) (settled : IsTold v0 → Always v1 (λ c. (file : Which) → content file c ≡ content file v0.seen)) where
+  told_0 : IsTold v4 → IsTold v0
+  told_0 told = subst IsTrue (reads.told ∙ r.image.told ∙ r.made.told ∙ r.settle.told) told
+
+  same_seen : IsTold v4 → (c : Image) → v4.crash_states c → c ≡ v0.seen
+  same_seen told c left = same_image c v0.seen (settled (told_0 told) c (r.made.no_more c (r.image.no_more c (reads.no_more c left))))
+
+  module _ (store : Held) (log : LogPlace) (next : Noted) (image : ReadImage) (entries : List Entry) (rows : ℕ) where
+    abbrev files : FilesHeld
     files = record { log = log; slot = image.pages.slot; reached = image.pages.reached }
 
     abbrev opened_logged : Logged
@@ -241,17 +244,18 @@ module _ (v0 v1 v2 v3 v4 : View) (r : IsRead v0 v1 v2 v3 v4) where
                 (opened_noted (opening_of d (length image.pages.reached)) (journal s) rows);
           }
 
-      module _ (made : IsTold v1 → IsMade v1.seen.pages) (found : IsTold v2 → (d : Directory) × IsImageIn image d v2.seen.pages) (held : IsTold v3 → LogHolds (place_of image.root) entries log v3.seen) where
+      module _ (found : IsTold v2 → (d : Directory) × IsImageIn image d v2.seen.pages) (held : IsTold v3 → LogHolds (place_of image.root) entries log v3.seen) where
         -- what is read of a disk that tells what it holds
         opens_told : IsTold v0 → Opens opened_logged rows v0 v4
         opens_told told =
-            let d = (found (told_2 told)).0 in
-            let is = subst (λ (i : Image). IsImageIn image d i.pages) seen_2 (found (told_2 told)).1 in
+            let read = found (told_2 v0 v1 v2 v3 r told) in
+            let d = read.0 in
+            let is = subst (λ (i : Image). IsImageIn image d i.pages) (seen_2 v0 v1 v2 v3 r) read.1 in
             let base = image_is_base image.pages.slot image.pages.reached image.root d v0.seen.pages is.has in
             let begins : BeginsWith image.root image.tables image.mains d base.0 = record { rules = is.has.has.rules; shown = is.shown; directory = directory_rules image.pages.slot image.pages.reached image.root d v0.seen.pages is.has; base = base.1 } in
             let again = reopened d base.0 begins in
-            let is_made = subst (λ (i : Image). IsMade i.pages) r.settle.seen (made (told_1 told)) in
-            let log_held = subst (LogHolds (place_of image.root) entries log) seen_3 (held (told_3 told)) in
+            let is_made = made_first v0 v1 v2 v3 r told in
+            let log_held = subst (LogHolds (place_of image.root) entries log) (seen_3 v0 v1 v2 v3 r) (held (told_3 v0 v1 v2 v3 r told)) in
             let stored = opened_is_stored (two v4 v4) (journal base.0) d files image.root v0.seen false is_made is.selected is.there is.has base.1 log_held again.may same_seen in
             record {
               journal = journal base.0;
@@ -311,14 +315,14 @@ restart_damaged restart_errors.Damaged e = refl
 restart_damaged restart_errors.Memory e = cc
 
 -- Files have one image, and are read in one way behind it: so a log that is none is that of no journal,
-pub no_log : (image : ReadImage) (c : Image) → (d : Directory) × IsImageIn image d c.pages → ((items : List Entry) (end : Place) → LogHolds (place_of image.root) items end c → ⊥) → (j : Journal) → HoldsJournal j c → ⊥
+no_log : (image : ReadImage) (c : Image) → (d : Directory) × IsImageIn image d c.pages → ((items : List Entry) (end : LogPlace) → LogHolds (place_of image.root) items end c → ⊥) → (j : Journal) → HoldsJournal j c → ⊥
 no_log image c found none j is =
     let r = is.reading in
     let one = one_image_each image.pages.slot r.slot image.pages.reached r.reached image.root r.root found.0 is.directory c.pages found.1.selected r.selected found.1.has r.image in
     none j.entries is.end (subst (λ (root : Root). LogHolds (place_of root) j.entries is.end c) (sym one.0) r.log)
 
 -- and entries that are none are all that it holds.
-pub no_journal : (image : ReadImage) (c : Image) (entries : List Entry) (end : Place) → (d : Directory) × IsImageIn image d c.pages → LogHolds (place_of image.root) entries end c
+no_journal : (image : ReadImage) (c : Image) (entries : List Entry) (end : LogPlace) → (d : Directory) × IsImageIn image d c.pages → LogHolds (place_of image.root) entries end c
     → ((d : Directory) (s : State) → BeginsWith image.root image.tables image.mains d s → MayOpen d.stages (record { base = s; entries = entries }) → ⊥) → (j : Journal) → HoldsJournal j c → ⊥
 no_journal image c entries end found holds none j is =
     let r = is.reading in
@@ -328,3 +332,26 @@ no_journal image c entries end found holds none j is =
     none found.0 j.base
     (record { rules = found.1.has.has.rules; shown = found.1.shown; directory = directory_rules image.pages.slot image.pages.reached image.root found.0 c.pages found.1.has; base = base })
     (subst (λ (es : List Entry). MayOpen found.0.stages (record { base = j.base; entries = es })) log.0 (subst (λ (d : Directory). MayOpen d.stages j) (sym one.1) r.may))
+
+-- what is said of damaged files
+abbrev IsDamaged : Image → Type 0
+IsDamaged c = IsMade c.pages × ((j : Journal) → HoldsJournal j c → ⊥)
+
+module _ (v0 v1 v2 v3 : View) (r : IsRead v0 v1 v2 v3) (image : ReadImage) (found : IsTold v2 → (d : Directory) × IsImageIn image d v2.seen.pages) where
+  read_in : IsTold v0 → (d : Directory) × IsImageIn image d v0.seen.pages
+  read_in told = subst (λ (i : Image). (d : Directory) × IsImageIn image d i.pages) (seen_2 v0 v1 v2 v3 r) (found (told_2 v0 v1 v2 v3 r told))
+
+  -- no log is behind the image
+  pub log_damaged : (IsTold v3 → (items : List Entry) (end : LogPlace) → LogHolds (place_of image.root) items end v3.seen → ⊥) → IsTold v0 → IsDamaged v0.seen
+  log_damaged none told = (
+    made_first v0 v1 v2 v3 r told,
+    no_log image v0.seen (read_in told) (λ items end holds. none (told_3 v0 v1 v2 v3 r told) items end (subst (λ (i : Image). LogHolds (place_of image.root) items end i) (sym (seen_3 v0 v1 v2 v3 r)) holds)),
+  )
+
+  -- its entries are no journal
+  pub entries_damaged : (entries : List Entry) (end : LogPlace) → (IsTold v3 → LogHolds (place_of image.root) entries end v3.seen)
+      → ((d : Directory) (s : State) → BeginsWith image.root image.tables image.mains d s → MayOpen d.stages (record { base = s; entries = entries }) → ⊥) → IsTold v0 → IsDamaged v0.seen
+  entries_damaged entries end holds none told = (
+    made_first v0 v1 v2 v3 r told,
+    no_journal image v0.seen entries end (read_in told) (subst (λ (i : Image). LogHolds (place_of image.root) entries end i) (seen_3 v0 v1 v2 v3 r) (holds (told_3 v0 v1 v2 v3 r told))) none,
+  )

@@ -5,6 +5,7 @@ use Rattle.ut_outside.specs.Faults.{Rose}
 use Rattle.ut_outside.specs.Run.{LeavesOnly}
 use Rattle.ut_outside.proofs.RunLemmas.{started}
 use Rattle.ut_plain.specs.declared.statement.Statement.TheVariants as statements
+use Rattle.ut_plain.specs.declared.reply.Reply.{Reply}
 use Rattle.ut_plain.specs.declared.reply.Reply.TheVariants as replies
 use Rattle.ut_plain.specs.Journal.{journal_len}
 use Rattle.ut_plain.specs.Plain.{Plain, Phase, Idle, Sealed}
@@ -13,7 +14,7 @@ use Rattle.ut_plain.specs.Refusals.{save_why}
 use Rattle.ut_plain.specs.Step.{Stepped, step, save_flipped, Steps}
 use Rattle.ut_plain.proofs.SaveLaws.{save_flipped_is, save_dropped_is}
 use Rattle.ut_pages.specs.Layout.{other}
-use Rattle.ut_durable.specs.Calls.{Held as Files, MayFlip}
+use Rattle.ut_durable.specs.Calls.{FilesHeld, MayFlip}
 use Rattle.ut_durable.specs.Files.{HasSelected}
 use Rattle.ut_durable.specs.Journals.{HoldsPrefix}
 use Rattle.ut_durable.specs.Saving.{Saving, IsStored}
@@ -64,8 +65,8 @@ module _ (old : Logged) (before : View) (p : Plain) (runs : Runs old before p) (
         let m = may_select in
         let did = selects m.saving m.under_way in
         let under = m.stored.under_way in
-        let files : Files = record old.files { slot = other old.files.slot; reached = m.saving.reached } in
-        let stored = subst (λ (f : Files). IsStored p.journal f m.saving.root m.image None Idle after) (ap (λ (e : Logged). e.files) did.same) stored_after in
+        let files : FilesHeld = record old.files { slot = other old.files.slot; reached = m.saving.reached } in
+        let stored = subst (λ (f : FilesHeld). IsStored p.journal f m.saving.root m.image None Idle after) (ap (λ (e : Logged). e.files) did.same) stored_after in
         let step_is : step p session statements.SaveFlip ≡ save_flipped p (Sealed m.captured m.pages m.image) = carried_out p session statements.SaveFlip refl none refl ∙ ap (save_flipped p) is.5 in
         let plain : IsPlain (in_phase p Idle m.pages) = subst (λ (x : Phase). IsPlain (save_flipped p x).plain) is.5 (save_flipped_is p runs.stands.plain) in
         let even = subst (λ (o : Option Saving). IsEven o) m.under_way runs.even in
@@ -102,16 +103,16 @@ serves_flipped old new before after session entries none selects may told later 
     root_sound : (n : ℕ) → replies.Root n ≡ replies.DiskFault → ⊥
     root_sound n is = cc
 
-pub serves_unflipped : (old new : Logged) (before after : View) (session : ℕ) → ((p : Plain) → Runs old before p → save_why p.phase statements.SaveFlip ≡ None) → ((s : Saving) → old.saving ≡ Some s → MayFlip s.reached old.files before after)
-    → new.down ≡ true → after.told ≡ before.told → before.faults ≤ after.faults → Rose before.faults after.faults → Serves old before session statements.SaveFlip replies.DiskFault new after
-serves_unflipped old new before after session none may down told later rose = record {
+pub serves_unflipped : (old new : Logged) (before after : View) (session : ℕ) (reply : Reply) → ((p : Plain) → Runs old before p → save_why p.phase statements.SaveFlip ≡ None) → ((s : Saving) → old.saving ≡ Some s → MayFlip s.reached old.files before after)
+    → reply ≡ replies.DiskFault → new.down ≡ true → after.told ≡ before.told → before.faults ≤ after.faults → Rose before.faults after.faults → Serves old before session statements.SaveFlip reply new after
+serves_unflipped old new before after session reply none may fault down told later rose = subst (λ (r : Reply). Serves old before session statements.SaveFlip r new after) (sym fault) (record {
   each = λ p runs. inr (lost_save old new before after session statements.SaveFlip p refl (may_fault p session statements.SaveFlip refl (none p runs) refl refl) down (flip_run old before p runs (none p runs) after may));
   keeps = λ p runs not_flip. absurd (not_flip refl);
   selects = λ p runs flip. selects_none p.phase replies.DiskFault new after (λ n is. no_root n is);
   told = told;
   later = later;
   cause = λ _. rose;
-}
+})
   where
     no_root : (n : ℕ) → replies.DiskFault ≡ replies.Root n → ⊥
     no_root n is = cc

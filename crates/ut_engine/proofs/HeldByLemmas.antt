@@ -118,11 +118,11 @@ held_some counting (Some x) row is = (x, refl, by (counting x.stamp.begin && not
 pub held_by : (e : Held) (p : Plain) → AreRows e p → p.opening ≤ journal_len p.journal → AreHeldBy p.stages (current p.journal).rows
 held_by e p rows opened = record {
   each = λ n pl stands live.
-      let there : StandsAnywhere (unwrap_or (option_map stages_of (slice_get e.staged n)) no_stages) pl = subst (λ (o : Option TableStages). StandsAnywhere (unwrap_or o no_stages) pl) (table n) stands in
-      let at = from_plain (slice_get e.staged n) pl there in
+      let there : StandsAnywhere (unwrap_or (option_map stages_of (slice_get e.rows.staged n)) no_stages) pl = subst (λ (o : Option TableStages). StandsAnywhere (unwrap_or o no_stages) pl) (table n) stands in
+      let at = from_plain (slice_get e.rows.staged n) pl there in
       row_is n pl at.0 at.1 at.2 at.3 live;
   only = λ id row is.
-      let h = held_some (counts e.fates (journal_len p.journal) None) (rows.held id) row (sym (shows id) ∙ is) in
+      let h = held_some (counts e.rows.fates (journal_len p.journal) None) (rows.held id) row (sym (shows id) ∙ is) in
       let at = ⊎_elim (λ g. absurd (not_gone id h.0 row h.1 (sym (shows id) ∙ is) g)) (λ found. found) (rows.places.only id h.0 h.1) in
       (at.0, placed_of at.2, stands_in at.0 at.1 at.2 at.3, live_at id row at.2 at.4 at.5 is, at.5, same_row at.0 at.2 h.0 row at.6 h.2);
 }
@@ -131,20 +131,20 @@ held_by e p rows opened = record {
     nobody n h = cc
 
     -- a row that is there isn't gone
-    not_gone : (id : ℕ) (x : Stamped) (row : Stored) → rows.held id ≡ Some x → shown_by (counts e.fates (journal_len p.journal) None) (rows.held id) ≡ Some row → IsGone e.fates p.sessions x.stamp → ⊥
+    not_gone : (id : ℕ) (x : Stamped) (row : Stored) → rows.held id ≡ Some x → shown_by (counts e.rows.fates (journal_len p.journal) None) (rows.held id) ≡ Some row → IsGone e.rows.fates p.sessions x.stamp → ⊥
     not_gone id x row has shown gone =
-        let seen : sees e.fates (journal_len p.journal) None x.stamp ≡ true = shown_seen (sees e.fates (journal_len p.journal) None x.stamp) x.stored row (sym (ap (shown_by (counts e.fates (journal_len p.journal) None)) has) ∙ shown) in
-        let unseen : sees e.fates (journal_len p.journal) None x.stamp ≡ false = gone_unseen e.fates p.sessions x.stamp (journal_len p.journal) None (λ u h. absurd (nobody u h)) (λ b c t over behind le. rows.exact.within t c over) gone in
+        let seen : sees e.rows.fates (journal_len p.journal) None x.stamp ≡ true = shown_seen (sees e.rows.fates (journal_len p.journal) None x.stamp) x.stored row (sym (ap (shown_by (counts e.rows.fates (journal_len p.journal) None)) has) ∙ shown) in
+        let unseen : sees e.rows.fates (journal_len p.journal) None x.stamp ≡ false = gone_unseen e.rows.fates p.sessions x.stamp (journal_len p.journal) None (λ u h. absurd (nobody u h)) (λ b c t over behind le. rows.exact.within t c over) gone in
         let differ : true ≡ false = sym seen ∙ unseen in absurd cc
 
-    shows : (id : ℕ) → finmap.get (current p.journal).rows id ≡ shown_by (counts e.fates (journal_len p.journal) None) (rows.held id)
+    shows : (id : ℕ) → finmap.get (current p.journal).rows id ≡ shown_by (counts e.rows.fates (journal_len p.journal) None) (rows.held id)
     shows id = ap (λ (s : State). finmap.get s.rows id) (sym (state_at-last p.journal (journal_len p.journal) (omega arith))) ∙ rows.exact.shows (journal_len p.journal) opened (omega arith) id
 
-    table : (n : ℕ) → slice_get p.stages n ≡ option_map stages_of (slice_get e.staged n)
-    table n = ap (λ (l : List TableStages). slice_get l n) rows.stages ∙ slice_get-map stages_of e.staged n
+    table : (n : ℕ) → slice_get p.stages n ≡ option_map stages_of (slice_get e.rows.staged n)
+    table n = ap (λ (l : List TableStages). slice_get l n) rows.stages ∙ slice_get-map stages_of e.rows.staged n
 
-    stands_in : (n : ℕ) (q : Place) (r : StagedRow) → option_and_then (λ s. row_at s q) (slice_get e.staged n) ≡ Some r → StandsAnywhere (unwrap_or (slice_get p.stages n) no_stages) (placed_of r)
-    stands_in n q r at = subst (λ (o : Option TableStages). StandsAnywhere (unwrap_or o no_stages) (placed_of r)) (sym (table n)) (to_plain (slice_get e.staged n) q r at)
+    stands_in : (n : ℕ) (q : Place) (r : StagedRow) → option_and_then (λ s. row_at s q) (slice_get e.rows.staged n) ≡ Some r → StandsAnywhere (unwrap_or (slice_get p.stages n) no_stages) (placed_of r)
+    stands_in n q r at = subst (λ (o : Option TableStages). StandsAnywhere (unwrap_or o no_stages) (placed_of r)) (sym (table n)) (to_plain (slice_get e.rows.staged n) q r at)
 
     live_at : (id : ℕ) (row : Stored) (r : StagedRow) → is_dead r.stamp ≡ false → r.id ≡ id → finmap.get (current p.journal).rows id ≡ Some row → is_live (current p.journal).rows (placed_of r) ≡ true
     live_at id row r alive same is = ap (λ (b : Bool). not b && is_some (finmap.get (current p.journal).rows r.id)) alive ∙ ap (λ (i : ℕ). is_some (finmap.get (current p.journal).rows i)) same ∙ ap is_some is
@@ -153,11 +153,11 @@ held_by e p rows opened = record {
     same_row n r x row same is = ap (λ (y : Stamped). y.stored) same ∙ is
 
     -- a live place holds its row
-    row_is : (n : ℕ) (pl : Placed) (q : Place) (r : StagedRow) → option_and_then (λ s. row_at s q) (slice_get e.staged n) ≡ Some r → placed_of r ≡ pl → is_live (current p.journal).rows pl ≡ true → finmap.get (current p.journal).rows pl.id ≡ Some (row_of n pl)
+    row_is : (n : ℕ) (pl : Placed) (q : Place) (r : StagedRow) → option_and_then (λ s. row_at s q) (slice_get e.rows.staged n) ≡ Some r → placed_of r ≡ pl → is_live (current p.journal).rows pl ≡ true → finmap.get (current p.journal).rows pl.id ≡ Some (row_of n pl)
     row_is n pl q r at same live =
         let alive : is_dead r.stamp ≡ false = ap (λ (x : Placed). x.dead) same ∙ not_true pl.dead (and_first (not pl.dead) (is_some (finmap.get (current p.journal).rows pl.id)) live) in
         let id : r.id ≡ pl.id = ap (λ (x : Placed). x.id) same in
-        let shown = shows r.id ∙ ap (shown_by (counts e.fates (journal_len p.journal) None)) (rows.places.each n q r at alive) in
+        let shown = shows r.id ∙ ap (shown_by (counts e.rows.fates (journal_len p.journal) None)) (rows.places.each n q r at alive) in
         let some : is_some (finmap.get (current p.journal).rows r.id) ≡ true = ap (λ (i : ℕ). is_some (finmap.get (current p.journal).rows i)) id ∙ and_second (not pl.dead) (is_some (finmap.get (current p.journal).rows pl.id)) live in
-        let is = shown_some (counts e.fates (journal_len p.journal) None r.stamp.begin && not (has_ended (counts e.fates (journal_len p.journal) None) r.stamp.end)) (stamped_in n r).stored (finmap.get (current p.journal).rows r.id) shown some in
+        let is = shown_some (counts e.rows.fates (journal_len p.journal) None r.stamp.begin && not (has_ended (counts e.rows.fates (journal_len p.journal) None) r.stamp.end)) (stamped_in n r).stored (finmap.get (current p.journal).rows r.id) shown some in
         ap (λ (i : ℕ). finmap.get (current p.journal).rows i) (sym id) ∙ is ∙ ap (λ (x : Placed). Some (row_of n x)) same

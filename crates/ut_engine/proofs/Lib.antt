@@ -9,7 +9,6 @@ pub mod SaveLemmas
 pub mod UnchangedLemmas
 pub mod PhaseLemmas
 pub mod PagesLemmas
-pub mod TurnLemmas
 pub mod WriteLemmas
 pub mod FlipLemmas
 pub mod HeldByLemmas

@@ -34,7 +34,7 @@ use Rattle.ut_store.specs.Jobs.{pending_job}
 use Rattle.ut_store.proofs.MergeTurnLemmas.{merged_table}
 use Rattle.ut_engine.specs.declared.error.BeginError.{BeginError}
 use Rattle.ut_engine.specs.declared.error.BeginError.TheVariants as errors
-use Rattle.ut_engine.specs.Handing.{HandsOut, AtOnce, Logs, Fails}
+use Rattle.ut_engine.specs.Handing.{Concludes, HandsOut, AtOnce, Logs, Fails}
 use Rattle.ut_engine.specs.Logged.{Logged}
 use Rattle.ut_engine.specs.Merging.{begin_reply, is_fault, HasReason, Tells, BringsJob}
 use Rattle.ut_engine.specs.Runs.{Runs}
@@ -124,13 +124,14 @@ brings (MergeBegin name kind) (replies.Merge n) job e each = each name kind n re
 brings (MergeBegin name kind) reply job e each = tt
 brings st reply job e each = tt
 
-pub job_handed : (old new : Logged) (store : Held) (turn : Turn) (before after : View) (session : ℕ) (st : Statement) (reply : Reply) (job : Option JobValue) (p : Plain) → StandsFor old.store p → Answers old.store session st turn store
-    → jobs.HandsOut st turn job store → HandsOut turn (record old { store = store }) before reply new after → BringsJob st reply job new.store
-job_handed old new store turn before after session st reply job p stands answers hands handed =
-    brings st reply job new.store (λ name kind n is told.
-    brought old new store turn before after session name kind n reply job p stands
+pub job_brought : (old new : Logged) (store : Held) (turn : Turn) (first : ℕ) (before after : View) (session : ℕ) (st : Statement) (reply : Reply) (job : Option JobValue) (p : Plain) → StandsFor old.store p → Answers old.store session st turn store
+    → jobs.HandsOut st turn job store → Concludes turn session st first (record old { store = store }) before reply new after → BringsJob st reply job new.store
+job_brought old new store turn first before after session st reply job p stands answers hands done =
+    subst (λ (e : Held). BringsJob st reply job e) (sym (ap (λ (e : Logged). e.store) done.notes))
+    (brings st reply job done.handed.store (λ name kind n is told.
+    brought old done.handed store turn before after session name kind n reply job p stands
     (subst (λ (s : Statement). Answers old.store session s turn store) is answers)
-    (subst (λ (s : Statement). jobs.HandsOut s turn job store) is hands) told handed)
+    (subst (λ (s : Statement). jobs.HandsOut s turn job store) is hands) told done.hands))
 
 -- ---- the answer that tells a reply
 
@@ -187,16 +188,16 @@ merge_told reply job n j has is here = by has.0 has.1
     by (Err errors.Disk) tells = let no = tells.0 ∙ is in cc
 
 -- where no merge began and nothing was refused, the disk failed
-pub fault_told : (reply : Reply) (job : Option JobValue) → HasAnswer reply job → ((n : ℕ) → reply ≡ replies.Merge n → ⊥) → ((why : Refusal) → reply ≡ replies.Refused why → ⊥) → Tells (Err errors.Disk) reply job
-fault_told reply job has not_merge not_refused = by has.0 has.1
+pub no_other : (reply : Reply) (job : Option JobValue) → HasAnswer reply job → ((n : ℕ) → reply ≡ replies.Merge n → ⊥) → ((why : Refusal) → reply ≡ replies.Refused why → ⊥) → (reply ≡ replies.DiskFault → ⊥) → ⊥
+no_other reply job has not_merge not_refused not_fault = by has.0 has.1
   where
-    by : (answer : Result JobValue BeginError) → Tells answer reply job → Tells (Err errors.Disk) reply job
-    by (Ok x) tells = absurd (not_merge x.head.number (sym tells.0))
-    by (Err errors.Name) tells = absurd (not_refused _ (sym tells.0))
-    by (Err (errors.Busy k)) tells = absurd (not_refused _ (sym tells.0))
-    by (Err errors.Full) tells = absurd (not_refused _ (sym tells.0))
-    by (Err errors.Memory) tells = absurd (not_refused _ (sym tells.0))
-    by (Err errors.Disk) tells = (tells.0, tt)
+    by : (answer : Result JobValue BeginError) → Tells answer reply job → ⊥
+    by (Ok x) tells = not_merge x.head.number (sym tells.0)
+    by (Err errors.Name) tells = not_refused _ (sym tells.0)
+    by (Err (errors.Busy k)) tells = not_refused _ (sym tells.0)
+    by (Err errors.Full) tells = not_refused _ (sym tells.0)
+    by (Err errors.Memory) tells = not_refused _ (sym tells.0)
+    by (Err errors.Disk) tells = not_fault (sym tells.0)
 
 -- ---- its reason
 
@@ -241,10 +242,10 @@ has_reason (Err errors.Memory) there pending h = tt
 has_reason (Err errors.Disk) there pending h = h
 
 pub begin_reason : (old new : Logged) (before after : View) (name : List ℕ) (kind : MergeKind) (reply : Reply) (result : Result JobValue BeginError) (p : Plain) → Runs old before p → Serves old before 0 (MergeBegin name kind) reply new after → begin_reply result ≡ reply
-    → HasReason result (has_table old.store.tables name) old.store.pending
+    → HasReason result (has_table old.store.rows.tables name) old.store.counts.pending
 begin_reason old new before after name kind reply result p runs serves is =
-    has_reason result (has_table old.store.tables name) old.store.pending
-    (subst (λ (ts : List Table). ReasonOf (begin_reply result) (has_table ts name) old.store.pending) (sym runs.stands.counts.tables)
+    has_reason result (has_table old.store.rows.tables name) old.store.counts.pending
+    (subst (λ (ts : List Table). ReasonOf (begin_reply result) (has_table ts name) old.store.counts.pending) (sym runs.stands.counts.tables)
     (subst (λ (o : Option PendingMerge). ReasonOf (begin_reply result) (has_table (current p.journal).tables name) o) (sym runs.stands.counts.pending)
     (subst (λ (r : Reply). ReasonOf r (has_table (current p.journal).tables name) p.pending) (sym is) (by_case (serves.each p runs)))))
   where

@@ -8,7 +8,7 @@ use Rattle.ut_outside.proofs.RunLemmas.{started, joined}
 use Rattle.ut_plain.specs.Plain.{Writing}
 use Rattle.ut_pages.specs.Layout.{HasPage}
 use Rattle.ut_pages.specs.Crash.{ChangesOnly}
-use Rattle.ut_durable.specs.Calls.{Held as Files, IsSettled, Stays}
+use Rattle.ut_durable.specs.Calls.{FilesHeld, IsSettled, Stays}
 use Rattle.ut_durable.specs.Files.{Rests}
 use Rattle.ut_durable.specs.Saving.{Planned, Saving, IsStored}
 use Rattle.ut_durable.proofs.CallLemmas.{settled}
@@ -19,7 +19,7 @@ use Rattle.ut_engine.proofs.StoredLemmas.{two}
 
 -- ---- calls that leave what is selected follow each other
 
-pub stays_then : (f : Files) (v0 v1 v2 : View) → v1.told ≡ v0.told → Stays f v0 v1 → Stays f v1 v2 → Stays f v0 v2
+pub stays_then : (f : FilesHeld) (v0 v1 v2 : View) → v1.told ≡ v0.told → Stays f v0 v1 → Stays f v1 v2 → Stays f v0 v2
 stays_then f v0 v1 v2 told first second = record {
   rests = λ j root d rests. second.rests j root d (first.rests j root d rests);
   any_moment = λ j root d rests is_told.
@@ -28,7 +28,7 @@ stays_then f v0 v1 v2 told first second = record {
 }
 
 -- where nothing was called
-pub stays_none : (f : Files) (v : View) → ((c : Image) → v.crash_states_since v.moment c → v.crash_states c) → Stays f v v
+pub stays_none : (f : FilesHeld) (v : View) → ((c : Image) → v.crash_states_since v.moment c → v.crash_states c) → Stays f v v
 stays_none f v only = record {
   rests = λ j root d rests. rests;
   any_moment = λ j root d rests is_told. started v (Rests j f.slot f.reached root d f.log) (λ c left. rests is_told c (only c left));
@@ -73,7 +73,7 @@ goes_one old new before after p next same told stays here others = record {
 }
 
 -- the page that was next
-pub page_written : (old new : Logged) (before after : View) (s t : Saving) (p : Planned) (files : Files) → old.saving ≡ Some s → slice_get s.planned s.done ≡ Some p → s.done < length s.planned
+pub page_written : (old new : Logged) (before after : View) (s t : Saving) (p : Planned) (files : FilesHeld) → old.saving ≡ Some s → slice_get s.planned s.done ≡ Some p → s.done < length s.planned
     → t ≡ record s { done = s.done + 1 } → files ≡ old.files → new ≡ record old { files = files; saving = Some t }
     → after.told ≡ before.told → Stays old.files before after → (IsTold before → HasPage p.n p.next p.payload after.seen.pages) → (IsTold before → OnFile Pages (ChangesOnly p.n (length before.seen.pages)) before.seen after.seen)
     → Goes 1 old before new after
@@ -93,8 +93,8 @@ goes_more count old mid new v0 v1 v2 first second = record {
   stored = λ j selected d s b n q c is stored.
       let mid_is : mid.saving ≡ Some (more count s) = ap (λ (e : Logged). e.saving) first.same ∙ ap (option_map (more count)) is in
       let files : mid.files ≡ old.files = ap (λ (e : Logged). e.files) first.same in
-      let at = subst (λ (f : Files). IsStored j f selected d (Some (more count s)) (Writing b (n + count) q c) v1) (sym files) (first.stored j selected d s b n q c is stored) in
-      let done = subst (λ (f : Files). IsStored j f selected d (Some (more 1 (more count s))) (Writing b (n + count + 1) q c) v2) files (second.stored j selected d (more count s) b (n + count) q c mid_is at) in
+      let at = subst (λ (f : FilesHeld). IsStored j f selected d (Some (more count s)) (Writing b (n + count) q c) v1) (sym files) (first.stored j selected d s b n q c is stored) in
+      let done = subst (λ (f : FilesHeld). IsStored j f selected d (Some (more 1 (more count s))) (Writing b (n + count + 1) q c) v2) files (second.stored j selected d (more count s) b (n + count) q c mid_is at) in
       subst (λ (k : ℕ). IsStored j old.files selected d (Some (record s { done = k })) (Writing b (n + (count + 1)) q c) v2) (both s.done count)
       (subst (λ (k : ℕ). IsStored j old.files selected d (Some (more 1 (more count s))) (Writing b k q c) v2) (both n count) done);
 }
@@ -118,6 +118,6 @@ goes_on count old new before after may goes = record {
   done = may.done + count;
   pages = may.pages;
   image = may.image;
-  stored = subst (λ (f : Files). IsStored may.journal f may.selected may.directory (Some (more count may.saving)) (Writing may.captured (may.done + count) may.pages may.image) after) (sym (ap (λ (e : Logged). e.files) goes.same))
+  stored = subst (λ (f : FilesHeld). IsStored may.journal f may.selected may.directory (Some (more count may.saving)) (Writing may.captured (may.done + count) may.pages may.image) after) (sym (ap (λ (e : Logged). e.files) goes.same))
       (goes.stored may.journal may.selected may.directory may.saving may.captured may.done may.pages may.image may.under_way may.stored);
 }

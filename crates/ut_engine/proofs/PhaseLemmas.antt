@@ -8,6 +8,7 @@ use Rattle.ut_plain.specs.declared.stage.Progress.{Progress}
 use Rattle.ut_plain.specs.declared.stage.Progress.TheVariants as steps
 use Rattle.ut_plain.specs.declared.statement.Statement.{Statement}
 use Rattle.ut_plain.specs.declared.statement.Statement.TheVariants as statements
+use Rattle.ut_plain.specs.declared.reply.Reply.{Reply}
 use Rattle.ut_plain.specs.declared.reply.Why.{Why}
 use Rattle.ut_plain.specs.declared.reply.Why.TheVariants as whys
 use Rattle.ut_plain.specs.Journal.{Journal, journal_len}
@@ -17,7 +18,7 @@ use Rattle.ut_plain.specs.Progress.{phase_of}
 use Rattle.ut_plain.specs.Reached.{IsPlain, IsUnderWay}
 use Rattle.ut_plain.specs.Refusals.{save_why}
 use Rattle.ut_pages.specs.declared.root.Root.{Root}
-use Rattle.ut_durable.specs.Calls.{Held as Files}
+use Rattle.ut_durable.specs.Calls.{FilesHeld}
 use Rattle.ut_durable.specs.Journals.{place_of}
 use Rattle.ut_durable.specs.Saving.{Saving, IsSaving, IsStored}
 use Rattle.ut_store.specs.Held.{Held}
@@ -25,14 +26,14 @@ use Rattle.ut_store.specs.Stands.{StandsFor}
 use Rattle.ut_nextid.specs.NextIds.{Noted, Keeps}
 use Rattle.ut_engine.specs.Logged.{Logged}
 use Rattle.ut_engine.specs.Runs.{Runs, IsEven}
-use Rattle.ut_engine.specs.Savepoints.{progress_of, IsCounted}
+use Rattle.ut_engine.specs.Savepoints.{progress_of, IsCounted, IsInTurn, IsOutOfTurn}
 
 -- ---- how far it is
 
 abbrev HasPhase : Option Saving → Phase → Type 0
 HasPhase saving phase = (captured : ℕ) × (image : Directory) × (phase ≡ phase_of (progress_of saving) captured image)
 
-has_phase : (j : Journal) (f : Files) (selected : Root) (disk : View) (saving : Option Saving) (phase : Phase) → IsSaving j f selected disk saving phase → HasPhase saving phase
+has_phase : (j : Journal) (f : FilesHeld) (selected : Root) (disk : View) (saving : Option Saving) (phase : Phase) → IsSaving j f selected disk saving phase → HasPhase saving phase
 has_phase j f selected disk None Idle is = (0, record { tables = []; stages = [] }, refl)
 has_phase j f selected disk None (Writing b p q d) is = absurd is
 has_phase j f selected disk None (Sealed b q d) is = absurd is
@@ -43,11 +44,11 @@ has_phase j f selected disk (Some s) (Sealed b q d) is =
     (b, d, (λ i. Sealed b (is.pages i) d) ∙ sym (ap (λ (x : Bool). phase_of (cond x (steps.Sealed (length s.planned)) (steps.Writing s.done (length s.planned))) b d) is.sealed))
 
 module _ (e : Logged) (disk : View) (p : Plain) (runs : Runs e disk p) where
-  -- what was found of the savepoint in memory is what the phase says
-  pub why_told : (st : Statement) (why : Option Why) → ((captured : ℕ) (image : Directory) → why ≡ save_why (phase_of (progress_of e.saving) captured image) st) → save_why p.phase st ≡ why
-  why_told st why told =
+  -- what is found of the savepoint in memory is what the phase says
+  why_told : (st : Statement) (why : Option Why) → ((captured : ℕ) (image : Directory) → save_why (phase_of (progress_of e.saving) captured image) st ≡ why) → save_why p.phase st ≡ why
+  why_told st why found =
       let has = has_phase p.journal e.files runs.root disk e.saving p.phase runs.stored.under_way in
-      ap (λ (phase : Phase). save_why phase st) has.2 ∙ sym (told has.0 has.1)
+      ap (λ (phase : Phase). save_why phase st) has.2 ∙ found has.0 has.1
 
   pub is_counted : IsCounted e.saving
   is_counted = by e.saving p.phase runs.stored.under_way runs.stands.plain.saving
@@ -62,11 +63,16 @@ module _ (e : Logged) (disk : View) (p : Plain) (runs : Runs e disk p) where
           differ true f t = cc
           differ false f t = cc
 
--- the same of an answer that was found in a program
-pub why_found : (e : Logged) (disk : View) (st : Statement) (progress : Progress) (result why : Option Why) → progress ≡ progress_of e.saving → ((captured : ℕ) (image : Directory) → result ≡ save_why (phase_of progress captured image) st) → result ≡ why
-    → (p : Plain) → Runs e disk p → save_why p.phase st ≡ why
-why_found e disk st progress result why at told is p runs =
-    why_told e disk p runs st why (λ captured image. sym is ∙ told captured image ∙ ap (λ (x : Progress). save_why (phase_of x captured image) st) at)
+pub out_of_turn : (e : Logged) (disk : View) (st : Statement) (reply : Reply) (out : IsOutOfTurn e.saving st reply) (p : Plain) → Runs e disk p → save_why p.phase st ≡ Some out.why
+out_of_turn e disk st reply out p runs = why_told e disk p runs st (Some out.why) out.each
+
+pub in_turn : (e : Logged) (disk : View) (st : Statement) → IsInTurn e.saving st → (p : Plain) → Runs e disk p → save_why p.phase st ≡ None
+in_turn e disk st passes p runs = why_told e disk p runs st None passes
+
+-- an answer that was found by the savepoint in memory
+pub why_found : (saving : Option Saving) (st : Statement) (progress : Progress) (result why : Option Why) → progress ≡ progress_of saving → ((captured : ℕ) (image : Directory) → result ≡ save_why (phase_of progress captured image) st) → result ≡ why
+    → (captured : ℕ) (image : Directory) → save_why (phase_of (progress_of saving) captured image) st ≡ why
+why_found saving st progress result why at told is captured image = ap (λ (x : Progress). save_why (phase_of x captured image) st) (sym at) ∙ sym (told captured image) ∙ is
 
 -- ---- which phase lets a statement pass
 
@@ -80,7 +86,7 @@ else_none : (b : Bool) (why : Why) → cond b None (Some why) ≡ None → b ≡
 else_none true why is = refl
 else_none false why is = cc
 
-module _ (j : Journal) (f : Files) (selected : Root) (disk : View) where
+module _ (j : Journal) (f : FilesHeld) (selected : Root) (disk : View) where
   pub writing_now : (n : ℕ) (saving : Option Saving) (phase : Phase) → IsSaving j f selected disk saving phase → save_why phase (statements.SaveStep n) ≡ None → IsWritingNow saving phase
   writing_now n None Idle is none = cc
   writing_now n None (Writing b p q d) is none = absurd is
@@ -142,7 +148,7 @@ keeps_in : (n : Noted) (p : Plain) (phase : Phase) (pages : ℕ) → Keeps n p �
 keeps_in n p phase pages keeps = record { seats = keeps.seats; next = keeps.next; own = keeps.own }
 
 module _ (old : Logged) (before after : View) (p : Plain) (runs : Runs old before p) where
-  pub runs_in : (files : Files) (saving : Option Saving) (root : Root) (d : Directory) (phase : Phase) (pages : ℕ) → IsPlain (in_phase p phase pages) → IsStored p.journal files root d saving phase after → IsEven saving
+  pub runs_in : (files : FilesHeld) (saving : Option Saving) (root : Root) (d : Directory) (phase : Phase) (pages : ℕ) → IsPlain (in_phase p phase pages) → IsStored p.journal files root d saving phase after → IsEven saving
       → IsLogFile files.log.file → files.log.end ≤ 2147483648 * journal_len p.journal → pages ≡ length files.reached
       → Runs (record old { files = files; begins = (place_of root).file; saving = saving }) after (in_phase p phase pages)
   runs_in files saving root d phase pages plain stored even log short reached = record {
@@ -162,7 +168,7 @@ module _ (old : Logged) (before after : View) (p : Plain) (runs : Runs old befor
   }
 
   -- with the same selected root
-  pub runs_on : (files : Files) (saving : Option Saving) (phase : Phase) → IsPlain (in_phase p phase p.root_pages) → IsStored p.journal files runs.root runs.directory saving phase after → IsEven saving
+  pub runs_on : (files : FilesHeld) (saving : Option Saving) (phase : Phase) → IsPlain (in_phase p phase p.root_pages) → IsStored p.journal files runs.root runs.directory saving phase after → IsEven saving
       → IsLogFile files.log.file → files.log.end ≤ 2147483648 * journal_len p.journal → files.reached ≡ old.files.reached
       → Runs (record old { files = files; saving = saving }) after (in_phase p phase p.root_pages)
   runs_on files saving phase plain stored even log short reached = record {

@@ -1,11 +1,11 @@
 -- The calls by which the root of a savepoint is written and selected.
-use Rattle.std.proofs.Common.{◌≡◌, ℕ, List, Option, None, Some, sym, ◌∙◌, ap, subst}
+use Rattle.std.proofs.Common.{◌≡◌, ℕ, ◌<◌, List, Option, None, Some, sym, ◌∙◌, ap, subst, arith}
 use Rattle.std.specs.Option.{option_map}
 use Rattle.ut_outside.specs.declared.disk.Which.{Which}
 use Rattle.ut_outside.specs.Disk.{View}
 use Rattle.ut_pages.specs.declared.root.Root.{Root}
 use Rattle.ut_pages.specs.Layout.{other}
-use Rattle.ut_durable.specs.Calls.{Held as Files, IsSettled, BecomesReady, Flips, MayFlip}
+use Rattle.ut_durable.specs.Calls.{FilesHeld, IsSettled, BecomesReady, Flips, MayFlip}
 use Rattle.ut_durable.specs.Journals.{log_file}
 use Rattle.ut_durable.specs.Saving.{Saving}
 use Rattle.ut_durable.proofs.CallLemmas.{settled}
@@ -17,7 +17,7 @@ same_one s x is = cc
 
 -- ---- it is written
 
-pub sealed_root : (old : Logged) (before after : View) (s t : Saving) (files : Files) (root : Root) → old.saving ≡ Some s → root ≡ s.root → t ≡ with_root s → files ≡ old.files → BecomesReady root old.files before after
+pub sealed_root : (old : Logged) (before after : View) (s t : Saving) (files : FilesHeld) (root : Root) → old.saving ≡ Some s → root ≡ s.root → t ≡ with_root s → files ≡ old.files → BecomesReady root old.files before after
     → Seals old before (record old { files = files; saving = Some t }) after
 sealed_root old before after s t files root is of wrote kept ready = record {
   same = (λ i. record old { files = kept i; saving = Some (wrote i) }) ∙ ap (λ (o : Option Saving). record old { saving = option_map with_root o }) (sym is);
@@ -26,10 +26,17 @@ sealed_root old before after s t files root is of wrote kept ready = record {
 
 -- ---- it is selected
 
+-- its log begins in one of two files
+pub root_file : (e : Logged) (disk : View) (s : Saving) (root : Root) → MaySelect e disk → e.saving ≡ Some s → root ≡ s.root → root.file < 2
+root_file e disk s root may is of =
+    let allowed = may.stored.under_way.image.rules.allowed in
+    let same : root.file ≡ may.saving.root.file = ap (λ (r : Root). r.file) of ∙ ap (λ (x : Saving). x.root.file) (same_one s may.saving (sym is ∙ may.under_way)) in
+    omega (arith, allowed.file, allowed.version, same)
+
 pub select_settled : (e : Logged) (disk : View) → MaySelect e disk → IsSettled e.files disk
 select_settled e disk may = settled may.journal may.selected may.directory e.files disk may.stored.rests
 
-pub selected_root : (old : Logged) (before after : View) (s : Saving) (entries : ℕ) (files : Files) (reached : List ℕ) (begins : Which) → old.saving ≡ Some s → entries ≡ s.root.length → reached ≡ s.reached → begins ≡ log_file s.root.file
+pub selected_root : (old : Logged) (before after : View) (s : Saving) (entries : ℕ) (files : FilesHeld) (reached : List ℕ) (begins : Which) → old.saving ≡ Some s → entries ≡ s.root.length → reached ≡ s.reached → begins ≡ log_file s.root.file
     → files ≡ record old.files { slot = other old.files.slot; reached = reached } → Flips reached old.files files before after
     → (x : Saving) → old.saving ≡ Some x → SelectsRoot x old before entries (record old { files = files; begins = begins; saving = None }) after
 selected_root old before after s entries files reached begins is many pages from moved flips x at =

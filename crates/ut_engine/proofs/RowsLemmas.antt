@@ -14,7 +14,7 @@ some_mapped : {X Y : Type 0} (f : X → Y) (o : Option X) → is_some (option_ma
 some_mapped f None = refl
 some_mapped f (Some x) = refl
 
-pub listed_there : (e : Held) (name : List ℕ) (rows : Option (List Row)) → Stands e → Lists e name rows → is_some rows ≡ has_table e.tables name
+pub listed_there : (e : Held) (name : List ℕ) (rows : Option (List Row)) → Stands e → Lists e name rows → is_some rows ≡ has_table e.rows.tables name
 listed_there e name rows stands lists =
     let p = stands.plain in
     ap is_some (lists.each p stands.stands)

@@ -20,7 +20,7 @@ use Rattle.ut_plain.specs.declared.reply.Reply.{Reply}
 use Rattle.ut_plain.specs.declared.reply.Reply.TheVariants.{DiskFault}
 use Rattle.ut_plain.proofs.JournalLaws.{journal_len-appended}
 use Rattle.ut_plain.proofs.TranscriptLaws.{fault-appends}
-use Rattle.ut_durable.specs.Calls.{Held as Files, IsSettled, MayGain}
+use Rattle.ut_durable.specs.Calls.{FilesHeld, MayGain}
 use Rattle.ut_durable.specs.Files.{HasSelected}
 use Rattle.ut_durable.specs.Journals.{HoldsPrefix}
 use Rattle.ut_durable.specs.Moments.{Leaves}
@@ -31,9 +31,10 @@ use Rattle.ut_durable.proofs.SavingLemmas.{append_is_stored}
 use Rattle.ut_store.specs.declared.turn.Turn.{Turn}
 use Rattle.ut_store.specs.declared.turn.Turn.TheVariants.{Answered, Append}
 use Rattle.ut_store.specs.Held.{Held}
+use Rattle.ut_store.specs.Standing.{Stands}
 use Rattle.ut_store.specs.Stands.{StandsFor}
 use Rattle.ut_store.specs.Answers.{Answer, Answers}
-use Rattle.ut_engine.specs.Handing.{Appended, NotAppended, HandsOut, AtOnce, Logs, Fails}
+use Rattle.ut_engine.specs.Handing.{AreReady, Concludes, Appended, NotAppended, HandsOut, AtOnce, Logs, Fails}
 use Rattle.ut_engine.specs.Logged.{Logged}
 use Rattle.ut_placed.specs.Placed.{HasRows}
 use Rattle.ut_nextid.specs.NextIds.{Noted, Keeps, noted}
@@ -46,13 +47,20 @@ use Rattle.ut_engine.proofs.ReplyLemmas.{answer_sound, step_adds}
 use Rattle.ut_engine.proofs.SteadyLemmas.{Steady, answer_steady}
 use Rattle.ut_engine.proofs.StoredLemmas.{two, stored_read, read_leaves}
 
--- a running store's log has room
-pub has_room : (e : Logged) (disk : View) (p : Plain) → Runs e disk p → e.files.log.end ≤ 2 ^ 61
-has_room e disk p runs = let short = runs.short in let few = runs.stands.plain.short in omega (arith, short, few)
+-- a running store stands for a plain state
+pub runs_stand : (e : Logged) (disk : View) → (p : Plain) × Runs e disk p → Stands e.store
+runs_stand e disk ran = record { plain = ran.0; stands = ran.1.stands }
 
--- and its files are settled
-pub is_settled : (e : Logged) (disk : View) (p : Plain) → Runs e disk p → IsSettled e.files disk
-is_settled e disk p runs = settled p.journal runs.root runs.directory e.files disk runs.stored.rests
+-- and its files may be written
+pub are_ready : (e : Logged) (disk : View) → (p : Plain) × Runs e disk p → AreReady e.files disk
+are_ready e disk ran =
+    let p : Plain = ran.0 in
+    let runs : Runs e disk p = ran.1 in
+    record {
+      log = runs.log;
+      room = let short = runs.short in let few = runs.stands.plain.short in omega (arith, short, few);
+      settled = settled p.journal runs.root runs.directory e.files disk runs.stored.rests;
+    }
 
 -- the payload of what the log gains is the spelling of an entry
 spells : (p q : Plain) (entry : Entry) (payload : List ℕ) → IsPlain q → q.journal ≡ appended p.journal entry → payload ≡ spelling entry → Spells payload entry
@@ -70,7 +78,7 @@ to_root before after j least e p runs run = weaker before after (Leaves j least 
 -- ---- a store that runs on with the same savepoint
 
 module _ (old : Logged) (before after : View) (p q : Plain) (runs : Runs old before p) where
-  pub carried : (store : Held) (files : Files) (next : Noted) → StandsFor store q → HasRows q → Keeps next q → Steady p q → files.reached ≡ old.files.reached → files.log.file ≡ old.files.log.file → files.log.end ≤ 2147483648 * journal_len q.journal
+  pub carried : (store : Held) (files : FilesHeld) (next : Noted) → StandsFor store q → HasRows q → Keeps next q → Steady p q → files.reached ≡ old.files.reached → files.log.file ≡ old.files.log.file → files.log.end ≤ 2147483648 * journal_len q.journal
       → IsStored q.journal files runs.root runs.directory old.saving p.phase after → Runs (record old { store = store; files = files; next = next }) after q
   carried store files next stands rows keeps steady reached file short stored = record {
     up = runs.up;
@@ -92,16 +100,16 @@ module _ (old : Logged) (before after : View) (p q : Plain) (runs : Runs old bef
 
 -- what is noted of the next id once a statement was answered
 abbrev pub noted_by : Logged → ℕ → Statement → Reply → Held → Noted
-noted_by old session st reply store = noted old.next session st reply old.store.next_id store.next_id
+noted_by old session st reply store = noted old.next session st reply old.store.counts.next_id store.counts.next_id
 
 -- the store, once that is noted
-abbrev pub with_noted : Logged → (before : Held) → ℕ → Statement → Reply → Logged
-with_noted mid before session st reply = record mid { next = noted mid.next session st reply before.next_id mid.store.next_id }
+abbrev with_noted : Logged → (before : Held) → ℕ → Statement → Reply → Logged
+with_noted mid before session st reply = record mid { next = noted mid.next session st reply before.counts.next_id mid.store.counts.next_id }
 
 module _ (old : Logged) (before after : View) (session : ℕ) (low : session < 17) (st : Statement) (served : is_save st ≡ false) (spelled : IsTrue (is_spelled st)) (store : Held) (reply : Reply) (p : Plain) (runs : Runs old before p) where
   next_kept : (q : Plain) → StandsFor store q → MayAnswer p session st reply q → Keeps (noted_by old session st reply store) q
   next_kept q stands may =
-      subst (λ (b : ℕ). Keeps (noted old.next session st reply b store.next_id) q) (sym runs.stands.counts.next_id)
+      subst (λ (b : ℕ). Keeps (noted old.next session st reply b store.counts.next_id) q) (sym runs.stands.counts.next_id)
       (subst (λ (a : ℕ). Keeps (noted old.next session st reply p.next_id a) q) (sym stands.counts.next_id)
       (answer_noted old.next p session st reply q low runs.stands.plain spelled runs.next may))
 
@@ -140,18 +148,18 @@ module _ (old : Logged) (before after : View) (session : ℕ) (low : session < 1
         (to_prefix before after (appended p.journal entry) (journal_len p.journal) old p runs (leaves told))
 
     -- the entry was appended
-    grows : (files : Files) → Appended old.files files store.frame before after → IsAnswered p before session st reply (record old { store = store; files = files; next = noted_by old session st reply store }) after
+    grows : (files : FilesHeld) → Appended old.files files store.frame before after → IsAnswered p before session st reply (record old { store = store; files = files; next = noted_by old session st reply store }) after
     grows files done =
         let stored = append_is_stored (two before after) p.journal entry store.frame old.files files runs.root runs.directory old.saving p.phase false true answer.after spelling_of answer.stands.plain next done.place done.told done.pages done.gains runs.stored in
         let rule = entry_rule entry spelling_of.0 in
         let long : length store.frame ≤ 1073741824 = omega (arith, ap (λ (l : List ℕ). length l) answer.logs.2, entry_length entry, rule.1) in
-        let end : files.log.end ≡ old.files.log.end + length store.frame + 5 = ap (λ (f : Files). f.log.end) done.place in
+        let end : files.log.end ≡ old.files.log.end + length store.frame + 5 = ap (λ (f : FilesHeld). f.log.end) done.place in
         let short = runs.short in
         record {
           plain = answer.after;
           may = answer.may;
           runs = carried old before after p answer.after runs store files (noted_by old session st reply store) answer.stands (answer_rows p session st reply answer.after runs.stands.plain spelled runs.rows answer.may)
-              (next_kept answer.after answer.stands answer.may) (answer_steady p session st reply answer.after served answer.may) (ap (λ (f : Files). f.reached) done.place) (ap (λ (f : Files). f.log.file) done.place)
+              (next_kept answer.after answer.stands answer.may) (answer_steady p session st reply answer.after served answer.may) (ap (λ (f : FilesHeld). f.reached) done.place) (ap (λ (f : FilesHeld). f.log.file) done.place)
               (omega (arith, end, long, short, ap journal_len next, journal_len-appended p.journal entry))
               (subst (λ (j : Journal). IsStored j files runs.root runs.directory old.saving p.phase after) (sym next) stored);
           sound = answer_sound p session st reply answer.after answer.may;
@@ -191,7 +199,7 @@ module _ (old : Logged) (before after : View) (session : ℕ) (low : session < 1
         let answer = answers.each p runs.stands in
         to_root before after (appended p.journal answer.logs.0) (journal_len p.journal) old p runs (leaves old before after session low st served spelled store reply p runs answer moments told)
 
-    serves_grows : (files : Files) → Appended old.files files store.frame before after → Serves old before session st reply (record old { store = store; files = files; next = noted_by old session st reply store }) after
+    serves_grows : (files : FilesHeld) → Appended old.files files store.frame before after → Serves old before session st reply (record old { store = store; files = files; next = noted_by old session st reply store }) after
     serves_grows files done = record {
       each = λ p runs. inl (grows old before after session low st served spelled store reply p runs (answers.each p runs.stands) moments files done);
       keeps = λ p runs other. keeps_root p runs;
@@ -212,7 +220,7 @@ module _ (old : Logged) (before after : View) (session : ℕ) (low : session < 1
     }
 
 -- the store does its work in memory, then hands out the reply, and notes the next id
-pub serves_handed : (old mid : Logged) (store : Held) (turn : Turn) (before after : View) (session : ℕ) (st : Statement) (reply : Reply) → session < 17 → is_save st ≡ false → IsTrue (is_spelled st) → (p : Plain) → Runs old before p → Answers old.store session st turn store
+serves_handed : (old mid : Logged) (store : Held) (turn : Turn) (before after : View) (session : ℕ) (st : Statement) (reply : Reply) → session < 17 → is_save st ≡ false → IsTrue (is_spelled st) → (p : Plain) → Runs old before p → Answers old.store session st turn store
     → HandsOut turn (record old { store = store }) before reply mid after → Serves old before session st reply (with_noted mid old.store session st reply) after
 serves_handed old mid store turn before after session st reply low served spelled p runs answers (AtOnce said same reads) =
     subst (λ (e : Logged). Serves old before session st reply (with_noted e old.store session st reply) after) (sym same)
@@ -224,8 +232,10 @@ serves_handed old mid store turn before after session st reply low served spelle
     subst (λ (r : Reply). Serves old before session st r (with_noted mid old.store session st reply) after) (sym fault)
     (serves_fails old before after session low st served spelled store kept p runs (subst (λ (t : Turn). Answers old.store session st t store) said answers) moments (with_noted mid old.store session st reply) down failed)
 
--- the next id is noted by those of the store before and after
-pub serves_noted : (old mid : Logged) (before after : View) (session : ℕ) (st : Statement) (reply : Reply) (next : Noted) (a b : ℕ) → a ≡ old.store.next_id → b ≡ mid.store.next_id → next ≡ noted mid.next session st reply a b
-    → Serves old before session st reply (with_noted mid old.store session st reply) after → Serves old before session st reply (record mid { next = next }) after
-serves_noted old mid before after session st reply ids a b a_is b_is is serves =
-    subst (λ (n : Noted). Serves old before session st reply (record mid { next = n }) after) (sym (is ∙ (λ i. noted mid.next session st reply (a_is i) (b_is i)))) serves
+-- the whole of it
+pub serves_concluded : (old new : Logged) (store : Held) (turn : Turn) (first : ℕ) (before after : View) (session : ℕ) (st : Statement) (reply : Reply) → session < 17 → is_save st ≡ false → IsTrue (is_spelled st) → (p : Plain) × Runs old before p → first ≡ old.store.counts.next_id
+    → Answers old.store session st turn store → Concludes turn session st first (record old { store = store }) before reply new after → Serves old before session st reply new after
+serves_concluded old new store turn first before after session st reply low served spelled ran was answers done =
+    let handed : Logged = done.handed in
+    subst (λ (e : Logged). Serves old before session st reply e after) (sym (done.notes ∙ ap (λ (id : ℕ). record handed { next = noted handed.next session st reply id handed.store.counts.next_id }) was))
+    (serves_handed old handed store turn before after session st reply low served spelled ran.0 ran.1 answers done.hands)

@@ -23,7 +23,7 @@ use Rattle.ut_engine.specs.Serves.{Serves, IsAnswered, IsLost}
 use Rattle.ut_engine.proofs.UnchangedLemmas.{serves_unchanged}
 use Rattle.ut_engine.specs.declared.error.L1Error.{L1Error}
 use Rattle.ut_engine.specs.declared.error.L1Error.TheVariants as errors
-use Rattle.ut_engine.specs.Staging.{merge_reply, shape_reply, is_merge_reply, is_shape_reply, table_meant, may_tell}
+use Rattle.ut_engine.specs.Staging.{merge_reply, shape_reply, TellsMerge, TellsShape, table_meant, may_tell}
 
 -- ---- what the plain store answers
 
@@ -139,55 +139,17 @@ may-tells p st reply q name is (LacksMemory m r s) = subst (λ (x : Reply). IsTr
 
 -- ---- how an answer is told
 
-pub merge_told : (reply : Reply) (table : List ℕ) (n : ℕ) (there : Bool) → IsTrue (may_tell reply (statements.MergeL1 table n) there) → IsTrue (is_merge_reply reply)
-merge_told replies.Done table n there h = cc
-merge_told (replies.Committed k) table n there h = cc
-merge_told (replies.Changed rows commit) table n there h = cc
-merge_told (replies.Rows rows) table n there h = cc
-merge_told (replies.Groups groups) table n there h = cc
-merge_told (replies.Count k) table n there h = cc
-merge_told (replies.Sum x) table n there h = cc
-merge_told (replies.Min v) table n there h = cc
-merge_told (replies.Max v) table n there h = cc
-merge_told (replies.Moved m) table n there h = refl
-merge_told (replies.Merge k) table n there h = cc
-merge_told (replies.Saving done pages) table n there h = cc
-merge_told (replies.Sealed k) table n there h = cc
-merge_told (replies.Root k) table n there h = cc
-merge_told (replies.Shape shape) table n there h = cc
-merge_told replies.DiskFault table n there h = cc
-merge_told (replies.Refused refusals.Syntax) table n there h = cc
-merge_told (replies.Refused refusals.Name) table n there h = refl
-merge_told (replies.Refused refusals.Kind) table n there h = cc
-merge_told (replies.Refused (refusals.State why)) table n there h = cc
-merge_told (replies.Refused refusals.Full) table n there h = cc
-merge_told (replies.Refused (refusals.Conflict id)) table n there h = cc
-merge_told (replies.Refused refusals.Memory) table n there h = refl
+pub merge_told : (reply : Reply) (table : List ℕ) (n : ℕ) (there : Bool) → IsTrue (may_tell reply (statements.MergeL1 table n) there) → TellsMerge reply
+merge_told (replies.Moved moved) table n there h = (Ok moved, refl)
+merge_told (replies.Refused refusals.Name) table n there h = (Err errors.Name, refl)
+merge_told (replies.Refused refusals.Memory) table n there h = (Err errors.Memory, refl)
+merge_told _ table n there h = absurd cc
 
-pub shape_told : (reply : Reply) (table : List ℕ) (there : Bool) → IsTrue (may_tell reply (statements.Shape table) there) → IsTrue (is_shape_reply reply)
-shape_told replies.Done table there h = cc
-shape_told (replies.Committed k) table there h = cc
-shape_told (replies.Changed rows commit) table there h = cc
-shape_told (replies.Rows rows) table there h = cc
-shape_told (replies.Groups groups) table there h = cc
-shape_told (replies.Count k) table there h = cc
-shape_told (replies.Sum x) table there h = cc
-shape_told (replies.Min v) table there h = cc
-shape_told (replies.Max v) table there h = cc
-shape_told (replies.Moved m) table there h = cc
-shape_told (replies.Merge k) table there h = cc
-shape_told (replies.Saving done pages) table there h = cc
-shape_told (replies.Sealed k) table there h = cc
-shape_told (replies.Root k) table there h = cc
-shape_told (replies.Shape shape) table there h = refl
-shape_told replies.DiskFault table there h = cc
-shape_told (replies.Refused refusals.Syntax) table there h = cc
-shape_told (replies.Refused refusals.Name) table there h = refl
-shape_told (replies.Refused refusals.Kind) table there h = cc
-shape_told (replies.Refused (refusals.State why)) table there h = cc
-shape_told (replies.Refused refusals.Full) table there h = cc
-shape_told (replies.Refused (refusals.Conflict id)) table there h = cc
-shape_told (replies.Refused refusals.Memory) table there h = refl
+pub shape_told : (reply : Reply) (table : List ℕ) (there : Bool) → IsTrue (may_tell reply (statements.Shape table) there) → TellsShape reply
+shape_told (replies.Shape shape) table there h = (Ok (Some shape), refl)
+shape_told (replies.Refused refusals.Name) table there h = (Ok None, refl)
+shape_told (replies.Refused refusals.Memory) table there h = (Err tt, refl)
+shape_told _ table there h = absurd cc
 
 not_there : (there : Bool) → IsTrue (not there) → there ≡ false
 not_there true h = cc
@@ -221,10 +183,10 @@ no-fault p st name is may = ⊎_elim (λ more. omega (arith, more, ap journal_le
 
 -- A statement about the stages of a table is answered, whatever the disk does.
 pub stages_answered : (old new : Logged) (before after : View) (st : Statement) (reply : Reply) (name : List ℕ) (p : Plain) → Runs old before p → table_meant st ≡ Some name → Serves old before 0 st reply new after
-    → (new.down ≡ false) × IsTrue (may_tell reply st (has_table old.store.tables name))
+    → (new.down ≡ false) × IsTrue (may_tell reply st (has_table old.store.rows.tables name))
 stages_answered old new before after st reply name p runs is serves = by_case (serves.each p runs)
   where
-    by_case : IsAnswered p before 0 st reply new after ⊎ IsLost p before 0 st reply new after → (new.down ≡ false) × IsTrue (may_tell reply st (has_table old.store.tables name))
+    by_case : IsAnswered p before 0 st reply new after ⊎ IsLost p before 0 st reply new after → (new.down ≡ false) × IsTrue (may_tell reply st (has_table old.store.rows.tables name))
     by_case case = ⊎_elim
         (λ answered. (answered.runs.up, subst (λ (ts : List Table). IsTrue (may_tell reply st (has_table ts name))) (sym runs.stands.counts.tables) (may-tells p st reply answered.plain name is answered.may)))
         (λ lost. absurd (no-fault p st name is lost.may))

@@ -8,7 +8,7 @@ use Rattle.ut_plain.specs.Journal.{Journal, journal_len}
 use Rattle.ut_plain.specs.Capture.{Directory}
 use Rattle.ut_plain.specs.Plain.{Phase, Idle, Writing, Sealed}
 use Rattle.ut_pages.specs.declared.root.Root.{Root}
-use Rattle.ut_durable.specs.Calls.{Held as Files}
+use Rattle.ut_durable.specs.Calls.{FilesHeld}
 use Rattle.ut_durable.specs.Moments.{Leaves}
 use Rattle.ut_durable.specs.Saving.{Saving, IsWritten, IsSaving, IsStored}
 use Rattle.ut_durable.proofs.RestLemmas.{rests_all}
@@ -22,7 +22,7 @@ module _ (v w : View) (reads : ReadsOnly v w) where
   was_told : IsTold w → IsTold v
   was_told told = subst IsTrue reads.told told
 
-  saving_read : (j : Journal) (f : Files) (selected : Root) (saving : Option Saving) (phase : Phase) → IsSaving j f selected v saving phase → IsSaving j f selected w saving phase
+  saving_read : (j : Journal) (f : FilesHeld) (selected : Root) (saving : Option Saving) (phase : Phase) → IsSaving j f selected v saving phase → IsSaving j f selected w saving phase
   saving_read j f selected None Idle is = tt
   saving_read j f selected None (Writing b p q d) is = is
   saving_read j f selected None (Sealed b q d) is = is
@@ -49,7 +49,7 @@ module _ (v w : View) (reads : ReadsOnly v w) where
     ready = λ told c left. is.ready (was_told told) c (reads.no_more c left);
   }
 
-  pub stored_read : (j : Journal) (f : Files) (selected : Root) (d : Directory) (saving : Option Saving) (phase : Phase) → IsStored j f selected d saving phase v → IsStored j f selected d saving phase w
+  pub stored_read : (j : Journal) (f : FilesHeld) (selected : Root) (d : Directory) (saving : Option Saving) (phase : Phase) → IsStored j f selected d saving phase v → IsStored j f selected d saving phase w
   stored_read j f selected d saving phase stored = record {
     image = stored.image;
     rests = λ told c left. stored.rests (was_told told) c (reads.no_more c left);
@@ -57,7 +57,7 @@ module _ (v w : View) (reads : ReadsOnly v w) where
   }
 
   -- at each moment a crash leaves what it left before
-  pub read_leaves : (j : Journal) (f : Files) (selected : Root) (d : Directory) (saving : Option Saving) (phase : Phase) → IsStored j f selected d saving phase v → IsTold v → LeavesOnly v w (Leaves j (journal_len j) f selected d)
+  pub read_leaves : (j : Journal) (f : FilesHeld) (selected : Root) (d : Directory) (saving : Option Saving) (phase : Phase) → IsStored j f selected d saving phase v → IsTold v → LeavesOnly v w (Leaves j (journal_len j) f selected d)
   read_leaves j f selected d saving phase stored told =
       weaker v w v.crash_states (Leaves j (journal_len j) f selected d)
       (λ c left.

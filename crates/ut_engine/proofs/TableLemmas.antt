@@ -31,21 +31,21 @@ item_some g f xs i None within is = absurd (none_mapped f xs i within is)
 item_some g f xs i (Some z) within is = refl
 
 -- each table has its stages
-pub staged_within : (e : Held) (p : Plain) (place : ℕ) → StandsFor e p → place < length e.tables → place < length e.staged
+pub staged_within : (e : Held) (p : Plain) (place : ℕ) → StandsFor e p → place < length e.rows.tables → place < length e.rows.staged
 staged_within e p place stands within =
-    let as_many : length e.staged ≡ length e.tables =
-    sym (length-map e.staged (λ (s : Staged). s.columns)) ∙ ap length stands.rows.columns ∙ length-map e.tables (λ (t : Table). t.columns) in
+    let as_many : length e.rows.staged ≡ length e.rows.tables =
+    sym (length-map e.rows.staged (λ (s : Staged). s.columns)) ∙ ap length stands.rows.columns ∙ length-map e.rows.tables (λ (t : Table). t.columns) in
     omega (arith, as_many, within)
 
 -- ---- how many rows stand in a stage
 
 module _ (rows_of : Staged → List StagedRow) (placed_in : TableStages → List Placed) (same : (s : Staged) → placed_in (stages_of s) ≡ map placed_of (rows_of s)) where
   -- as many as in that stage of the plain state
-  pub plain_length : (e : Held) (p : Plain) (place n : ℕ) → StandsFor e p → option_map (λ (s : Staged). length (rows_of s)) (slice_get e.staged place) ≡ Some n → n ≡ length (placed_in (stages_at p.stages place))
-  plain_length e p place n stands is = by_stages (slice_get e.staged place) refl is
+  pub plain_length : (e : Held) (p : Plain) (place n : ℕ) → StandsFor e p → option_map (λ (s : Staged). length (rows_of s)) (slice_get e.rows.staged place) ≡ Some n → n ≡ length (placed_in (stages_at p.stages place))
+  plain_length e p place n stands is = by_stages (slice_get e.rows.staged place) refl is
     where
-      by_stages : (o : Option Staged) → slice_get e.staged place ≡ o → option_map (λ (s : Staged). length (rows_of s)) o ≡ Some n → n ≡ length (placed_in (stages_at p.stages place))
+      by_stages : (o : Option Staged) → slice_get e.rows.staged place ≡ o → option_map (λ (s : Staged). length (rows_of s)) o ≡ Some n → n ≡ length (placed_in (stages_at p.stages place))
       by_stages None at counted = cc
       by_stages (Some s) at counted =
-          let here : stages_at p.stages place ≡ stages_of s = ap (λ x. stages_at x place) stands.rows.stages ∙ stages-here e.staged place s at in
+          let here : stages_at p.stages place ≡ stages_of s = ap (λ x. stages_at x place) stands.rows.stages ∙ stages-here e.rows.staged place s at in
           sym (ap (λ o. unwrap_or o 0) counted) ∙ sym (length-map (rows_of s) placed_of) ∙ ap length (sym (same s)) ∙ ap (λ t. length (placed_in t)) (sym here)

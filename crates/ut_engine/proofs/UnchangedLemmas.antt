@@ -1,5 +1,5 @@
 -- An answer that changes nothing: a refusal, or that memory is wanting.
-use Rattle.std.proofs.Common.{◌≡◌, inl, ℕ, Some, refl, arith, IsTrue}
+use Rattle.std.proofs.Common.{◌≡◌, inl, ℕ, refl, sym, subst, arith, IsTrue}
 use Rattle.ut_outside.specs.Disk.{View, Image}
 use Rattle.ut_outside.proofs.RunLemmas.{started}
 use Rattle.ut_plain.specs.declared.statement.Statement.{Statement}
@@ -9,14 +9,16 @@ use Rattle.ut_plain.specs.declared.reply.Refusal.TheVariants as refusals
 use Rattle.ut_plain.specs.declared.reply.Why.{Why}
 use Rattle.ut_plain.specs.Journal.{journal_len}
 use Rattle.ut_plain.specs.Plain.{Plain, Phase, Sealed}
-use Rattle.ut_plain.specs.Refusals.{is_save, save_why}
+use Rattle.ut_plain.specs.Refusals.{is_save}
 use Rattle.ut_plain.specs.Step.{MayAnswer}
 use Rattle.ut_durable.specs.Files.{HasSelected}
 use Rattle.ut_durable.specs.Journals.{HoldsPrefix}
 use Rattle.ut_durable.proofs.RestLemmas.{rests_all}
 use Rattle.ut_engine.specs.Logged.{Logged}
 use Rattle.ut_engine.specs.Runs.{Runs}
+use Rattle.ut_engine.specs.Savepoints.{IsOutOfTurn}
 use Rattle.ut_engine.specs.Serves.{Selects, Serves}
+use Rattle.ut_engine.proofs.PhaseLemmas.{out_of_turn}
 use Rattle.ut_engine.proofs.SaveLemmas.{refused_by_phase}
 
 -- where no root was selected nothing is said of one
@@ -44,10 +46,10 @@ serves_unchanged e disk session st reply only may sound no_root = record {
 }
 
 -- a statement of the savepoint whose turn it isn't
-pub serves_out_of_turn : (e : Logged) (disk : View) (session : ℕ) (st : Statement) (why : Why) → ((c : Image) → disk.crash_states_since disk.moment c → disk.crash_states c) → IsTrue (is_save st)
-    → ((p : Plain) → Runs e disk p → save_why p.phase st ≡ Some why) → Serves e disk session st (replies.Refused (refusals.State why)) e disk
-serves_out_of_turn e disk session st why only save is =
-    serves_unchanged e disk session st (replies.Refused (refusals.State why)) only (λ p runs. refused_by_phase p session st save why (is p runs)) (λ fault. cc) (λ n root. no_root n root)
+pub serves_out_of_turn : (e : Logged) (disk : View) (session : ℕ) (st : Statement) (reply : Reply) → ((c : Image) → disk.crash_states_since disk.moment c → disk.crash_states c) → IsTrue (is_save st) → IsOutOfTurn e.saving st reply → Serves e disk session st reply e disk
+serves_out_of_turn e disk session st reply only save out =
+    subst (λ (r : Reply). Serves e disk session st r e disk) (sym out.says)
+    (serves_unchanged e disk session st (replies.Refused (refusals.State out.why)) only (λ p runs. refused_by_phase p session st save out.why (out_of_turn e disk st reply out p runs)) (λ fault. cc) (λ n root. no_root out.why n root))
   where
-    no_root : (n : ℕ) → replies.Refused (refusals.State why) ≡ replies.Root n → ⊥
-    no_root n is = cc
+    no_root : (why : Why) (n : ℕ) → replies.Refused (refusals.State why) ≡ replies.Root n → ⊥
+    no_root why n is = cc

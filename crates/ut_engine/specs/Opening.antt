@@ -11,16 +11,19 @@ use Rattle.ut_restart.specs.declared.error.RestartError.TheVariants as restart
 use Rattle.ut_engine.specs.declared.error.OpenError.{OpenError}
 use Rattle.ut_engine.specs.declared.error.OpenError.TheVariants as opening
 
+-- the error of an opening that couldn't read the log
 abbrev pub of_redo : RedoError → OpenError
 of_redo redo.Damaged = opening.Damaged
 of_redo redo.Disk = opening.Disk
 of_redo redo.Memory = opening.Memory
 
+-- the error of an opening that couldn't read the page file
 abbrev pub of_page : PageError → OpenError
 of_page pages.Damaged = opening.Damaged
 of_page pages.Disk = opening.Disk
 of_page pages.Memory = opening.Memory
 
+-- the error of an opening that couldn't build the state
 abbrev pub of_restart : RestartError → OpenError
 of_restart restart.Damaged = opening.Damaged
 of_restart restart.Memory = opening.Memory

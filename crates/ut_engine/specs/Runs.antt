@@ -2,7 +2,7 @@
 use Rattle.std.specs.Prelude.{ℕ, ◌*◌, ◌≡◌, ◌≤◌, ◌⊎◌, List, length, false, Option, None, Some}
 use Rattle.ut_outside.specs.Disk.{View, Image, IsTold}
 use Rattle.ut_outside.specs.Run.{Always}
-use Rattle.ut_redo.specs.Appends.{Place}
+use Rattle.ut_redo.specs.Appends.{LogPlace}
 use Rattle.ut_redo.specs.Logs.{IsLogFile}
 use Rattle.ut_pages.specs.declared.root.Root.{Root}
 use Rattle.ut_pages.specs.Layout.{IsMade, made_pages}
@@ -22,7 +22,8 @@ abbrev pub IsEven : Option Saving → Type 0
 IsEven None = Unit {0}
 IsEven (Some s) = length s.reached ≡ length s.planned
 
--- The store agrees with a plain state. Each outcome of a crash now holds the whole of its journal behind the selected root, and the savepoint in memory is the phase's.
+-- The store agrees with a plain state. Each outcome of a crash now holds the whole of its journal behind the selected root,
+-- and the savepoint in memory is the phase's.
 pub record Runs (e : Logged) (disk : View) (p : Plain) : Type 0 where
   pub up : e.down ≡ false
   pub stands : StandsFor e.store p
@@ -53,7 +54,7 @@ opening_of d root_pages = record { stages = d.stages; image_pages = image_pages;
 
 -- Files say this journal, behind an image of this directory on these pages.
 pub record Says (j : Journal) (d : Directory) (reached : List ℕ) (c : Image) : Type 0 where
-  pub end : Place
+  pub end : LogPlace
   pub reading : IsReading j d end c
   pub pages : reading.reached ≡ reached
 

@@ -2,9 +2,14 @@
 use Rattle.std.specs.Prelude.{ℕ, ◌≡◌, ◌<◌, ◌≤◌, ◌^◌, Bool, true, false, cond, length, Option, None, Some, Result, Ok, Err}
 use Rattle.ut_plain.specs.declared.stage.Progress.{Progress}
 use Rattle.ut_plain.specs.declared.stage.Progress.TheVariants as steps
+use Rattle.ut_plain.specs.declared.statement.Statement.{Statement}
 use Rattle.ut_plain.specs.declared.reply.Reply.{Reply}
 use Rattle.ut_plain.specs.declared.reply.Reply.TheVariants as replies
 use Rattle.ut_plain.specs.declared.reply.Refusal.TheVariants as refusals
+use Rattle.ut_plain.specs.declared.reply.Why.{Why}
+use Rattle.ut_plain.specs.Capture.{Directory}
+use Rattle.ut_plain.specs.Progress.{phase_of}
+use Rattle.ut_plain.specs.Refusals.{save_why}
 use Rattle.ut_durable.specs.Saving.{Saving}
 use Rattle.ut_engine.specs.declared.error.SaveError.{SaveError}
 use Rattle.ut_engine.specs.declared.error.SaveError.TheVariants as begins
@@ -26,6 +31,18 @@ told_of (steps.Sealed pages) = replies.Sealed pages
 abbrev pub IsCounted : Option Saving → Type 0
 IsCounted None = Unit {0}
 IsCounted (Some s) = (s.sealed ≡ false → s.done ≤ length s.planned) × (length s.planned < 2 ^ 32)
+
+-- ---- whether it is the turn of a statement of it
+
+-- It isn't, whatever was captured, and the reply says why.
+pub record IsOutOfTurn (saving : Option Saving) (st : Statement) (reply : Reply) : Type 0 where
+  pub why : Why
+  pub says : reply ≡ replies.Refused (refusals.State why)
+  pub each : (captured : ℕ) (image : Directory) → save_why (phase_of (progress_of saving) captured image) st ≡ Some why
+
+-- It is.
+abbrev pub IsInTurn : Option Saving → Statement → Type 0
+IsInTurn saving st = (captured : ℕ) (image : Directory) → save_why (phase_of (progress_of saving) captured image) st ≡ None
 
 -- ---- the reply that an answer tells
 
@@ -52,22 +69,26 @@ abbrev pub flip_reply : Result ℕ PhaseError → Reply
 flip_reply (Ok entries) = replies.Root entries
 flip_reply (Err e) = error_reply e
 
--- a reply is told by some answer
+-- the reply is that to some answer of a begin
 abbrev pub TellsBegin : Reply → Type 0
 TellsBegin reply = (answer : Result ℕ SaveError) × (save_reply answer ≡ reply)
 
+-- the reply is that to some answer of a page, of the root or of a drop
 abbrev pub TellsPhase : Reply → Option Saving → Type 0
 TellsPhase reply saving = (answer : Result (Unit {0}) PhaseError) × (phase_reply answer saving ≡ reply)
 
+-- the reply is that to some answer of a flip
 abbrev pub TellsFlip : Reply → Type 0
 TellsFlip reply = (answer : Result ℕ PhaseError) × (flip_reply answer ≡ reply)
 
 -- ---- whether the disk failed
 
+-- whether the disk failed in the begin of a savepoint
 abbrev pub is_save_fault : {T : Type 0} → Result T SaveError → Bool
 is_save_fault (Err begins.Disk) = true
 is_save_fault answer = false
 
+-- whether the disk failed in a later call of one
 abbrev pub is_phase_fault : {T : Type 0} → Result T PhaseError → Bool
 is_phase_fault (Err phases.Disk) = true
 is_phase_fault answer = false

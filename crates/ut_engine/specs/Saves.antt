@@ -3,7 +3,7 @@ use Rattle.std.specs.Prelude.{ℕ, ◌≡◌, ◌<◌, ◌⊎◌, ◌+◌, ◌-�
 use Rattle.std.specs.Option.{option_map}
 use Rattle.ut_outside.specs.Disk.{View}
 use Rattle.ut_outside.specs.Run.{ReadsOnly}
-use Rattle.ut_redo.specs.Appends.{Place}
+use Rattle.ut_redo.specs.Appends.{LogPlace}
 use Rattle.ut_redo.specs.Logs.{switched_place}
 use Rattle.ut_plain.specs.Journal.{Journal}
 use Rattle.ut_plain.specs.Capture.{Directory}
@@ -43,10 +43,12 @@ pub record MayGoOn (e : Logged) (disk : View) : Type 0 where
 pub record Goes (count : ℕ) (old : Logged) (before : View) (new : Logged) (after : View) : Type 0 where
   pub same : new ≡ record old { saving = option_map (more count) old.saving }
   pub stored : (j : Journal) (selected : Root) (d : Directory) (s : Saving) (b n q : ℕ) (c : Directory) → old.saving ≡ Some s
-      → IsStored j old.files selected d (Some s) (Writing b n q c) before → IsStored j old.files selected d (Some (more count s)) (Writing b (n + count) q c) after
+      → IsStored j old.files selected d (Some s) (Writing b n q c) before
+      → IsStored j old.files selected d (Some (more count s)) (Writing b (n + count) q c) after
 
 -- ---- the root
 
+-- the savepoint, whose root is written
 abbrev pub with_root : Saving → Saving
 with_root s = record s { sealed = true }
 
@@ -76,13 +78,15 @@ pub record SelectsRoot (s : Saving) (old : Logged) (before : View) (entries : �
 -- ---- the log
 
 -- the place of the log once it isn't in the file in which the selected root's log begins
-pub record IsLeft (e : Logged) (place : Place) : Type 0 where
+pub record IsLeft (e : Logged) (place : LogPlace) : Type 0 where
   pub moved : e.files.log.file ≡ e.begins → place ≡ switched_place e.files.log
   pub stays : (e.files.log.file ≡ e.begins → ⊥) → place ≡ e.files.log
 
 -- The log left that file, or stood in the other one already.
 pub data LeavesLog (old : Logged) (before : View) (new : Logged) (after : View) : Type 0 where
-  Moved : old.files.log.file ≡ old.begins → new ≡ record old { files = record old.files { log = switched_place old.files.log } } → Moves old.files new.files before after → LeavesLog old before new after
+  Moved : old.files.log.file ≡ old.begins
+      → new ≡ record old { files = record old.files { log = switched_place old.files.log } }
+      → Moves old.files new.files before after → LeavesLog old before new after
   Stayed : (old.files.log.file ≡ old.begins → ⊥) → new ≡ old → ReadsOnly before after → LeavesLog old before new after
 
 -- what it does to the disk on the way
@@ -92,9 +96,9 @@ MayLeaveLog old before after = ((old.files.log.file ≡ old.begins) × MayMove o
 -- the root of what a store holds now, whose image isn't known yet
 pub record IsCapturedRoot (e : Logged) (root : Root) : Type 0 where
   pub version : root.version ≡ 2
-  pub length_of : root.length ≡ e.store.entries
-  pub commits : root.commits ≡ e.store.commits
-  pub merges : root.merges ≡ e.store.merges
+  pub length_of : root.length ≡ e.store.counts.entries
+  pub commits : root.commits ≡ e.store.counts.commits
+  pub merges : root.merges ≡ e.store.counts.merges
   pub next : root.next ≡ e.next.next
   pub place : IsLeft e (place_of root)
   pub file : root.file < 2

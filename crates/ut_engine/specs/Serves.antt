@@ -16,8 +16,11 @@ use Rattle.ut_durable.specs.Files.{HasSelected}
 use Rattle.ut_engine.specs.Logged.{Logged}
 use Rattle.ut_engine.specs.Runs.{Runs}
 
--- It is answered: the plain state may give this reply, and the store runs from the state after it. A crash at any moment leaves all that was there, with the statement's own entry or without it.
-pub record IsAnswered (p : Plain) (before : View) (session : ℕ) (st : Statement) (reply : Reply) (new : Logged) (after : View) : Type 0 where
+-- It is answered: the plain state may give this reply, and the store runs from the state after it.
+-- A crash at any moment leaves all that was there, with the statement's own entry or without it.
+pub record IsAnswered
+    (p : Plain) (before : View) (session : ℕ) (st : Statement) (reply : Reply) (new : Logged)
+    (after : View) : Type 0 where
   pub plain : Plain
   pub may : MayAnswer p session st reply plain
   pub runs : Runs new after plain
@@ -33,12 +36,15 @@ pub record IsLost (p : Plain) (before : View) (session : ℕ) (st : Statement) (
 
 -- At each moment of a call a crash leaves the root that was selected, its pages and its directory.
 abbrev pub KeepsRoot : (old : Logged) (before : View) (p : Plain) → Runs old before p → View → Type 0
-KeepsRoot old before p runs after = IsTold before → LeavesOnly before after (HasSelected old.files.slot old.files.reached runs.root runs.directory)
+KeepsRoot old before p runs after =
+    IsTold before → LeavesOnly before after (HasSelected old.files.slot old.files.reached runs.root runs.directory)
 
 -- After a flip that is answered each outcome of a crash has a selected root of the captured length, with the captured directory.
 abbrev pub Selects : Phase → Reply → Logged → View → Type 0
 Selects (Sealed captured pages image) (RootReply n) new after =
-    (n ≡ captured) × (IsTold after → Always after (λ c. (root : Root) × (root.length ≡ captured) × HasSelected new.files.slot new.files.reached root image c))
+    (n ≡ captured)
+    × (IsTold after → Always after
+    (λ c. (root : Root) × (root.length ≡ captured) × HasSelected new.files.slot new.files.reached root image c))
 Selects phase reply new after = Unit {0}
 
 -- What a statement does, whatever plain state the store ran from.

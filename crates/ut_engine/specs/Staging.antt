@@ -1,5 +1,5 @@
 -- What the operator asks of the stages of a table, and which answer tells which reply.
-use Rattle.std.specs.Prelude.{ℕ, Bool, true, false, not, List, Option, None, Some, Result, Ok, Err}
+use Rattle.std.specs.Prelude.{ℕ, ◌≡◌, Bool, true, false, not, List, Option, None, Some, Result, Ok, Err}
 use Rattle.ut_plain.specs.declared.statement.Statement.{Statement}
 use Rattle.ut_plain.specs.declared.statement.Statement.TheVariants as statements
 use Rattle.ut_plain.specs.declared.reply.Shape.{Shape}
@@ -21,19 +21,12 @@ shape_reply (Ok (Some shape)) = replies.Shape shape
 shape_reply (Ok None) = replies.Refused refusals.Name
 shape_reply (Err e) = replies.Refused refusals.Memory
 
--- whether a reply is to a merge of a first stage
-abbrev pub is_merge_reply : Reply → Bool
-is_merge_reply (replies.Moved moved) = true
-is_merge_reply (replies.Refused refusals.Name) = true
-is_merge_reply (replies.Refused refusals.Memory) = true
-is_merge_reply _ = false
+-- a reply is told by some answer
+abbrev pub TellsMerge : Reply → Type 0
+TellsMerge reply = (answer : Result ℕ L1Error) × (merge_reply answer ≡ reply)
 
--- whether it is to the question of a table's shape
-abbrev pub is_shape_reply : Reply → Bool
-is_shape_reply (replies.Shape shape) = true
-is_shape_reply (replies.Refused refusals.Name) = true
-is_shape_reply (replies.Refused refusals.Memory) = true
-is_shape_reply _ = false
+abbrev pub TellsShape : Reply → Type 0
+TellsShape reply = (answer : Result (Option Shape) (Unit {0})) × (shape_reply answer ≡ reply)
 
 -- the table whose stages a statement is about
 abbrev pub table_meant : Statement → Option (List ℕ)

@@ -87,23 +87,23 @@ impl<'d, D: Disk> Engine<'d, D> {
 
     /// How many entries the journal has.
     pub fn journal_len(&self) -> u32
-        ensures { result ≡ self.now.store.store.entries }
+        ensures { result ≡ self.now.store.store.counts.entries }
     {
-        self.store.journal_len()
+        self.store.store.entries()
     }
 
     /// How many tables were made and transactions committed.
     pub fn commits(&self) -> u32
-        ensures { result ≡ self.now.store.store.commits }
+        ensures { result ≡ self.now.store.store.counts.commits }
     {
-        self.store.commits()
+        self.store.store.commits()
     }
 
     /// Whether the disk has failed. Then the store has to be opened again.
     pub fn down(&self) -> bool
         ensures { result ≡ self.now.store.down }
     {
-        self.store.down()
+        self.store.down
     }
 
     /// Gives the disk back. A caller knows the disk's end only through this call.

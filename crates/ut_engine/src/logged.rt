@@ -1,5 +1,5 @@
 //! The store and its files.
-ghost use Rattle.std.specs.Prelude.{◌≡◌, ◌<◌, ◌≤◌, ◌^◌, Some, false, IsTrue, IfOk, OnOk, IsErrOf, is_some, length, option_map, slice_get};
+ghost use Rattle.std.specs.Prelude.{◌≡◌, ◌<◌, ◌≤◌, ◌^◌, Some, false, IsTrue, IfOk, OnOk, IsErrOf};
 ghost use Rattle.ut_outside.specs.declared.disk.Which.{Which};
 ghost use Rattle.ut_outside.specs.Disk.{IsTold, content};
 ghost use Rattle.ut_outside.specs.Faults.{Rose, HasCause};
@@ -7,17 +7,13 @@ ghost use Rattle.ut_outside.specs.Run.{Always, LeavesOnly, ReadsOnly};
 ghost use Rattle.ut_pages.specs.Layout.{IsMade};
 ghost use Rattle.ut_plain.specs.declared.statement.Statement.TheVariants as statements;
 ghost use Rattle.ut_plain.specs.Journal.{Journal};
-ghost use Rattle.ut_plain.specs.Names.{has_table};
 ghost use Rattle.ut_plain.specs.Plain.{Plain};
 ghost use Rattle.ut_plain.specs.Refusals.{is_save};
 ghost use Rattle.ut_plain.specs.Spelled.{is_spelled};
-ghost use Rattle.ut_redo.specs.Logs.{IsLogFile};
-ghost use Rattle.ut_durable.specs.Calls.{IsSettled};
 ghost use Rattle.ut_durable.specs.Journals.{HoldsJournal};
 ghost use Rattle.ut_store.specs.Jobs.{pending_job};
-ghost use Rattle.ut_store.specs.Listed.{Lists};
-ghost use Rattle.ut_store.specs.Standing.{Stands, suits_session};
-ghost use Rattle.ut_engine.specs.Handing.{HandsOut};
+ghost use Rattle.ut_store.specs.Standing.{suits_session};
+ghost use Rattle.ut_engine.specs.Handing.{AreReady, Concludes, HandsOut};
 ghost use Rattle.ut_engine.specs.Merging.{BringsJob};
 ghost use Rattle.ut_engine.specs.Opening.{MayOnlyRead};
 ghost use Rattle.ut_engine.specs.Runs.{Runs, IsNew, Opens, NotMadeOrEmpty};
@@ -25,40 +21,33 @@ ghost use Rattle.ut_engine.specs.Serves.{Serves};
 
 use crate::error::OpenError;
 use crate::saving::log_file;
-use std::alloc::{AllocError, Global};
-use std::marker::Model;
+use std::alloc::Global;
 use ut_durable::Durable;
 use ut_merge::{Built, Job};
 use ut_nextid::NextIds;
 use ut_outside::{Disk, Failed, Which};
 use ut_pages::Pages;
-use ut_plain::{PendingMerge, Reply, Statement, is_save};
+use ut_plain::{Reply, Statement, is_save};
 use ut_reading::{Image, read_image};
 use ut_redo::Redo;
 use ut_restart::reopen;
 use ut_savepoint::Savepoint;
 use ut_store::{Store, Turn};
-use ut_value::{Name, Row, Seq};
 
 /// A store in memory before its files. Each call that may write is lent the disk.
 #[derive(Drop)]
 pub(crate) struct LoggedStore {
     pub(crate) store: Store,
+    /// Where the next frame goes, which slot is selected, and the pages that its root reaches.
     pub(crate) files: Durable,
     /// The file in which the selected root's log begins.
     pub(crate) begins: Which,
+    /// The savepoint that is under way.
     pub(crate) saving: Option<Savepoint>,
     /// The next id of the journal.
     pub(crate) next: NextIds,
+    /// Whether the disk has failed.
     pub(crate) down: bool,
-}
-
-impl Model for LoggedStore {
-    ghost use Rattle.ut_engine.specs.Logged.{Logged};
-
-    ghost Value = { Logged };
-
-    ghost view = { λ e. record { store = e.store; files = e.files; begins = e.begins; saving = e.saving; next = e.next; down = e.down } };
 }
 
 impl LoggedStore {
@@ -154,11 +143,8 @@ impl LoggedStore {
         if is_save(st) {
             return self.save(alloc, disk, st);
         }
-        let before = self.store.next_id();
-        let turn = self.store.statement(alloc, session, st);
-        let reply = self.hand_out(disk, turn);
-        let after = self.store.next_id();
-        self.next.note(session, st, &reply, before, after);
+        let (reply, job) = self.statement_with_job(alloc, disk, session, st);
+        drop(job);
         reply
     }
 
@@ -180,18 +166,8 @@ impl LoggedStore {
     {
         let before = self.store.next_id();
         let outcome = self.store.statement_with_job(alloc, session, st);
-        let reply = self.hand_out(disk, outcome.turn);
-        let after = self.store.next_id();
-        self.next.note(session, st, &reply, before, after);
+        let reply = self.conclude(disk, session, st, before, outcome.turn);
         (reply, outcome.job)
-    }
-
-    /// The job of the pending merge once more, if one is pending.
-    pub(crate) fn merge_again(&self, alloc: Global) -> Result<Option<Job>, AllocError>
-        requires { Stands self.now.store }
-        ensures { IfOk result (λ job. job ≡ pending_job self.now.store) }
-    {
-        self.store.merge_again(alloc)
     }
 
     /// Ends the pending merge with what was built of its job. Takes no memory.
@@ -203,32 +179,31 @@ impl LoggedStore {
     {
         let before = self.store.next_id();
         let turn = self.store.merge_end(session, built);
+        self.conclude(disk, session, &Statement::MergeEnd, before, turn)
+    }
+
+    // Ends a statement: the reply of its turn in memory is handed out, and the journal's next id noted. The store's was this one before.
+    fn conclude<D: Disk>(
+        &mut self,
+        disk: &mut D,
+        session: u8,
+        st: &Statement,
+        before: u32,
+        turn: Turn,
+    ) -> Reply
+        requires seat { session < 17 }
+        requires ready { AreReady self.old.files (D.view disk.old) }
+        ensures { Concludes turn session st.now before self.old (D.view disk.old) result self.new (D.view disk.new) }
+    {
         let reply = self.hand_out(disk, turn);
         let after = self.store.next_id();
-        self.next
-            .note(session, &Statement::MergeEnd, &reply, before, after);
+        self.next.note(session, st, &reply, before, after);
         reply
-    }
-
-    /// The merge that was begun and has not ended.
-    pub(crate) fn pending(&self) -> Option<PendingMerge>
-        ensures { result ≡ self.now.store.pending }
-    {
-        self.store.pending()
-    }
-
-    /// How many merges were begun.
-    pub(crate) fn merges(&self) -> u32
-        ensures { result ≡ self.now.store.merges }
-    {
-        self.store.merges()
     }
 
     // Hands out the reply of a turn in memory: at once, or once the frame that it wrote is on the disk.
     fn hand_out<D: Disk>(&mut self, disk: &mut D, turn: Turn) -> Reply
-        requires log { IsLogFile self.old.files.log.file }
-        requires room { self.old.files.log.end ≤ 2 ^ 61 }
-        requires settled { IsSettled self.old.files (D.view disk.old) }
+        requires { AreReady self.old.files (D.view disk.old) }
         ensures { HandsOut turn self.old (D.view disk.old) result self.new (D.view disk.new) }
     {
         match turn {
@@ -241,65 +216,6 @@ impl LoggedStore {
                 }
             },
         }
-    }
-
-    /// The rows of a table in the state of the whole journal, by ascending id. There are none where there is no such table.
-    #[tactic(auto, using(crate::proofs::RowsLemmas::listed_there))]
-    pub(crate) fn rows(&self, alloc: Global, table: &Name) -> Result<Option<Seq<Row>>, AllocError>
-        requires { Stands self.now.store }
-        ensures lists { IfOk result (Lists self.now.store table.now) }
-        ensures there { IfOk result (λ rows. is_some rows ≡ has_table self.now.store.tables table.now) }
-    {
-        self.store.rows(alloc, table.as_slice())
-    }
-
-    /// How many tables there are.
-    pub(crate) fn tables(&self) -> usize
-        ensures { result ≡ length self.now.store.tables }
-    {
-        self.store.table_count()
-    }
-
-    /// The name of the table at a place in order of creation.
-    pub(crate) fn table_name(&self, place: usize) -> Option<&Name>
-        ensures { option_map (λ name. name.now) result ≡ option_map (λ table. table.name) (slice_get self.now.store.tables place) }
-    {
-        self.store.table_name(place)
-    }
-
-    /// How many rows stand in the first stage of the table at a place, those that nobody sees included.
-    pub(crate) fn l1_len(&self, place: usize) -> Option<u32>
-        ensures { result ≡ option_map (λ staged. length staged.l1) (slice_get self.now.store.staged place) }
-    {
-        self.store.l1_len(place)
-    }
-
-    /// How many rows stand in its second stage.
-    pub(crate) fn l2_len(&self, place: usize) -> Option<u32>
-        ensures { result ≡ option_map (λ staged. length staged.l2) (slice_get self.now.store.staged place) }
-    {
-        self.store.l2_len(place)
-    }
-
-    /// How many entries the journal has.
-    pub(crate) fn journal_len(&self) -> u32
-        ensures { result ≡ self.now.store.entries }
-    {
-        self.store.entries()
-    }
-
-    /// How many tables were made and transactions committed.
-    pub(crate) fn commits(&self) -> u32
-        ensures { result ≡ self.now.store.commits }
-    {
-        self.store.commits()
-    }
-
-    /// Whether the disk has failed. Then the store has to be opened again.
-    pub(crate) fn down(&self) -> bool
-        ensures { result ≡ self.now.down }
-    {
-        self.down
     }
 }
 

@@ -11,12 +11,12 @@ ghost use Rattle.ut_engine.specs.Serves.{Serves};
 
 use crate::engine::Engine;
 use crate::error::BeginError;
-use crate::stages::{OPERATOR, copied};
+use crate::stages::copied;
 use std::alloc::{AllocError, Global};
 use ut_merge::{Built, Job};
 use ut_outside::Disk;
 use ut_plain::{PendingMerge, Refusal, Reply, Statement, Why};
-use ut_value::{MergeKind, Name};
+use ut_value::{MergeKind, Name, OPERATOR};
 
 impl<'d, D: Disk> Engine<'d, D> {
     /// Begins a merge of a table into main, as `merge begin` of the operator does, and hands out its job.
@@ -30,7 +30,7 @@ impl<'d, D: Disk> Engine<'d, D> {
         ensures serves { Serves self.old.store (D.view self.old.disk) 0 (statements.MergeBegin table.now kind) (begin_reply result) self.new.store (D.view self.new.disk) }
         ensures job { IfOk result (λ job. pending_job self.new.store.store ≡ Some job) }
         // `Name` exactly where there is no such table, `Busy` exactly where there is and a merge is pending.
-        ensures reason { HasReason result (has_table self.old.store.store.tables table.now) self.old.store.store.pending }
+        ensures reason { HasReason result (has_table self.old.store.store.rows.tables table.now) self.old.store.store.counts.pending }
         ensures cause { IsErrOf result BeginError.Disk → Rose (D.view self.old.disk).faults (D.view self.new.disk).faults }
         // It is down exactly where the disk failed.
         ensures down { self.new.store.down ≡ is_fault result }
@@ -51,7 +51,7 @@ impl<'d, D: Disk> Engine<'d, D> {
         requires up { self.now.store.down ≡ false }
         ensures { IfOk result (λ job. job ≡ pending_job self.now.store.store) }
     {
-        self.store.merge_again(alloc)
+        self.store.store.merge_again(alloc)
     }
 
     /// Ends the pending merge with what was built of its job, as `merge end` does. Takes no memory.
@@ -67,16 +67,16 @@ impl<'d, D: Disk> Engine<'d, D> {
 
     /// The merge that was begun and has not ended.
     pub fn pending(&self) -> Option<PendingMerge>
-        ensures { result ≡ self.now.store.store.pending }
+        ensures { result ≡ self.now.store.store.counts.pending }
     {
-        self.store.pending()
+        self.store.store.pending()
     }
 
     /// How many merges were begun.
     pub fn merges(&self) -> u32
-        ensures { result ≡ self.now.store.store.merges }
+        ensures { result ≡ self.now.store.store.counts.merges }
     {
-        self.store.merges()
+        self.store.store.merges()
     }
 }
 
@@ -88,7 +88,8 @@ fn begin_answer(reply: Reply, job: Option<Job>) -> Result<Job, BeginError>
     match reply {
         Reply::Merge(_) => Ok(job.unwrap()),
         Reply::Refused(why) => Err(begin_refusal(why)),
-        _ => Err(BeginError::Disk),
+        Reply::DiskFault => Err(BeginError::Disk),
+        _ => unreachable!(),
     }
 }
 
@@ -101,6 +102,7 @@ fn begin_refusal(why: Refusal) -> BeginError
         Refusal::Name => BeginError::Name,
         Refusal::State(Why::Busy(n)) => BeginError::Busy(n),
         Refusal::Full => BeginError::Full,
-        _ => BeginError::Memory,
+        Refusal::Memory => BeginError::Memory,
+        _ => unreachable!(),
     }
 }

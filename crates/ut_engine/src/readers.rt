@@ -11,44 +11,45 @@ use ut_value::{Name, Row, Seq};
 
 impl<'d, D: Disk> Engine<'d, D> {
     /// The rows of a table in the state of the whole journal, by ascending id. There are none where there is no such table.
+    #[tactic(auto, using(crate::proofs::RowsLemmas::listed_there))]
     pub fn rows(&self, alloc: Global, table: &Name) -> Result<Option<Seq<Row>>, AllocError>
         requires up { self.now.store.down ≡ false }
         ensures lists { IfOk result (Lists self.now.store.store table.now) }
-        ensures there { IfOk result (λ rows. is_some rows ≡ has_table self.now.store.store.tables table.now) }
+        ensures there { IfOk result (λ rows. is_some rows ≡ has_table self.now.store.store.rows.tables table.now) }
     {
-        self.store.rows(alloc, table)
+        self.store.store.rows(alloc, table.as_slice())
     }
 
     /// How many tables there are.
     pub fn tables(&self) -> usize
         ensures { IsTableCount self.now.store.store result }
     {
-        self.store.tables()
+        self.store.store.table_count()
     }
 
     /// The name of the table at a place in order of creation.
     pub fn table_name(&self, place: usize) -> &Name
-        requires there { place < length self.now.store.store.tables }
+        requires there { place < length self.now.store.store.rows.tables }
         ensures { IsTableName self.now.store.store place result.now }
     {
-        self.store.table_name(place).unwrap()
+        self.store.store.table_name(place).unwrap()
     }
 
     /// How many rows stand in the first stage of the table at a place, those that nobody sees included.
     pub fn l1_len(&self, place: usize) -> u32
-        requires there { place < length self.now.store.store.tables }
+        requires there { place < length self.now.store.store.rows.tables }
         requires up { self.now.store.down ≡ false }
         ensures { IsL1Length self.now.store.store place result }
     {
-        self.store.l1_len(place).unwrap()
+        self.store.store.l1_len(place).unwrap()
     }
 
     /// How many rows stand in its second stage.
     pub fn l2_len(&self, place: usize) -> u32
-        requires there { place < length self.now.store.store.tables }
+        requires there { place < length self.now.store.store.rows.tables }
         requires up { self.now.store.down ≡ false }
         ensures { IsL2Length self.now.store.store place result }
     {
-        self.store.l2_len(place).unwrap()
+        self.store.store.l2_len(place).unwrap()
     }
 }

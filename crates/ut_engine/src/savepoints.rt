@@ -86,19 +86,22 @@ fn begin_answer(reply: Reply) -> Result<u32, SaveError>
         Reply::Saving { pages, .. } => Ok(pages),
         Reply::Refused(Refusal::State(why)) => Err(SaveError::State(why)),
         Reply::Refused(Refusal::Full) => Err(SaveError::Full),
-        Reply::Refused(_) => Err(SaveError::Memory),
-        _ => Err(SaveError::Disk),
+        Reply::Refused(Refusal::Memory) => Err(SaveError::Memory),
+        Reply::DiskFault => Err(SaveError::Disk),
+        _ => unreachable!(),
     }
 }
 
 // What the reply to a page, a root or a drop says.
 fn phase_answer(reply: Reply) -> Result<(), PhaseError>
+    requires { (saving : Option Saving) × TellsPhase reply saving }
     ensures { (saving : Option Saving) → TellsPhase reply saving → phase_reply result saving ≡ reply }
 {
     match reply {
+        Reply::Done | Reply::Saving { .. } | Reply::Sealed(_) => Ok(()),
         Reply::Refused(Refusal::State(why)) => Err(PhaseError::State(why)),
         Reply::DiskFault => Err(PhaseError::Disk),
-        _ => Ok(()),
+        _ => unreachable!(),
     }
 }
 
@@ -110,6 +113,7 @@ fn flip_answer(reply: Reply) -> Result<u32, PhaseError>
     match reply {
         Reply::Root(entries) => Ok(entries),
         Reply::Refused(Refusal::State(why)) => Err(PhaseError::State(why)),
-        _ => Err(PhaseError::Disk),
+        Reply::DiskFault => Err(PhaseError::Disk),
+        _ => unreachable!(),
     }
 }

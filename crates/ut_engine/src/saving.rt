@@ -1,5 +1,5 @@
 //! The savepoint of a store: it begins, writes its pages and then its root, selects that, or is dropped.
-ghost use Rattle.std.specs.Prelude.{◌≡◌, ◌<◌, ◌≤◌, ◌+◌, ◌^◌, ℕ, min, true, None, Some, length, IsTrue, IfOk, IfSome, IfNone, OnOk};
+ghost use Rattle.std.specs.Prelude.{◌≡◌, ◌<◌, ◌≤◌, ◌+◌, ◌^◌, ℕ, min, true, None, Some, length, IsTrue, IfOk, IfSome, IfNone, IsSome, OnOk};
 ghost use Rattle.ut_outside.specs.Faults.{HasCause};
 ghost use Rattle.ut_plain.specs.declared.statement.Statement.TheVariants as statements;
 ghost use Rattle.ut_plain.specs.Plain.{Plain};
@@ -8,14 +8,15 @@ ghost use Rattle.ut_plain.specs.View.{captured_now};
 ghost use Rattle.ut_redo.specs.Logs.{IsLogFile, other_log};
 ghost use Rattle.ut_pages.specs.declared.root.Root.{Root};
 ghost use Rattle.ut_durable.specs.Bytes.{image_pages};
-ghost use Rattle.ut_durable.specs.Calls.{IsSettled, Stays, MayFlip};
+ghost use Rattle.ut_durable.specs.Calls.{Stays, MayFlip};
 ghost use Rattle.ut_durable.specs.Journals.{log_file};
 ghost use Rattle.ut_durable.specs.Saving.{Saving};
 ghost use Rattle.ut_savepoint.specs.Planning.{Plans};
 ghost use Rattle.ut_store.specs.Stands.{StandsFor};
 ghost use Rattle.ut_store.specs.Standing.{Stands};
+ghost use Rattle.ut_engine.specs.Handing.{AreReady};
 ghost use Rattle.ut_engine.specs.Runs.{Runs};
-ghost use Rattle.ut_engine.specs.Savepoints.{progress_of, told_of, IsCounted, TellsBegin, TellsPhase, TellsFlip};
+ghost use Rattle.ut_engine.specs.Savepoints.{progress_of, told_of, IsCounted, IsInTurn, IsOutOfTurn, TellsBegin, TellsPhase, TellsFlip};
 ghost use Rattle.ut_engine.specs.Saves.{pages_left, MayGoOn, Goes, Seals, MaySelect, SelectsRoot, IsLeft, LeavesLog, MayLeaveLog, IsCapturedRoot};
 ghost use Rattle.ut_engine.specs.Serves.{Serves};
 
@@ -25,6 +26,7 @@ use ut_capture::captured;
 use ut_outside::{Disk, Failed, Which};
 use ut_pages::Root;
 use ut_plain::{Progress, Refusal, Reply, Statement, save_why};
+use ut_redo::other_log;
 use ut_savepoint::{Savepoint, plan};
 
 impl LoggedStore {
@@ -39,7 +41,8 @@ impl LoggedStore {
             Statement::SaveStep { n } => self.save_step(disk, *n),
             Statement::SaveSeal => self.save_seal(disk),
             Statement::SaveFlip => self.save_flip(disk),
-            _ => self.save_drop(disk),
+            Statement::SaveDrop => self.save_drop(disk),
+            _ => unreachable!(),
         }
     }
 
@@ -49,8 +52,8 @@ impl LoggedStore {
         ensures serves { (session : ℕ) → Serves self.old (D.view disk.old) session statements.SaveBegin result self.new (D.view disk.new) }
         ensures tells { TellsBegin result }
     {
-        if let Some(why) = save_why(self.progress(), &Statement::SaveBegin) {
-            return Reply::Refused(Refusal::State(why));
+        if let Some(reply) = self.refused(&Statement::SaveBegin) {
+            return reply;
         }
         match self.planned(alloc) {
             Err(_) => Reply::Refused(Refusal::Memory),
@@ -71,8 +74,8 @@ impl LoggedStore {
         ensures serves { (session : ℕ) → Serves self.old (D.view disk.old) session (statements.SaveStep n) result self.new (D.view disk.new) }
         ensures tells { TellsPhase result self.new.saving }
     {
-        if let Some(why) = save_why(self.progress(), &Statement::SaveStep { n }) {
-            return Reply::Refused(Refusal::State(why));
+        if let Some(reply) = self.refused(&Statement::SaveStep { n }) {
+            return reply;
         }
         match self.write_pages(disk, n) {
             Err(_) => self.goes_down(),
@@ -86,8 +89,8 @@ impl LoggedStore {
         ensures serves { (session : ℕ) → Serves self.old (D.view disk.old) session statements.SaveSeal result self.new (D.view disk.new) }
         ensures tells { TellsPhase result self.new.saving }
     {
-        if let Some(why) = save_why(self.progress(), &Statement::SaveSeal) {
-            return Reply::Refused(Refusal::State(why));
+        if let Some(reply) = self.refused(&Statement::SaveSeal) {
+            return reply;
         }
         match self.write_root(disk) {
             Err(_) => self.goes_down(),
@@ -101,8 +104,8 @@ impl LoggedStore {
         ensures serves { (session : ℕ) → Serves self.old (D.view disk.old) session statements.SaveFlip result self.new (D.view disk.new) }
         ensures tells { TellsFlip result }
     {
-        if let Some(why) = save_why(self.progress(), &Statement::SaveFlip) {
-            return Reply::Refused(Refusal::State(why));
+        if let Some(reply) = self.refused(&Statement::SaveFlip) {
+            return reply;
         }
         match self.select_root(disk) {
             Err(_) => self.goes_down(),
@@ -117,11 +120,24 @@ impl LoggedStore {
         ensures tells { TellsPhase result self.new.saving }
     {
         let _moment = disk.calls();
-        if let Some(why) = save_why(self.progress(), &Statement::SaveDrop) {
-            return Reply::Refused(Refusal::State(why));
+        if let Some(reply) = self.refused(&Statement::SaveDrop) {
+            return reply;
         }
         self.saving = None;
         self.told()
+    }
+
+    // The refusal of a statement of the savepoint, where it isn't its turn.
+    fn refused(&self, st: &Statement) -> Option<Reply>
+        requires save { IsTrue (is_save st.now) }
+        requires counted { IsCounted self.now.saving }
+        ensures refused { IfSome result (IsOutOfTurn self.now.saving st.now) }
+        ensures passes { IfNone result (IsInTurn self.now.saving st.now) }
+    {
+        match save_why(self.progress(), st) {
+            Some(why) => Some(Reply::Refused(Refusal::State(why))),
+            None => None,
+        }
     }
 
     /// How far the savepoint is.
@@ -204,9 +220,7 @@ impl LoggedStore {
 
     // The log leaves that file.
     fn leave_log<D: Disk>(&mut self, disk: &mut D) -> Result<(), Failed>
-        requires log { IsLogFile self.old.files.log.file }
-        requires room { self.old.files.log.end ≤ 2 ^ 61 }
-        requires settled { IsSettled self.old.files (D.view disk.old) }
+        requires { AreReady self.old.files (D.view disk.old) }
         ensures left { OnOk result (LeavesLog self.old (D.view disk.old) self.new (D.view disk.new)) }
         ensures any_moment { MayLeaveLog self.old (D.view disk.old) (D.view disk.new) }
         ensures told { (D.view disk.new).told ≡ (D.view disk.old).told }
@@ -238,13 +252,14 @@ impl LoggedStore {
 
     // How many pages aren't written yet.
     fn pages_left(&self) -> u32
-        requires { IsCounted self.now.saving }
+        requires under_way { IsSome self.now.saving }
+        requires counted { IsCounted self.now.saving }
         ensures { result ≡ pages_left self.now.saving }
     {
-        match &self.saving {
-            None => 0,
-            Some(savepoint) => savepoint.pages().saturating_sub(savepoint.done()) as u32,
-        }
+        let Some(savepoint) = &self.saving else {
+            unreachable!()
+        };
+        savepoint.pages().saturating_sub(savepoint.done()) as u32
     }
 
     // Writes the next page.
@@ -319,11 +334,13 @@ fn progress_in(savepoint: &Savepoint) -> Progress
 
 /// The log's file of a number in a root.
 pub(crate) fn log_file(number: u32) -> Which
+    requires { number < 2 }
     ensures { result ≡ log_file number }
 {
     match number {
         0 => Which::Redo,
-        _ => Which::Redo2,
+        1 => Which::Redo2,
+        _ => unreachable!(),
     }
 }
 
@@ -335,17 +352,7 @@ fn number_of(file: Which) -> u32
 {
     match file {
         Which::Redo => 0,
-        _ => 1,
-    }
-}
-
-// The log's other file.
-fn other_log(file: Which) -> Which
-    ensures { result ≡ other_log file }
-{
-    match file {
-        Which::Redo => Which::Redo2,
-        Which::Redo2 => Which::Redo,
-        Which::Pages => Which::Pages,
+        Which::Redo2 => 1,
+        Which::Pages => unreachable!(),
     }
 }

@@ -5,17 +5,14 @@ ghost use Rattle.ut_plain.specs.Names.{has_table};
 ghost use Rattle.ut_plain.specs.Spelled.{is_spelled};
 ghost use Rattle.ut_value.specs.Text.{is_name};
 ghost use Rattle.ut_engine.specs.Serves.{Serves};
-ghost use Rattle.ut_engine.specs.Staging.{merge_reply, shape_reply, is_merge_reply, is_shape_reply, table_meant, may_tell};
+ghost use Rattle.ut_engine.specs.Staging.{merge_reply, shape_reply, TellsMerge, TellsShape, table_meant, may_tell};
 
 use crate::engine::Engine;
 use crate::error::L1Error;
 use std::alloc::{AllocError, Global};
 use ut_outside::Disk;
 use ut_plain::{Refusal, Reply, Shape, Statement};
-use ut_value::Name;
-
-/// The operator's session, which never has a transaction.
-pub(crate) const OPERATOR: u8 = 0;
+use ut_value::{Name, OPERATOR};
 
 impl<'d, D: Disk> Engine<'d, D> {
     /// Moves the first n rows of a table's first stage to its second, or all where there are fewer, and says how many it moved.
@@ -25,8 +22,8 @@ impl<'d, D: Disk> Engine<'d, D> {
         requires up { self.old.store.down ≡ false }
         ensures serves { Serves self.old.store (D.view self.old.disk) 0 (statements.MergeL1 table.now n) (merge_reply result) self.new.store (D.view self.new.disk) }
         // `Name` exactly where there is no such table.
-        ensures there { IfOk result (λ _. IsTrue (has_table self.old.store.store.tables table.now)) }
-        ensures unknown { IsErrOf result L1Error.Name → has_table self.old.store.store.tables table.now ≡ false }
+        ensures there { IfOk result (λ _. IsTrue (has_table self.old.store.store.rows.tables table.now)) }
+        ensures unknown { IsErrOf result L1Error.Name → has_table self.old.store.store.rows.tables table.now ≡ false }
         ensures up { self.new.store.down ≡ false }
         ensures loan { self.new.loan ≡ self.old.loan }
     {
@@ -39,7 +36,7 @@ impl<'d, D: Disk> Engine<'d, D> {
     pub fn shape(&mut self, alloc: Global, table: &Name) -> Result<Option<Shape>, AllocError>
         requires up { self.old.store.down ≡ false }
         ensures serves { Serves self.old.store (D.view self.old.disk) 0 (statements.Shape table.now) (shape_reply result) self.new.store (D.view self.new.disk) }
-        ensures there { IfOk result (λ shape. is_some shape ≡ has_table self.old.store.store.tables table.now) }
+        ensures there { IfOk result (λ shape. is_some shape ≡ has_table self.old.store.store.rows.tables table.now) }
         ensures up { self.new.store.down ≡ false }
         ensures loan { self.new.loan ≡ self.old.loan }
     {
@@ -54,7 +51,7 @@ impl<'d, D: Disk> Engine<'d, D> {
         requires spelled { IsTrue (is_spelled st.now) }
         requires up { self.old.store.down ≡ false }
         ensures serves { Serves self.old.store (D.view self.old.disk) 0 st.now result self.new.store (D.view self.new.disk) }
-        ensures tells { (name : List ℕ) → table_meant st.now ≡ Some name → IsTrue (may_tell result st.now (has_table self.old.store.store.tables name)) }
+        ensures tells { (name : List ℕ) → table_meant st.now ≡ Some name → IsTrue (may_tell result st.now (has_table self.old.store.store.rows.tables name)) }
         ensures up { self.new.store.down ≡ false }
         ensures loan { self.new.loan ≡ self.old.loan }
     {
@@ -62,7 +59,7 @@ impl<'d, D: Disk> Engine<'d, D> {
     }
 }
 
-// A copy of a name, which keeps the rule of names.
+/// A copy of a name, which keeps the rule of names.
 pub(crate) fn copied(alloc: Global, name: &Name) -> Result<Name, AllocError>
     ensures copy { IfOk result (λ copy. copy ≡ name.now) }
     ensures rule { IsTrue (is_name name.now) }
@@ -73,24 +70,26 @@ pub(crate) fn copied(alloc: Global, name: &Name) -> Result<Name, AllocError>
 
 // What the reply to a merge of a first stage says.
 fn merge_answer(reply: Reply) -> Result<u32, L1Error>
-    requires { IsTrue (is_merge_reply reply) }
+    requires { TellsMerge reply }
     ensures { merge_reply result ≡ reply }
 {
     match reply {
         Reply::Moved(moved) => Ok(moved),
         Reply::Refused(Refusal::Name) => Err(L1Error::Name),
-        _ => Err(L1Error::Memory),
+        Reply::Refused(Refusal::Memory) => Err(L1Error::Memory),
+        _ => unreachable!(),
     }
 }
 
 // What the reply to the question of a table's shape says.
 fn shape_answer(reply: Reply) -> Result<Option<Shape>, AllocError>
-    requires { IsTrue (is_shape_reply reply) }
+    requires { TellsShape reply }
     ensures { shape_reply result ≡ reply }
 {
     match reply {
         Reply::Shape(shape) => Ok(Some(shape)),
         Reply::Refused(Refusal::Name) => Ok(None),
-        _ => Err(AllocError),
+        Reply::Refused(Refusal::Memory) => Err(AllocError),
+        _ => unreachable!(),
     }
 }

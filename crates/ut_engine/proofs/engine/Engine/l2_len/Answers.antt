@@ -10,8 +10,8 @@ pub unwrap-requires : goal.unwrap-requires
 unwrap-requires g c =
     let e = c.self.inside.store.store in
     let runs = c.self.invariant (subst (λ (x : Lent g.row.D.Denot). x.store.down ≡ false) (sym c.self.view_is) c.requires.up) in
-    let within = subst (λ (x : Lent g.row.D.Denot). c.args.place < length x.store.store.tables) (sym c.self.view_is) c.requires.there in
-    mapped_some (λ (s : Staged). length s.l2) e.staged c.args.place c.l2_len.result (staged_within e runs.0 c.args.place runs.1.stands within) c.l2_len.ensures
+    let within = subst (λ (x : Lent g.row.D.Denot). c.args.place < length x.store.store.rows.tables) (sym c.self.view_is) c.requires.there in
+    mapped_some (λ (s : Staged). length s.l2) e.rows.staged c.args.place c.l2_len.result (staged_within e runs.0 c.args.place runs.1.stands within) c.l2_len.ensures
 
 pub returns : goal.returns
 returns g c =

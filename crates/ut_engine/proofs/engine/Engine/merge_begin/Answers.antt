@@ -41,5 +41,5 @@ returns-clause-reason g c =
     let v = g.D.Disk.view c.self.inside.disk.now in
     let w = g.D.Disk.view c.statement_with_job-reply.new.disk in
     let reason = begin_reason e c.statement_with_job-reply.new.self v w c.in_ok-table.table _ c.statement_with_job-reply.result.0 c.begin_answer.result runs.0 runs.1 c.statement_with_job-reply.ensures.serves c.begin_answer.ensures.0 in
-    subst (λ (x : Lent g.row.D.Denot). HasReason c.begin_answer.result (has_table x.store.store.tables c.args.table.now) x.store.store.pending) c.self.view_is
-    (subst (λ (t : List ℕ). HasReason c.begin_answer.result (has_table e.store.tables t) e.store.pending) c.in_ok-table.ensures.copy reason)
+    subst (λ (x : Lent g.row.D.Denot). HasReason c.begin_answer.result (has_table x.store.store.rows.tables c.args.table.now) x.store.store.counts.pending) c.self.view_is
+    (subst (λ (t : List ℕ). HasReason c.begin_answer.result (has_table e.store.rows.tables t) e.store.counts.pending) c.in_ok-table.ensures.copy reason)

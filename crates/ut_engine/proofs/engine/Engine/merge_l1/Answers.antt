@@ -19,7 +19,7 @@ returns-in_err-table-clause-serves g c =
 pub merge_answer-requires : goal.merge_answer-requires
 merge_answer-requires g c =
     let table = c.in_ok-table.table in
-    merge_told c.operate-reply.result table c.args.n (has_table c.args.self.now.store.store.tables table) (c.operate-reply.ensures.tells table refl)
+    merge_told c.operate-reply.result table c.args.n (has_table c.args.self.now.store.store.rows.tables table) (c.operate-reply.ensures.tells table refl)
 
 pub returns-clause-serves : goal.returns-clause-serves
 returns-clause-serves g c =
@@ -31,13 +31,13 @@ returns-clause-serves g c =
 pub returns-clause-there : goal.returns-clause-there
 returns-clause-there g c =
     let table = c.in_ok-table.table in
-    let tables = c.args.self.now.store.store.tables in
+    let tables = c.args.self.now.store.store.rows.tables in
     let tells = subst (λ (t : List ℕ). IsTrue (may_tell c.operate-reply.result (statements.MergeL1 table c.args.n) (has_table tables t))) c.in_ok-table.ensures.copy (c.operate-reply.ensures.tells table refl) in
     merge_there c.merge_answer.result c.operate-reply.result table c.args.n (has_table tables c.args.table.now) c.merge_answer.ensures tells
 
 pub returns-clause-unknown : goal.returns-clause-unknown
 returns-clause-unknown g c =
     let table = c.in_ok-table.table in
-    let tables = c.args.self.now.store.store.tables in
+    let tables = c.args.self.now.store.store.rows.tables in
     let tells = subst (λ (t : List ℕ). IsTrue (may_tell c.operate-reply.result (statements.MergeL1 table c.args.n) (has_table tables t))) c.in_ok-table.ensures.copy (c.operate-reply.ensures.tells table refl) in
     merge_unknown c.merge_answer.result c.operate-reply.result table c.args.n (has_table tables c.args.table.now) c.merge_answer.ensures tells

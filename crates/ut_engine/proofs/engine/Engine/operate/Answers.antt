@@ -18,4 +18,4 @@ pub returns-clause-tells : goal.returns-clause-tells
 returns-clause-tells g c name is =
     let runs = c.self.invariant (subst (λ (e : Lent g.row.D.Denot). e.store.down ≡ false) (sym c.self.view_is) c.requires.up) in
     let answered = stages_answered c.self.inside.store c.statement.new.self (g.D.Disk.view c.self.inside.disk.now) (g.D.Disk.view c.statement.new.disk) c.args.st.now c.statement.result name runs.0 runs.1 is c.statement.ensures in
-    subst (λ (e : Lent g.row.D.Denot). IsTrue (may_tell c.statement.result c.args.st.now (has_table e.store.store.tables name))) c.self.view_is answered.1
+    subst (λ (e : Lent g.row.D.Denot). IsTrue (may_tell c.statement.result c.args.st.now (has_table e.store.store.rows.tables name))) c.self.view_is answered.1

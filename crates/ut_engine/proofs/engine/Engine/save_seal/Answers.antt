@@ -13,6 +13,9 @@ use Rattle.ut_engine.proofs.engine.Engine.save_seal.Goals as goal
 pub save_seal-requires : goal.save_seal-requires
 save_seal-requires g c = record { runs = c.self.invariant (subst (λ (e : Lent g.row.D.Denot). e.store.down ≡ false) (sym c.self.view_is) c.requires.up) }
 
+pub phase_answer-requires : goal.phase_answer-requires
+phase_answer-requires g c = (c.save_seal.new.self.saving, c.save_seal.ensures.tells)
+
 pub invariant_of-self : goal.invariant_of-self
 invariant_of-self g c =
     let runs = c.self.invariant (subst (λ (e : Lent g.row.D.Denot). e.store.down ≡ false) (sym c.self.view_is) c.requires.up) in

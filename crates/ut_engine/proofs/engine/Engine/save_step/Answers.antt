@@ -13,6 +13,9 @@ use Rattle.ut_engine.proofs.engine.Engine.save_step.Goals as goal
 pub save_step-requires : goal.save_step-requires
 save_step-requires g c = record { runs = c.self.invariant (subst (λ (e : Lent g.row.D.Denot). e.store.down ≡ false) (sym c.self.view_is) c.requires.up) }
 
+pub phase_answer-requires : goal.phase_answer-requires
+phase_answer-requires g c = (c.save_step.new.self.saving, c.save_step.ensures.tells)
+
 pub invariant_of-self : goal.invariant_of-self
 invariant_of-self g c =
     let runs = c.self.invariant (subst (λ (e : Lent g.row.D.Denot). e.store.down ≡ false) (sym c.self.view_is) c.requires.up) in

@@ -19,7 +19,7 @@ returns-in_err-table-clause-serves g c =
 pub shape_answer-requires : goal.shape_answer-requires
 shape_answer-requires g c =
     let table = c.in_ok-table.table in
-    shape_told c.operate-reply.result table (has_table c.args.self.now.store.store.tables table) (c.operate-reply.ensures.tells table refl)
+    shape_told c.operate-reply.result table (has_table c.args.self.now.store.store.rows.tables table) (c.operate-reply.ensures.tells table refl)
 
 pub returns-clause-serves : goal.returns-clause-serves
 returns-clause-serves g c =
@@ -31,6 +31,6 @@ returns-clause-serves g c =
 pub returns-clause-there : goal.returns-clause-there
 returns-clause-there g c =
     let table = c.in_ok-table.table in
-    let tables = c.args.self.now.store.store.tables in
+    let tables = c.args.self.now.store.store.rows.tables in
     let tells = subst (λ (t : List ℕ). IsTrue (may_tell c.operate-reply.result (statements.Shape table) (has_table tables t))) c.in_ok-table.ensures.copy (c.operate-reply.ensures.tells table refl) in
     shape_there c.shape_answer.result c.operate-reply.result table (has_table tables c.args.table.now) c.shape_answer.ensures tells

@@ -8,8 +8,8 @@ use Rattle.ut_engine.proofs.engine.Engine.table_name.Goals as goal
 
 pub unwrap-requires : goal.unwrap-requires
 unwrap-requires g c =
-    let within = subst (λ (x : Lent g.row.D.Denot). c.args.place < length x.store.store.tables) (sym c.self.view_is) c.requires.there in
-    item_some (λ (name : Bor (List ℕ)). name.now) (λ (t : Table). t.name) c.self.inside.store.store.tables c.args.place c.table_name.result within c.table_name.ensures
+    let within = subst (λ (x : Lent g.row.D.Denot). c.args.place < length x.store.store.rows.tables) (sym c.self.view_is) c.requires.there in
+    item_some (λ (name : Bor (List ℕ)). name.now) (λ (t : Table). t.name) c.self.inside.store.store.rows.tables c.args.place c.table_name.result within c.table_name.ensures
 
 pub returns : goal.returns
 returns g c =

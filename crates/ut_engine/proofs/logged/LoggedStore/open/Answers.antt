@@ -1,4 +1,4 @@
-use Rattle.std.proofs.Common.{◌≡◌, false, List, Err, None, sym, ◌∙◌, ap, subst}
+use Rattle.std.proofs.Common.{◌≡◌, false, List, Err, None, sym, ◌∙◌, ap, subst, arith}
 use Rattle.std.specs.Prelude.{IsTrue}
 use Rattle.std.proofs.lemmas.Result.{err_from_is_err_and}
 use Rattle.ut_value.specs.declared.entry.Entry.{Entry}
@@ -8,12 +8,10 @@ use Rattle.ut_pages.specs.Layout.{IsMade, IsSelected}
 use Rattle.ut_redo.specs.Logs.{LogHolds}
 use Rattle.ut_durable.specs.Images.{HasImage}
 use Rattle.ut_durable.specs.Journals.{place_of}
-use Rattle.ut_reading.specs.Reading.{IsImageIn}
-use Rattle.ut_plain.specs.Capture.{Directory}
 use Rattle.ut_engine.specs.declared.error.OpenError.TheVariants.{Damaged}
 use Rattle.ut_engine.specs.Logged.{Logged}
 use Rattle.ut_engine.specs.Runs.{Opens}
-use Rattle.ut_engine.proofs.FileLemmas.{IsRead, NotedBehind, began, opens, page_damaged, redo_damaged, restart_damaged, no_log, no_journal}
+use Rattle.ut_engine.proofs.FileLemmas.{IsRead, NotedBehind, began, opens, page_damaged, redo_damaged, restart_damaged, log_damaged, entries_damaged}
 use Rattle.ut_engine.proofs.logged.LoggedStore.open.Goals as goal
 
 -- the page file is made where its image is read
@@ -51,46 +49,31 @@ returns-in_err-pages-clause-damaged g c is told =
     )
 
 pub returns-in_err-redo-clause-damaged : goal.returns-in_err-redo-clause-damaged
-returns-in_err-redo-clause-damaged g c is told =
-    let first = c.in_ok-settle.ensures.reads in
-    let second = c.in_ok-made.ensures.reads in
-    let third = c.in_ok-pages.ensures.reads in
-    let told1 = subst IsTrue (sym first.told) told in
-    let told2 = subst IsTrue (sym second.told) told1 in
-    let told3 = subst IsTrue (sym third.told) told2 in
-    let seen2 = second.seen ∙ first.seen in
-    let seen3 = third.seen ∙ seen2 in
-    let made = (c.in_ok-made.ensures.made told1).0 c.if-not-branch.false in
-    let found = subst (λ (i : Image). (d : Directory) × IsImageIn c.in_ok-pages.field-0 d i.pages) seen2 (c.in_ok-pages.ensures.found told2) in
+returns-in_err-redo-clause-damaged g c is =
+    let image = c.in_ok-pages in
+    let read : IsRead (g.D.Disk.view c.args.disk.now) _ _ _ = record { settle = c.in_ok-settle.ensures.reads; made = c.in_ok-made.ensures.reads; image = image.ensures.reads; is_made = λ told. (c.in_ok-made.ensures.made told).0 c.if-not-branch.false } in
     let p = err_from_is_err_and c.from_residual-in_err-redo.result c.from_residual-in_err-redo.ensures.1 in
     let same : p.0 ≡ Damaged = cc in
-    let error = redo_damaged c.in_err-redo.field-0.0 (sym p.2 ∙ same) in (
-      subst (λ (i : Image). IsMade i.pages) first.seen made,
-      no_log c.in_ok-pages.field-0 (g.D.Disk.view c.args.disk.now).seen found
-          (λ items end holds.
-          let there = subst (λ (i : Image). LogHolds (place_of c.in_ok-pages.field-0.root) items end i) (sym seen3) holds in
-          c.in_err-redo.ensures.damaged (ap Err error) told3 items end
-          (subst (λ (file : Which). LogHolds (record { file = file; end = c.in_ok-pages.field-0.root.offset }) items end (g.D.Disk.view c.read_image.new.disk).seen) (sym c.log_file-begins.ensures) there)),
-    )
+    let error = redo_damaged c.in_err-redo.field-0.0 (sym p.2 ∙ same) in
+    log_damaged _ _ _ _ read image.field-0 image.ensures.found (λ told items end holds.
+    c.in_err-redo.ensures.damaged (ap Err error) told items end
+    (subst (λ (file : Which). LogHolds (record { file = file; end = image.field-0.root.offset }) items end (g.D.Disk.view c.read_image.new.disk).seen) (sym c.log_file-begins.ensures) holds))
 
 pub returns-in_err-store-clause-damaged : goal.returns-in_err-store-clause-damaged
-returns-in_err-store-clause-damaged g c is told =
-    let first = c.in_ok-settle.ensures.reads in
-    let second = c.in_ok-made.ensures.reads in
-    let third = c.in_ok-pages.ensures.reads in
-    let told1 = subst IsTrue (sym first.told) told in
-    let told2 = subst IsTrue (sym second.told) told1 in
-    let told3 = subst IsTrue (sym third.told) told2 in
-    let seen2 = second.seen ∙ first.seen in
-    let seen3 = third.seen ∙ seen2 in
-    let made = (c.in_ok-made.ensures.made told1).0 c.if-not-branch.false in
-    let found = subst (λ (i : Image). (d : Directory) × IsImageIn c.in_ok-pages.field-0 d i.pages) seen2 (c.in_ok-pages.ensures.found told2) in
-    let there = subst (λ (file : Which). LogHolds (record { file = file; end = c.in_ok-pages.field-0.root.offset }) c.in_ok-redo.entries c.in_ok-redo.redo (g.D.Disk.view c.read_image.new.disk).seen) c.log_file-begins.ensures (c.in_ok-redo.ensures.found told3) in
-    let log = subst (λ (i : Image). LogHolds (place_of c.in_ok-pages.field-0.root) c.in_ok-redo.entries c.in_ok-redo.redo i) seen3 there in
+returns-in_err-store-clause-damaged g c is =
+    let image = c.in_ok-pages in
+    let read : IsRead (g.D.Disk.view c.args.disk.now) _ _ _ = record { settle = c.in_ok-settle.ensures.reads; made = c.in_ok-made.ensures.reads; image = image.ensures.reads; is_made = λ told. (c.in_ok-made.ensures.made told).0 c.if-not-branch.false } in
     let p = err_from_is_err_and c.from_residual-in_err-store.result c.from_residual-in_err-store.ensures.1 in
     let same : p.0 ≡ Damaged = cc in
     let error = restart_damaged c.in_err-store.field-0.0 (sym p.2 ∙ same) in
-    (subst (λ (i : Image). IsMade i.pages) first.seen made, no_journal c.in_ok-pages.field-0 (g.D.Disk.view c.args.disk.now).seen c.in_ok-redo.entries c.in_ok-redo.redo found log (c.in_err-store.ensures.damaged (ap Err error)))
+    entries_damaged _ _ _ _ read image.field-0 image.ensures.found c.in_ok-redo.entries c.in_ok-redo.redo (λ told.
+    subst (λ (file : Which). LogHolds (record { file = file; end = image.field-0.root.offset }) c.in_ok-redo.entries c.in_ok-redo.redo (g.D.Disk.view c.read_image.new.disk).seen) c.log_file-begins.ensures (c.in_ok-redo.ensures.found told))
+    (c.in_err-store.ensures.damaged (ap Err error))
+
+pub log_file-begins-requires : goal.log_file-begins-requires
+log_file-begins-requires g c =
+    let allowed = c.in_ok-pages.ensures.begins.1.rules.allowed in
+    omega (arith, allowed.file, allowed.version)
 
 pub returns-clause-opens : goal.returns-clause-opens
 returns-clause-opens g c =
@@ -101,13 +84,13 @@ returns-clause-opens g c =
     let v4 : View = g.D.Disk.view c.read_all.new.disk in
     let image = c.in_ok-pages in
     let log = c.in_ok-redo.ensures in
-    let read : IsRead v0 v1 v2 v3 v4 = record { settle = c.in_ok-settle.ensures.reads; made = c.in_ok-made.ensures.reads; image = image.ensures.reads; log = log.reads; settled = c.in_ok-settle.ensures.settled } in
+    let read : IsRead v0 v1 v2 v3 = record { settle = c.in_ok-settle.ensures.reads; made = c.in_ok-made.ensures.reads; image = image.ensures.reads; is_made = λ told. (c.in_ok-made.ensures.made told).0 c.if-not-branch.false } in
     let begins = image.ensures.begins in
     let base = began image.field-0 begins.0 begins.1 in
     let held : IsTold v3 → LogHolds (place_of image.field-0.root) c.in_ok-redo.entries c.in_ok-redo.redo v3.seen =
     λ told. subst (λ (file : Which). LogHolds (record { file = file; end = image.field-0.root.offset }) c.in_ok-redo.entries c.in_ok-redo.redo v3.seen) c.log_file-begins.ensures (log.found told) in
     let opened =
-    opens v0 v1 v2 v3 v4 read c.in_ok-store.store c.in_ok-redo.redo c.in_ok-next.next image.field-0 c.in_ok-redo.entries c.args.rows c.in_ok-store.ensures.ok log.log log.small
+    opens v0 v1 v2 v3 v4 read log.reads c.in_ok-settle.ensures.settled c.in_ok-store.store c.in_ok-redo.redo c.in_ok-next.next image.field-0 c.in_ok-redo.entries c.args.rows c.in_ok-store.ensures.ok log.log log.small
     (subst (λ (entries : List Entry). NotedBehind image.field-0.root.next entries c.in_ok-next.next) c.as_slice.ensures c.in_ok-next.ensures)
-    (λ told. (c.in_ok-made.ensures.made told).0 c.if-not-branch.false) image.ensures.found held begins.0 base.0 base.1 in
+    image.ensures.found held begins.0 base.0 base.1 in
     subst (λ (e : Logged). Opens e c.args.rows v0 v4) (λ i. record { store = c.in_ok-store.store; files = (sym c.new.ensures) i; begins = (sym c.log_file-begins.ensures) i; saving = None; next = c.in_ok-next.next; down = false }) opened

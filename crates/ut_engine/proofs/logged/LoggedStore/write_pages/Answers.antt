@@ -1,6 +1,7 @@
-use Rattle.std.proofs.Common.{◌≡◌, ℕ, min, ◌∙◌, refl, subst, arith}
+use Rattle.std.proofs.Common.{◌≡◌, ℕ, min, ◌∙◌, refl, sym, subst, arith}
+use Rattle.std.specs.Option.{IsSome}
 use Rattle.ut_outside.specs.Disk.{View}
-use Rattle.ut_durable.specs.Calls.{Held as Files, Stays}
+use Rattle.ut_durable.specs.Calls.{FilesHeld, Stays}
 use Rattle.ut_engine.specs.Logged.{Logged}
 use Rattle.ut_engine.specs.Saves.{pages_left, Goes}
 use Rattle.ut_engine.proofs.PagesLemmas.{stays_none, stays_then, goes_none, goes_more, goes_on}
@@ -16,13 +17,16 @@ loop-init g c =
       later = omega arith;
     }
 
+pub pages_left-requires-clause-under_way : goal.pages_left-requires-clause-under_way
+pages_left-requires-clause-under_way g c = subst IsSome (sym c.requires.goes.under_way) refl
+
 pub write_page-requires-clause-goes : goal.write_page-requires-clause-goes
 write_page-requires-clause-goes g c =
     goes_on c.loop.counter c.args.self.now c.loop.self (g.D.Disk.view c.args.disk.now) (g.D.Disk.view c.loop.disk) c.requires.goes c.loop.invariant.goes
 
 pub returns-in_err-write_page-clause-stays : goal.returns-in_err-write_page-clause-stays
 returns-in_err-write_page-clause-stays g c =
-    let f : Files = c.args.self.now.files in
+    let f : FilesHeld = c.args.self.now.files in
     let v : View = g.D.Disk.view c.args.disk.now in
     let m : View = g.D.Disk.view c.loop.disk in
     let w : View = g.D.Disk.view c.write_page.new.disk in
@@ -31,7 +35,7 @@ returns-in_err-write_page-clause-stays g c =
 
 pub loop-preserved : goal.loop-preserved
 loop-preserved g c =
-    let f : Files = c.args.self.now.files in
+    let f : FilesHeld = c.args.self.now.files in
     let v : View = g.D.Disk.view c.args.disk.now in
     let m : View = g.D.Disk.view c.loop.disk in
     let w : View = g.D.Disk.view c.write_page.new.disk in
