@@ -40,7 +40,7 @@ use Rattle.ut_app.proofs.RunLemmas.{late_fits, early_cause, streams_stay, opened
 
 -- ---- the way
 
-pub bench-start : (plan : Plan) (entry now : View) (left : List (List ℕ)) (lines : ℕ) (store : Logged) (notes : Noting) → left ≡ script_of plan → lines ≡ 0 → Begun (start_of plan) plan.rows entry now store → notes.acks ≡ [] → notes.journal ≡ store.store.entries
+pub bench-start : (plan : Plan) (entry now : View) (left : List (List ℕ)) (lines : ℕ) (store : Logged) (notes : Noting) → left ≡ script_of plan → lines ≡ 0 → Begun (start_of plan) plan.rows entry now store → notes.acks ≡ [] → notes.journal ≡ store.store.counts.entries
     → notes.tally ≡ tally_of [] → now.told ≡ entry.told → entry.faults ≤ now.faults → IsBenching plan entry now left lines store notes
 bench-start plan entry now left lines store notes all none begun no_acks journal tally told faults = record {
   front = [];
@@ -81,7 +81,7 @@ not_both : (heard : Heard) → heard ≡ heards.Fault → is_fault heard ≡ fal
 not_both heard e f = let no : true ≡ false = sym (ap is_fault e) ∙ f in cc
 
 module _ (plan : Plan) (entry was now : View) (all left : List (List ℕ)) (lines : ℕ) (old new : Logged) (notes notes_now : Noting) (text : List ℕ) (heard : Heard) (b : IsBenching plan entry was all lines old notes) (took : all ≡ text ∷ left)
-    (noted : notes_now ≡ noted_by heard notes old.store.entries new.store.entries now.moment) (told : now.told ≡ was.told) (faults : was.faults ≤ now.faults) (only : OnlyNow now) (counts : CountsNow now) where
+    (noted : notes_now ≡ noted_by heard notes old.store.counts.entries new.store.counts.entries now.moment) (told : now.told ≡ was.told) (faults : was.faults ≤ now.faults) (only : OnlyNow now) (counts : CountsNow now) where
   abbrev front_now : List (List ℕ)
   front_now = b.front ++ text ∷ []
 
@@ -90,12 +90,12 @@ module _ (plan : Plan) (entry was now : View) (all left : List (List ℕ)) (line
 
   -- what is noted of an answer
   noted_now : (a : Answer) → heard ≡ heard_of a.reply → (a.reply ≡ replies.DiskFault → ⊥)
-      → notes_now ≡ record { acks = notes.acks ++ record { journal = new.store.entries; moment = now.moment } ∷ []; journal = new.store.entries; tally = counted notes.tally (heard_of a.reply) }
-  noted_now a e sound = noted ∙ ap (λ (h : Heard). noted_by h notes old.store.entries new.store.entries now.moment) e ∙ noted_answer notes old.store.entries new.store.entries now.moment a.reply sound
+      → notes_now ≡ record { acks = notes.acks ++ record { journal = new.store.counts.entries; moment = now.moment } ∷ []; journal = new.store.counts.entries; tally = counted notes.tally (heard_of a.reply) }
+  noted_now a e sound = noted ∙ ap (λ (h : Heard). noted_by h notes old.store.counts.entries new.store.counts.entries now.moment) e ∙ noted_answer notes old.store.counts.entries new.store.counts.entries now.moment a.reply sound
 
   going_on : is_fault heard ≡ false → Hearing b.course.plain (parsed false text) was heard new now → IsBenching plan entry now left (lines + 1) new notes_now
   going_on well (Quiet q e answers runs keeps) =
-      let n : notes_now ≡ record { acks = notes.acks; journal = new.store.entries; tally = notes.tally } = noted ∙ ap (λ (h : Heard). noted_by h notes old.store.entries new.store.entries now.moment) e in
+      let n : notes_now ≡ record { acks = notes.acks; journal = new.store.counts.entries; tally = notes.tally } = noted ∙ ap (λ (h : Heard). noted_by h notes old.store.counts.entries new.store.counts.entries now.moment) e in
       let same : notes_now.tally ≡ notes.tally = ap (λ (x : Noting). x.tally) n in
       record {
         front = front_now;
@@ -163,8 +163,8 @@ module _ (plan : Plan) (entry was now : View) (all left : List (List ℕ)) (line
       no_fault (replies.Shape x) s f = cc
       no_fault (replies.Refused x) s f = cc
   faulted_by ill rose (Failed a q e faulted keeps) =
-      let n : notes_now ≡ record { acks = notes.acks ++ record { journal = old.store.entries; moment = now.moment } ∷ []; journal = old.store.entries; tally = notes.tally } =
-      noted ∙ ap (λ (h : Heard). noted_by h notes old.store.entries new.store.entries now.moment) e in
+      let n : notes_now ≡ record { acks = notes.acks ++ record { journal = old.store.counts.entries; moment = now.moment } ∷ []; journal = old.store.counts.entries; tally = notes.tally } =
+      noted ∙ ap (λ (h : Heard). noted_by h notes old.store.counts.entries new.store.counts.entries now.moment) e in
       let length_is = b.course.runs.stands.counts.entries in
       record {
         front = front_now;

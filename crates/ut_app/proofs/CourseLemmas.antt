@@ -32,7 +32,7 @@ lines-one [] line = refl
 lines-one (l ∷ ls) line = ap (λ xs. parsed false l ∷ xs) (lines-one ls line)
 
 -- nothing was answered yet
-pub course-start : (start : Start) (rows : ℕ) (entry now : View) (store : Logged) (acks : List Ack) (journal : ℕ) → Begun start rows entry now store → acks ≡ [] → journal ≡ store.store.entries → Course start rows entry now [] [] store acks journal
+pub course-start : (start : Start) (rows : ℕ) (entry now : View) (store : Logged) (acks : List Ack) (journal : ℕ) → Begun start rows entry now store → acks ≡ [] → journal ≡ store.store.counts.entries → Course start rows entry now [] [] store acks journal
 course-start start rows entry now store acks journal begun none is =
     subst (λ (ks : List Ack). Course start rows entry now [] [] store ks journal) (sym none) (record {
       first = begun.first;

@@ -131,7 +131,7 @@ unrun_cause Damaged before after u h = absurd u
 unrun_cause Memory before after u h = tt
 unrun_cause TooLong before after u h = tt
 
-pub crowd_unrun : (plan : Plan) (before after : World) (status said : Status) (lines : ℕ) (acks : List Ack) (journal : ℕ) (store : Logged) → said ≡ status → lines ≡ 0 → acks ≡ [] → journal ≡ store.store.entries → Begun (start_of plan) plan.rows before.disk after.disk store
+pub crowd_unrun : (plan : Plan) (before after : World) (status said : Status) (lines : ℕ) (acks : List Ack) (journal : ℕ) (store : Logged) → said ≡ status → lines ≡ 0 → acks ≡ [] → journal ≡ store.store.counts.entries → Begun (start_of plan) plan.rows before.disk after.disk store
     → IsUnread plan.lines before.source status before.reads after.reads → sink_of after ≡ sink_of before → CrowdRun plan before after said lines acks journal
 crowd_unrun plan before after status said lines acks journal store is none no_acks length begun unread sink =
     let fits : IsTold before.disk → FitsStore status (start_of plan) before.disk.seen = λ told. late_fits status (start_of plan) before.disk.seen (unrun_late status unread.unrun) (begun.first, begun.begins told) in
@@ -217,7 +217,7 @@ fault_by Memory stopped down ends is = tt
 fault_by TooLong stopped down ends is = absurd ends
 
 module _ (plan : Plan) (entry mid now : View) (status : Status) (script : List (List ℕ)) (book : List Turn) (all stopped : Bool) (store new : Logged) (journal : ℕ) (begun : Begun (start_of plan) plan.rows entry mid store) (told : mid.told ≡ entry.told) (le : entry.faults ≤ mid.faults)
-    (c : Crowded store mid script book all stopped new now) (ends : EndsBook status stopped new.down) (length_is : journal ≡ last_length new.down new.store.entries book) where
+    (c : Crowded store mid script book all stopped new now) (ends : EndsBook status stopped new.down) (length_is : journal ≡ last_length new.down new.store.counts.entries book) where
   abbrev p : Plain
   p = opened begun.first plan.rows
 
@@ -232,7 +232,7 @@ module _ (plan : Plan) (entry mid now : View) (status : Status) (script : List (
     begins = begun.begins;
     plain = q;
     legal = inl (record {
-      all = record { tells = tells; length_is = length_is ∙ length_by new.down new.store.entries book false runs.up ∙ runs.stands.counts.entries };
+      all = record { tells = tells; length_is = length_is ∙ length_by new.down new.store.counts.entries book false runs.up ∙ runs.stands.counts.entries };
       stays = runs_whole new now q runs;
     });
     kept = λ t. kept_of (start_of plan) entry mid now begun.first.journal q.journal (acks_in book) (begun.kept t) (holding (told ∙ t));
@@ -257,7 +257,7 @@ module _ (plan : Plan) (entry mid now : View) (status : Status) (script : List (
         lengths_are = answers.lengths_are;
         tells = answers.tells;
         faults = answers.faults;
-        length_is = length_is ∙ length_by new.down new.store.entries book true down ∙ last_is book answers.told (journal_len answers.mid.journal) answers.lengths_are;
+        length_is = length_is ∙ length_by new.down new.store.counts.entries book true down ∙ last_is book answers.told (journal_len answers.mid.journal) answers.lengths_are;
       };
       says = fault_by status stopped new.down ends down;
       rose = omega (arith, le, rose);
@@ -326,7 +326,7 @@ late_cause TooLong before after stopped down e w d = absurd e
 
 pub crowd_late : (plan : Plan) (before after : World) (mid : View) (status : Status) (script : List (List ℕ)) (book : List Turn) (all stopped : Bool) (store new : Logged) (lines : ℕ) (acks : List Ack) (journal : ℕ) → Begun (start_of plan) plan.rows before.disk mid store
     → mid.told ≡ before.disk.told → before.disk.faults ≤ mid.faults → IsRead plan.lines before.source after.source script → Crowded store mid script book all stopped new after.disk
-    → TellsEnd stopped new.down book (length script) (sink_of before) after.disk.moment (sink_of after) status lines acks → journal ≡ last_length new.down new.store.entries book → CrowdRun plan before after status lines acks journal
+    → TellsEnd stopped new.down book (length script) (sink_of before) after.disk.moment (sink_of after) status lines acks → journal ≡ last_length new.down new.store.counts.entries book → CrowdRun plan before after status lines acks journal
 crowd_late plan before after mid status script book all stopped store new lines acks journal begun told le read c t length_is =
     let late = book_late status stopped new.down t.ends in
     let fits : IsTold before.disk → FitsStore status (start_of plan) before.disk.seen = λ k. late_fits status (start_of plan) before.disk.seen (late_late status late) (begun.first, begun.begins k) in

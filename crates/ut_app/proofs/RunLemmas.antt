@@ -156,7 +156,7 @@ no_memory plan before said lines acks journal only is none no_acks no_journal =
 
 -- ---- the way
 
-pub going-start : (plan : Plan) (before : World) (disk : View) (lines : Reading) (store : Logged) (acks : List Ack) (journal : ℕ) → lines ≡ record { held = []; line = []; number = 0; limit = plan.lines; failed = None } → Begun (start_of plan) plan.rows before.disk disk store → acks ≡ [] → journal ≡ store.store.entries
+pub going-start : (plan : Plan) (before : World) (disk : View) (lines : Reading) (store : Logged) (acks : List Ack) (journal : ℕ) → lines ≡ record { held = []; line = []; number = 0; limit = plan.lines; failed = None } → Begun (start_of plan) plan.rows before.disk disk store → acks ≡ [] → journal ≡ store.store.counts.entries
     → ((bytes : List ℕ) → before.sink ≡ Some bytes → length before.marks ≡ length bytes) → disk.told ≡ before.disk.told → before.disk.faults ≤ disk.faults → Going plan before (record before { disk = disk }) 0 lines store acks journal
 going-start plan before disk lines store acks journal is b none len each told faults = record {
   script = [];

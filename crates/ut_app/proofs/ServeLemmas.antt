@@ -21,7 +21,7 @@ use Rattle.ut_app.specs.World.{World}
 use Rattle.ut_app.specs.Writing.{answer_text, Writes, HasWritten}
 use Rattle.ut_app.specs.Asking.{replies_of, AsksInTime}
 use Rattle.ut_course.specs.Keeping.{Keeps}
-use Rattle.ut_app.specs.Turning.{Sunk, Noted, Turn, Quiet, Told, Unwritten, Lost, LostUnwritten}
+use Rattle.ut_app.specs.Turning.{Sunk, Noted, LineOutcome, Quiet, Told, Unwritten, Lost, LostUnwritten}
 use Rattle.ut_app.specs.Plans.{start_of}
 use Rattle.ut_app.specs.Origin.{opened}
 use Rattle.ut_app.specs.Beginning.{Begun}
@@ -34,7 +34,7 @@ use Rattle.ut_app.proofs.AskLemmas.{in_time_start, in_time_more, replies_more}
 use Rattle.ut_app.proofs.MarkLemmas.{written-more, written-some, nothing_written}
 
 -- nothing was answered yet
-pub progress-start : (plan : Plan) (before : World) (now : View) (store : Logged) (acks : List Ack) (journal : ℕ) → Begun (start_of plan) plan.rows before.disk now store → acks ≡ [] → journal ≡ store.store.entries
+pub progress-start : (plan : Plan) (before : World) (now : View) (store : Logged) (acks : List Ack) (journal : ℕ) → Begun (start_of plan) plan.rows before.disk now store → acks ≡ [] → journal ≡ store.store.counts.entries
     → ((bytes : List ℕ) → before.sink ≡ Some bytes → length before.marks ≡ length bytes) → Progress plan before (record before { disk = now }) [] store acks journal
 progress-start plan before now store acks journal begun none is each = record {
   answers = [];
@@ -73,7 +73,7 @@ not_err : (r : Result (Unit {0}) TurnEnd) (e : TurnEnd) → r ≡ Ok tt → r �
 not_err r e h k = subst is_ok (sym h ∙ k) tt
 
 pub ok_turn : (p : Plain) (line : Parsed) (was : View) (acks : List Ack) (journal : ℕ) (held : Option (List ℕ)) (marks : List ℕ) (result : Result (Unit {0}) TurnEnd) (new : Logged) (now : View) (acks_now : List Ack) (journal_now : ℕ) (held_now : Option (List ℕ)) (marks_now : List ℕ) → result ≡ Ok tt
-    → Turn p line was (record { acks = acks; journal = journal }) (record { held = held; marks = marks }) result new now (record { acks = acks_now; journal = journal_now }) (record { held = held_now; marks = marks_now })
+    → LineOutcome p line was (record { acks = acks; journal = journal }) (record { held = held; marks = marks }) result new now (record { acks = acks_now; journal = journal_now }) (record { held = held_now; marks = marks_now })
     → QuietTurn p line was acks held marks new now acks_now journal_now held_now marks_now ⊎ ToldTurn p line was acks held marks new now acks_now journal_now held_now marks_now
 ok_turn p line was acks journal held marks result new now acks_now journal_now held_now marks_now ok (Quiet q r answers runs keeps n s) =
     inl (record { plain = q; answers = answers; runs = runs; keeps = keeps; acks_are = ap (λ (x : Noted). x.acks) n; length_is = ap (λ (x : Noted). x.journal) n; held_is = ap (λ (x : Sunk). x.held) s; marks_are = ap (λ (x : Sunk). x.marks) s })
@@ -136,7 +136,7 @@ module _ (plan : Plan) (before was now : World) (script : List (List ℕ)) (old 
   progress_by (inl t) = quiet_on t.plain t.answers t.runs t.keeps t.acks_are t.length_is t.held_is t.marks_are
   progress_by (inr t) = told_on t.answer t.plain t.answers t.runs t.keeps t.acks_are t.length_is t.writes
 
-  pub progress-more : Turn c.plain (parsed false line) was.disk (record { acks = acks; journal = journal }) (record { held = was.sink; marks = was.marks }) (Ok tt) new now.disk (record { acks = acks_now; journal = journal_now }) (record { held = now.sink; marks = now.marks })
+  pub progress-more : LineOutcome c.plain (parsed false line) was.disk (record { acks = acks; journal = journal }) (record { held = was.sink; marks = was.marks }) (Ok tt) new now.disk (record { acks = acks_now; journal = journal_now }) (record { held = now.sink; marks = now.marks })
       → Progress plan before now more new acks_now journal_now
   progress-more t = progress_by (ok_turn c.plain (parsed false line) was.disk acks journal was.sink was.marks (Ok tt) new now.disk acks_now journal_now now.sink now.marks refl t)
 
@@ -165,7 +165,7 @@ module _ (plan : Plan) (before was now : World) (script : List (List ℕ)) (old 
 
   -- the sink failed at the answer
   pub write_end : before.disk.faults ≤ was.disk.faults
-      → Turn c.plain (parsed false line) was.disk (record { acks = acks; journal = journal }) (record { held = was.sink; marks = was.marks }) (Err ends.Write) new now.disk (record { acks = acks_now; journal = journal_now }) (record { held = now.sink; marks = now.marks })
+      → LineOutcome c.plain (parsed false line) was.disk (record { acks = acks; journal = journal }) (record { held = was.sink; marks = was.marks }) (Err ends.Write) new now.disk (record { acks = acks_now; journal = journal_now }) (record { held = now.sink; marks = now.marks })
       → Answered plan before now statuses.WriteFault more acks_now journal_now
   write_end le (Quiet q r answers runs keeps n s) = cc
   write_end le (Told a q r answers runs keeps n w) = cc
@@ -177,7 +177,7 @@ module _ (plan : Plan) (before was now : World) (script : List (List ℕ)) (old 
 
   -- the disk failed at the line
   pub disk_end : Rose was.disk.faults now.disk.faults → before.disk.faults ≤ was.disk.faults
-      → Turn c.plain (parsed false line) was.disk (record { acks = acks; journal = journal }) (record { held = was.sink; marks = was.marks }) (Err ends.Disk) new now.disk (record { acks = acks_now; journal = journal_now }) (record { held = now.sink; marks = now.marks })
+      → LineOutcome c.plain (parsed false line) was.disk (record { acks = acks; journal = journal }) (record { held = was.sink; marks = was.marks }) (Err ends.Disk) new now.disk (record { acks = acks_now; journal = journal_now }) (record { held = now.sink; marks = now.marks })
       → Answered plan before now statuses.DiskFault more acks_now journal_now
   disk_end rose le (Quiet q r answers runs keeps n s) = cc
   disk_end rose le (Told a q r answers runs keeps n w) = cc

@@ -19,7 +19,8 @@ replies_of (line ∷ lines) (a ∷ answers) = answer_text a ∷ replies_of lines
 abbrev pub joined : List (List ℕ) → List ℕ
 joined texts = flat_map (λ (text : List ℕ). text) texts
 
--- A call that asked for more: the lines that had ended by then were answered, and the sink, which had these bytes before the run, had taken the replies to them.
+-- A call that asked for more: the lines that had ended by then were answered,
+-- and the sink, which had these bytes before the run, had taken the replies to them.
 pub record IsInTime (input before : List ℕ) (replies : List (List ℕ)) (ask : Ask) : Type 0 where
   pub given : List ℕ
   pub after : List ℕ

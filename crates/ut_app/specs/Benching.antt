@@ -51,17 +51,21 @@ pub record Sinking : Type 0 where
   pub marks : List ℕ
   pub writes : ℕ
 
+-- the sink of the world outside
 abbrev pub sink_of : World → Sinking
 sink_of w = record { held = w.sink; marks = w.marks; writes = w.writes }
 
 -- the line was written, or where the sink failed a part of it; with any other status it was given nothing
 abbrev pub TellsLine : Status → Sinking → List ℕ → ℕ → Sinking → Type 0
 TellsLine Done was text moment now = Writes {T = Unit {0}} {E = Failed} was.held was.marks text moment (Ok tt) now.held now.marks
-TellsLine WriteFault was text moment now = (e : Failed) × Writes {T = Unit {0}} {E = Failed} was.held was.marks text moment (Err e) now.held now.marks
+TellsLine WriteFault was text moment now =
+    (e : Failed) × Writes {T = Unit {0}} {E = Failed} was.held was.marks text moment (Err e) now.held now.marks
 TellsLine _ was text moment now = now ≡ was
 
 -- what is noted stays
-pub record KeepsNotes (acks : List Ack) (journal : ℕ) (tally : Tally) (acks_now : List Ack) (journal_now : ℕ) (tally_now : Tally) : Type 0 where
+pub record KeepsNotes
+    (acks : List Ack) (journal : ℕ) (tally : Tally) (acks_now : List Ack) (journal_now : ℕ)
+    (tally_now : Tally) : Type 0 where
   pub same_acks : acks_now ≡ acks
   pub same_journal : journal_now ≡ journal
   pub same_tally : tally_now ≡ tally
@@ -107,12 +111,15 @@ IsReached _ = ⊥
 
 -- The run ended before the first line, or lines were answered.
 pub data BenchEnd (plan : Plan) (before after : World) (status : Status) (lines : ℕ) (acks : List Ack) (journal : ℕ) : Type 0 where
-  Early : IsEarly status → EndedEarly (start_of plan) before after status lines acks journal → BenchEnd plan before after status lines acks journal
+  Early : IsEarly status → EndedEarly (start_of plan) before after status lines acks journal
+      → BenchEnd plan before after status lines acks journal
   Late : IsReached status → Benched plan before after status lines acks journal → BenchEnd plan before after status lines acks journal
 
 -- Where the files are what the run begins with and no count of faults rose, the status is Done or Memory.
 pub record IsWholeBench (plan : Plan) (before after : World) (status : Status) : Type 0 where
-  pub complete : IsTold before.disk → (first : Origin) → Begins (start_of plan) first before.disk.seen → (Rose before.writes after.writes → ⊥) → (Rose before.disk.faults after.disk.faults → ⊥) → (status ≡ Done) ⊎ (status ≡ Memory)
+  pub complete : IsTold before.disk → (first : Origin) → Begins (start_of plan) first before.disk.seen
+      → (Rose before.writes after.writes → ⊥) → (Rose before.disk.faults after.disk.faults → ⊥)
+      → (status ≡ Done) ⊎ (status ≡ Memory)
 
 -- All that holds of a run of the benchmark.
 pub record BenchRun (plan : Plan) (before after : World) (status : Status) (lines : ℕ) (acks : List Ack) (journal : ℕ) : Type 0 where

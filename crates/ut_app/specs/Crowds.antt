@@ -51,9 +51,13 @@ pub record IsUnread (limit : ℕ) (before : Option (List ℕ)) (status : Status)
 
 -- the text of the book was written, or where the sink failed a part of it; where memory was wanting it was given nothing
 abbrev pub TellsBook : Status → Sinking → List Turn → ℕ → Sinking → Type 0
-TellsBook Done was book moment now = Writes {T = Unit {0}} {E = Failed} was.held was.marks (book_text book) moment (Ok tt) now.held now.marks
-TellsBook DiskFault was book moment now = Writes {T = Unit {0}} {E = Failed} was.held was.marks (book_text book) moment (Ok tt) now.held now.marks
-TellsBook WriteFault was book moment now = (e : Failed) × Writes {T = Unit {0}} {E = Failed} was.held was.marks (book_text book) moment (Err e) now.held now.marks
+TellsBook Done was book moment now =
+    Writes {T = Unit {0}} {E = Failed} was.held was.marks (book_text book) moment (Ok tt) now.held now.marks
+TellsBook DiskFault was book moment now =
+    Writes {T = Unit {0}} {E = Failed} was.held was.marks (book_text book) moment (Ok tt) now.held now.marks
+TellsBook WriteFault was book moment now =
+    (e : Failed)
+    × Writes {T = Unit {0}} {E = Failed} was.held was.marks (book_text book) moment (Err e) now.held now.marks
 TellsBook _ was book moment now = now ≡ was
 
 -- these are the first ones of those
@@ -71,6 +75,7 @@ last_journal [] = 0
 last_journal (t ∷ []) = t.journal
 last_journal (t ∷ u ∷ book) = last_journal (u ∷ book)
 
+-- the length of the journal that a run comes to: as its last turn says where the disk failed, else as the store does
 abbrev pub last_length : (down : Bool) → (entries : ℕ) → List Turn → ℕ
 last_length down entries book = if down then last_journal book else entries
 
@@ -96,7 +101,9 @@ EndsBook Memory stopped down = Unit {0}
 EndsBook _ stopped down = ⊥
 
 -- What a report and the sink say of a book.
-pub record TellsEnd (stopped down : Bool) (book : List Turn) (all : ℕ) (was : Sinking) (moment : ℕ) (now : Sinking) (status : Status) (lines : ℕ) (acks : List Ack) : Type 0 where
+pub record TellsEnd
+    (stopped down : Bool) (book : List Turn) (all : ℕ) (was : Sinking) (moment : ℕ) (now : Sinking) (status : Status)
+    (lines : ℕ) (acks : List Ack) : Type 0 where
   pub ends : EndsBook status stopped down
   pub written : TellsBook status was book moment now
   pub acks_are : TellsAcks status (acks_in book) acks
@@ -127,15 +134,19 @@ pub record LastFaulted (p : Plain) (book : List Turn) (journal : ℕ) (q : Plain
   pub says : IsFault status
   pub rose : Rose entry.faults now.faults
 
--- The book is a weave of these lines, its turns are answered as the plain store answers them one after the other, and what was acknowledged is kept.
-pub record Booked (plan : Plan) (entry now : View) (status : Status) (script : List (List ℕ)) (book : List Turn) (journal : ℕ) : Type 0 where
+-- The book is a weave of these lines,
+-- its turns are answered as the plain store answers them one after the other, and what was acknowledged is kept.
+pub record Booked
+    (plan : Plan) (entry now : View) (status : Status) (script : List (List ℕ)) (book : List Turn)
+    (journal : ℕ) : Type 0 where
   pub queues : List (List (List ℕ))
   pub weaves : Weaves script queues book
   -- the journal at the entry, and what the store was opened with beside it
   pub first : Origin
   pub begins : IsTold entry → Begins (start_of plan) first entry.seen
   pub plain : Plain
-  pub legal : AllAnswered (opened first plan.rows) book journal plain now ⊎ LastFaulted (opened first plan.rows) book journal plain entry now status
+  pub legal : AllAnswered (opened first plan.rows) book journal plain now
+      ⊎ LastFaulted (opened first plan.rows) book journal plain entry now status
   pub kept : IsTold entry → Kept (start_of plan) entry now first.journal plain.journal (acks_in book)
   -- with Done each line of each session has its turn
   pub answered : status ≡ Done → HasAnswered script book
@@ -160,7 +171,8 @@ IsLate _ = ⊥
 
 -- The run ended before the source was asked, or before a line of a session was answered, or turns were answered.
 pub data CrowdEnd (plan : Plan) (before after : World) (status : Status) (lines : ℕ) (acks : List Ack) (journal : ℕ) : Type 0 where
-  Early : IsEarly status → EndedEarly (start_of plan) before after status lines acks journal → CrowdEnd plan before after status lines acks journal
+  Early : IsEarly status → EndedEarly (start_of plan) before after status lines acks journal
+      → CrowdEnd plan before after status lines acks journal
   Halted : IsUnrun status → Unrun plan before after lines acks journal → CrowdEnd plan before after status lines acks journal
   Late : IsLate status → RanCrowd plan before after status lines acks journal → CrowdEnd plan before after status lines acks journal
 

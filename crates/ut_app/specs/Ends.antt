@@ -19,7 +19,8 @@ use Rattle.ut_app.specs.Serving.{Ran, EndedEarly}
 
 -- ---- the store
 
--- what a status says of the files: there is none where one was to be opened, one where it was to be made, one that is damaged, or else what the run begins with
+-- what a status says of the files: there is none where one was to be opened,
+-- one where it was to be made, one that is damaged, or else what the run begins with
 abbrev pub FitsStore : Status → Start → Image → Type 0
 FitsStore NoStore start c = (start ≡ Open) × (IsMade c.pages → ⊥)
 FitsStore Exists start c = (start ≡ New) × IsMade c.pages
@@ -61,13 +62,16 @@ IsLate _ = ⊥
 
 -- The run ended before a line was read, or lines were answered.
 pub data RunEnd (plan : Plan) (before after : World) (status : Status) (lines : ℕ) (acks : List Ack) (journal : ℕ) : Type 0 where
-  Early : IsEarly status → EndedEarly (start_of plan) before after status lines acks journal → RunEnd plan before after status lines acks journal
+  Early : IsEarly status → EndedEarly (start_of plan) before after status lines acks journal
+      → RunEnd plan before after status lines acks journal
   Late : IsLate status → Ran plan before after status lines acks journal → RunEnd plan before after status lines acks journal
 
 -- Where the files are what the run begins with, the input keeps to the limits and no count of faults rose, the status is Done or Memory.
 pub record IsComplete (plan : Plan) (before after : World) (status : Status) : Type 0 where
-  pub complete : IsTold before.disk → (first : Origin) → Begins (start_of plan) first before.disk.seen → (input : List ℕ) → before.source ≡ Some input → is_too_long plan.lines input ≡ false
-      → (Rose before.reads after.reads → ⊥) → (Rose before.writes after.writes → ⊥) → (Rose before.disk.faults after.disk.faults → ⊥) → (status ≡ Done) ⊎ (status ≡ Memory)
+  pub complete : IsTold before.disk → (first : Origin) → Begins (start_of plan) first before.disk.seen
+      → (input : List ℕ) → before.source ≡ Some input → is_too_long plan.lines input ≡ false
+      → (Rose before.reads after.reads → ⊥) → (Rose before.writes after.writes → ⊥)
+      → (Rose before.disk.faults after.disk.faults → ⊥) → (status ≡ Done) ⊎ (status ≡ Memory)
 
 -- All that holds of a run of the source's lines.
 pub record Run (plan : Plan) (before after : World) (status : Status) (lines : ℕ) (acks : List Ack) (journal : ℕ) : Type 0 where

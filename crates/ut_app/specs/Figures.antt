@@ -19,7 +19,8 @@ rows_named s name = length (unwrap_or (listed s name) [])
 abbrev pub rows_of : State → ℕ
 rows_of s = sum_by (λ (t : Table). rows_named s t.name) s.tables
 
--- The numbers of a run: its lines, the commits of the journal, the answers that refuse, the rows of the journal's state, and the sum that the last answer tells.
+-- The numbers of a run: its lines, the commits of the journal, the answers that refuse,
+-- the rows of the journal's state, and the sum that the last answer tells.
 abbrev pub figures_by : ℕ → Tally → Journal → Figures
 figures_by lines tally j = record {
   lines = lines;
@@ -29,9 +30,11 @@ figures_by lines tally j = record {
   total = tally.total;
 }
 
+-- the numbers of a run that gave these answers
 abbrev pub figures_of : ℕ → List Answer → Journal → Figures
 figures_of lines answers j = figures_by lines (tally_of answers) j
 
+-- a sum in decimal, or that there is none
 abbrev pub sum_text : Option ℤ → List ℕ
 sum_text None = codes "none"
 sum_text (Some n) = signed_decimal n
@@ -39,4 +42,5 @@ sum_text (Some n) = signed_decimal n
 -- the line
 abbrev pub figures_text : Figures → List ℕ
 figures_text f =
-    codes "bench lines " ++ decimal f.lines ++ codes " commits " ++ decimal f.commits ++ codes " refused " ++ decimal f.refused ++ codes " rows " ++ decimal f.rows ++ codes " total " ++ sum_text f.total ++ 10 ∷ []
+    codes "bench lines " ++ decimal f.lines ++ codes " commits " ++ decimal f.commits ++ codes " refused "
+    ++ decimal f.refused ++ codes " rows " ++ decimal f.rows ++ codes " total " ++ sum_text f.total ++ 10 ∷ []

@@ -9,7 +9,9 @@ use Rattle.ut_app.specs.Script.{all_fit, IsReading}
 use Rattle.ut_app.specs.Serving.{Progress}
 
 -- So many lines were read and answered, the rest of the input is left, the store runs, and no count of faults fell.
-pub record Going (plan : Plan) (before now : World) (count : ℕ) (lines : Reading) (store : Logged) (acks : List Ack) (journal : ℕ) : Type 0 where
+pub record Going
+    (plan : Plan) (before now : World) (count : ℕ) (lines : Reading) (store : Logged) (acks : List Ack)
+    (journal : ℕ) : Type 0 where
   pub script : List (List ℕ)
   pub count_is : count ≡ length script
   pub few : count ≤ plan.lines

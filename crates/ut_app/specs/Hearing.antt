@@ -39,6 +39,7 @@ last_sum [] = None
 last_sum (a ∷ []) = sum_in a.reply
 last_sum (a ∷ b ∷ answers) = last_sum (b ∷ answers)
 
+-- what is counted of answers: those that refuse, and the sum that the last one tells
 abbrev pub tally_of : List Answer → Tally
 tally_of answers = record { refused = refusals_in answers; total = last_sum answers }
 
@@ -51,6 +52,7 @@ heard_of (replies.Sum n) = Sum n
 heard_of replies.DiskFault = Fault
 heard_of _ = Else
 
+-- whether it is heard that the disk failed
 abbrev pub is_fault : Heard → Bool
 is_fault Fault = true
 is_fault _ = false
@@ -65,9 +67,13 @@ counted t Fault = t
 
 -- what is heard of a line from a plain state
 pub data Hearing (p : Plain) (line : Parsed) (before : View) (heard : Heard) (new : Logged) (after : View) : Type 0 where
-  Quiet : (q : Plain) → heard ≡ Nothing → AnswersLine p line [] q → Runs new after q → Keeps before after q.journal (journal_len p.journal) → Hearing p line before heard new after
-  Answered : (a : Answer) (q : Plain) → heard ≡ heard_of a.reply → (a.reply ≡ replies.DiskFault → ⊥) → AnswersLine p line (a ∷ []) q → Runs new after q → Keeps before after q.journal (journal_len p.journal) → Hearing p line before heard new after
-  Failed : (a : Answer) (q : Plain) → heard ≡ Fault → Faults p line (a ∷ []) q → Keeps before after q.journal (journal_len p.journal) → Hearing p line before heard new after
+  Quiet : (q : Plain) → heard ≡ Nothing → AnswersLine p line [] q → Runs new after q
+      → Keeps before after q.journal (journal_len p.journal) → Hearing p line before heard new after
+  Answered : (a : Answer) (q : Plain) → heard ≡ heard_of a.reply → (a.reply ≡ replies.DiskFault → ⊥)
+      → AnswersLine p line (a ∷ []) q → Runs new after q → Keeps before after q.journal (journal_len p.journal)
+      → Hearing p line before heard new after
+  Failed : (a : Answer) (q : Plain) → heard ≡ Fault → Faults p line (a ∷ []) q
+      → Keeps before after q.journal (journal_len p.journal) → Hearing p line before heard new after
 
 -- whatever plain state the store ran from
 pub record Hears (old : Logged) (before : View) (line : Parsed) (heard : Heard) (new : Logged) (after : View) : Type 0 where
@@ -91,4 +97,8 @@ pub record Noting : Type 0 where
 abbrev pub noted_by : Heard → Noting → ℕ → ℕ → ℕ → Noting
 noted_by Nothing n was now moment = record { acks = n.acks; journal = now; tally = n.tally }
 noted_by Fault n was now moment = record { acks = n.acks ++ record { journal = was; moment = moment } ∷ []; journal = was; tally = n.tally }
-noted_by heard n was now moment = record { acks = n.acks ++ record { journal = now; moment = moment } ∷ []; journal = now; tally = counted n.tally heard }
+noted_by heard n was now moment = record {
+  acks = n.acks ++ record { journal = now; moment = moment } ∷ [];
+  journal = now;
+  tally = counted n.tally heard;
+}

@@ -15,7 +15,8 @@ use Rattle.ut_app.specs.declared.begin.Start.TheVariants.{New, Open}
 abbrev pub NothingPending : View → Type 0
 NothingPending disk = Always disk (λ c. c ≡ disk.seen)
 
--- what files hold of a run that began with so many entries: a prefix of its journal with all of these, or while the store is made no store yet
+-- what files hold of a run that began with so many entries:
+-- a prefix of its journal with all of these, or while the store is made no store yet
 abbrev pub HoldsRun : Start → Journal → ℕ → Image → Type 0
 HoldsRun New j least c = HoldsPrefix j least c ⊎ (IsMade c.pages → ⊥)
 HoldsRun Open j least c = HoldsPrefix j least c

@@ -39,15 +39,19 @@ said_of _ = saids.Reply
 -- the text of a reply, or that there was no memory for it: it isn't a small one, and it may need more bytes than the buffer had room for
 pub data IsText (room session : ℕ) (reply : Reply) (text : List ℕ) : Type 0 where
   Whole : text ≡ reply_text (Some session) reply → IsText room session reply text
-  Lacking : is_small reply ≡ false → room < reply_room reply → text ≡ reply_text (Some session) (replies.Refused refusals.Memory) → IsText room session reply text
+  Lacking : is_small reply ≡ false → room < reply_room reply
+      → text ≡ reply_text (Some session) (replies.Refused refusals.Memory) → IsText room session reply text
 
 -- what a line comes to from a plain state, and the text of its answer
 pub data Outcome (p : Plain) (line : Parsed) (before : View) (said : Said) (new : Logged) (after : View) (text : List ℕ) : Type 0 where
-  Quiet : (q : Plain) → said ≡ saids.Nothing → AnswersLine p line [] q → Runs new after q → Keeps before after q.journal (journal_len p.journal) → text ≡ []
+  Quiet : (q : Plain) → said ≡ saids.Nothing → AnswersLine p line [] q → Runs new after q
+      → Keeps before after q.journal (journal_len p.journal) → text ≡ []
       → Outcome p line before said new after text
-  Replied : (a : Answer) (q : Plain) → said ≡ saids.Reply → AnswersLine p line (a ∷ []) q → Runs new after q → Keeps before after q.journal (journal_len p.journal) → text ≡ answer_text a
+  Replied : (a : Answer) (q : Plain) → said ≡ saids.Reply → AnswersLine p line (a ∷ []) q → Runs new after q
+      → Keeps before after q.journal (journal_len p.journal) → text ≡ answer_text a
       → Outcome p line before said new after text
-  Failed : (a : Answer) (q : Plain) → said ≡ saids.Fault → Faults p line (a ∷ []) q → Keeps before after q.journal (journal_len p.journal) → text ≡ answer_text a
+  Failed : (a : Answer) (q : Plain) → said ≡ saids.Fault → Faults p line (a ∷ []) q
+      → Keeps before after q.journal (journal_len p.journal) → text ≡ answer_text a
       → Outcome p line before said new after text
 
 -- whatever plain state the store ran from

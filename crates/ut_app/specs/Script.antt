@@ -49,6 +49,7 @@ pub record ReadSoFar (input : List ℕ) (script : List (List ℕ)) (held : List 
   pub input_is : input ≡ front ++ (held ++ after)
   pub ended : ended_lines front ≤ length script
 
+-- how far the reading is, where the source tells its bytes
 abbrev pub IsReading : Option (List ℕ) → List (List ℕ) → List ℕ → Option (List ℕ) → Type 0
 IsReading None script held left = Unit {0}
 IsReading (Some input) script held left = ReadSoFar input script held left

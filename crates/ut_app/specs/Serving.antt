@@ -32,7 +32,9 @@ abbrev pub parsed_lines : List (List ℕ) → List Parsed
 parsed_lines script = map (parsed false) script
 
 -- These lines were answered so one after the other, with so many rows at most; what was acknowledged and kept meanwhile.
-pub record Course (start : Start) (rows : ℕ) (entry now : View) (script : List (List ℕ)) (answers : List Answer) (store : Logged) (acks : List Ack) (journal : ℕ) : Type 0 where
+pub record Course
+    (start : Start) (rows : ℕ) (entry now : View) (script : List (List ℕ)) (answers : List Answer) (store : Logged)
+    (acks : List Ack) (journal : ℕ) : Type 0 where
   pub first : Origin
   pub plain : Plain
   pub begins : IsTold entry → Begins start first entry.seen
@@ -42,7 +44,9 @@ pub record Course (start : Start) (rows : ℕ) (entry now : View) (script : List
   pub length_is : journal ≡ journal_len plain.journal
 
 -- and what was written
-pub record Progress (plan : Plan) (before now : World) (script : List (List ℕ)) (store : Logged) (acks : List Ack) (journal : ℕ) : Type 0 where
+pub record Progress
+    (plan : Plan) (before now : World) (script : List (List ℕ)) (store : Logged) (acks : List Ack)
+    (journal : ℕ) : Type 0 where
   pub answers : List Answer
   pub course : Course (start_of plan) plan.rows before.disk now.disk script answers store acks journal
   pub written : HasWritten before.sink answers now.sink now.marks acks
@@ -60,18 +64,24 @@ IsWritten statuses.WriteFault before answers after acks = HasFront before.sink a
 IsWritten _ before answers after acks = HasWritten before.sink answers after.sink after.marks acks
 
 -- The lines were answered to the last, and a crash now leaves the whole journal.
-pub record AllAnswered (p : Plain) (script : List (List ℕ)) (answers : List Answer) (acks : List Ack) (journal : ℕ) (q : Plain) (now : View) : Type 0 where
+pub record AllAnswered
+    (p : Plain) (script : List (List ℕ)) (answers : List Answer) (acks : List Ack) (journal : ℕ) (q : Plain)
+    (now : View) : Type 0 where
   pub all : AnswersAll p (parsed_lines script) answers (lengths_of acks) journal q
   pub stays : IsTold now → HoldsWhole now q.journal
 
 -- They were answered to one at which the disk failed.
-pub record LastFaulted (p : Plain) (script : List (List ℕ)) (answers : List Answer) (acks : List Ack) (journal : ℕ) (q : Plain) (entry now : View) (status : Status) : Type 0 where
+pub record LastFaulted
+    (p : Plain) (script : List (List ℕ)) (answers : List Answer) (acks : List Ack) (journal : ℕ) (q : Plain)
+    (entry now : View) (status : Status) : Type 0 where
   pub cut : AnswersToFault p (parsed_lines script) answers (lengths_of acks) journal q
   pub says : IsFault status
   pub rose : Rose entry.faults now.faults
 
 -- What was answered to these lines, acknowledged and kept, and the state after them.
-pub record Served (start : Start) (rows : ℕ) (entry now : View) (status : Status) (script : List (List ℕ)) (answers : List Answer) (acks : List Ack) (journal : ℕ) (plain : Plain) : Type 0 where
+pub record Served
+    (start : Start) (rows : ℕ) (entry now : View) (status : Status) (script : List (List ℕ)) (answers : List Answer)
+    (acks : List Ack) (journal : ℕ) (plain : Plain) : Type 0 where
   -- the journal at the entry, and what the store was opened with beside it
   pub first : Origin
   pub begins : IsTold entry → Begins start first entry.seen
@@ -82,7 +92,9 @@ pub record Served (start : Start) (rows : ℕ) (entry now : View) (status : Stat
   pub kept : IsTold entry → Kept start entry now first.journal plain.journal acks
 
 -- and what was written
-pub record Answered (plan : Plan) (before after : World) (status : Status) (script : List (List ℕ)) (acks : List Ack) (journal : ℕ) : Type 0 where
+pub record Answered
+    (plan : Plan) (before after : World) (status : Status) (script : List (List ℕ)) (acks : List Ack)
+    (journal : ℕ) : Type 0 where
   pub answers : List Answer
   pub plain : Plain
   pub served : Served (start_of plan) plan.rows before.disk after.disk status script answers acks journal plain
@@ -104,11 +116,14 @@ abbrev pub MayOnlyRead : Start → Image → Type 0
 MayOnlyRead Open c = Unit {0}
 MayOnlyRead New c = IsMade c.pages
 
--- What becomes of the disk where no store could be opened or made: a store that is there is only read, and one that was to be made isn't begun where memory is wanting. A crash leaves what was there, or while a store is made no store or an empty one.
+-- What becomes of the disk where no store could be opened or made: a store that is there is only read, and one that was
+-- to be made isn't begun where memory is wanting. A crash leaves what was there, or while a store is made no store or
+-- an empty one.
 pub record LosesNothing (start : Start) (entry now : View) (status : Status) : Type 0 where
   pub reads : IsTold entry → MayOnlyRead start entry.seen → ReadsOnly entry now
   pub unbegun : status ≡ statuses.Memory → ReadsOnly entry now
-  pub since_entry : IsTold entry → (first : Origin) → Begins start first entry.seen → NothingPending entry → (c : Image) → now.crash_states_since entry.moment c → HoldsRun start first.journal (journal_len first.journal) c
+  pub since_entry : IsTold entry → (first : Origin) → Begins start first entry.seen → NothingPending entry → (c : Image)
+      → now.crash_states_since entry.moment c → HoldsRun start first.journal (journal_len first.journal) c
 
 -- The run ended before a line was read, and no store was opened: only the disk was asked.
 pub record EndedEarly (start : Start) (before after : World) (status : Status) (lines : ℕ) (acks : List Ack) (journal : ℕ) : Type 0 where

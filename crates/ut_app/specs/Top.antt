@@ -26,6 +26,7 @@ ServesMode modes.Run plan before after status lines acks journal = Run plan befo
 ServesMode modes.Crowd plan before after status lines acks journal = IsTurnedDown before after status lines acks journal
 ServesMode modes.Bench plan before after status lines acks journal = BenchRun plan before after status lines acks journal
 
+-- what `serve` does with a plan
 abbrev pub ServesPlan : Plan → World → World → Status → ℕ → List Ack → ℕ → Type 0
 ServesPlan plan before after status lines acks journal = ServesMode plan.mode plan before after status lines acks journal
 
@@ -35,6 +36,7 @@ RunsMode modes.Run plan before after status lines acks journal = Run plan before
 RunsMode modes.Crowd plan before after status lines acks journal = CrowdRun plan before after status lines acks journal
 RunsMode modes.Bench plan before after status lines acks journal = BenchRun plan before after status lines acks journal
 
+-- the run that a plan asks for
 abbrev pub RunsPlan : Plan → World → World → Status → ℕ → List Ack → ℕ → Type 0
 RunsPlan plan before after status lines acks journal = RunsMode plan.mode plan before after status lines acks journal
 
@@ -42,7 +44,8 @@ RunsPlan plan before after status lines acks journal = RunsMode plan.mode plan b
 pub data RunsWords (words : List (List ℕ)) (before after : World) (status : Status) (lines : ℕ) (acks : List Ack) (journal : ℕ) : Type 0 where
   Refused : Refuses words → IsTurnedDown before after status lines acks journal → RunsWords words before after status lines acks journal
   Lacking : status ≡ Memory → DidNothing before after lines acks journal → RunsWords words before after status lines acks journal
-  Served : (plan : Plan) → Takes words plan → RunsPlan plan before after status lines acks journal → RunsWords words before after status lines acks journal
+  Served : (plan : Plan) → Takes words plan → RunsPlan plan before after status lines acks journal
+      → RunsWords words before after status lines acks journal
 
 -- the status of words that have no plan
 abbrev pub WordsStatus : WordsError → Status → Type 0

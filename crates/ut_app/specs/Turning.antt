@@ -32,30 +32,40 @@ abbrev pub with_ack : Noted → ℕ → ℕ → Noted
 with_ack n journal moment = record { acks = n.acks ++ record { journal = journal; moment = moment } ∷ []; journal = journal }
 
 -- what becomes of a line from a plain state
-pub data Turn (p : Plain) (line : Parsed) (before : View) (notes : Noted) (sink : Sunk) (result : Result (Unit {0}) TurnEnd) (new : Logged) (after : View) (notes_now : Noted) (sink_now : Sunk) : Type 0 where
+pub data LineOutcome (p : Plain) (line : Parsed) (before : View) (notes : Noted) (sink : Sunk) (result : Result (Unit {0}) TurnEnd) (new : Logged) (after : View) (notes_now : Noted) (sink_now : Sunk) : Type 0 where
   -- a comment
   Quiet : (q : Plain) → result ≡ Ok tt → AnswersLine p line [] q → Runs new after q → Keeps before after q.journal (journal_len p.journal)
-      → notes_now ≡ record { acks = notes.acks; journal = journal_len q.journal } → sink_now ≡ sink → Turn p line before notes sink result new after notes_now sink_now
+      → notes_now ≡ record { acks = notes.acks; journal = journal_len q.journal } → sink_now ≡ sink
+      → LineOutcome p line before notes sink result new after notes_now sink_now
   -- answered, and the answer is written
-  Told : (a : Answer) (q : Plain) → result ≡ Ok tt → AnswersLine p line (a ∷ []) q → Runs new after q → Keeps before after q.journal (journal_len p.journal)
-      → notes_now ≡ with_ack notes (journal_len q.journal) after.moment → Writes {T = Unit {0}} {E = Failed} sink.held sink.marks (answer_text a) after.moment (Ok tt) sink_now.held sink_now.marks
-      → Turn p line before notes sink result new after notes_now sink_now
+  Told : (a : Answer) (q : Plain) → result ≡ Ok tt → AnswersLine p line (a ∷ []) q → Runs new after q
+      → Keeps before after q.journal (journal_len p.journal)
+      → notes_now ≡ with_ack notes (journal_len q.journal) after.moment
+      → Writes {T = Unit {0}} {E = Failed} sink.held sink.marks (answer_text a) after.moment (Ok tt) sink_now.held sink_now.marks
+      → LineOutcome p line before notes sink result new after notes_now sink_now
   -- answered, and the sink failed
-  Unwritten : (a : Answer) (q : Plain) (e : Failed) → result ≡ Err ends.Write → AnswersLine p line (a ∷ []) q → Runs new after q → Keeps before after q.journal (journal_len p.journal)
-      → notes_now ≡ with_ack notes (journal_len q.journal) after.moment → Writes {T = Unit {0}} {E = Failed} sink.held sink.marks (answer_text a) after.moment (Err e) sink_now.held sink_now.marks
-      → Turn p line before notes sink result new after notes_now sink_now
+  Unwritten : (a : Answer) (q : Plain) (e : Failed) → result ≡ Err ends.Write → AnswersLine p line (a ∷ []) q
+      → Runs new after q → Keeps before after q.journal (journal_len p.journal)
+      → notes_now ≡ with_ack notes (journal_len q.journal) after.moment
+      → Writes {T = Unit {0}} {E = Failed} sink.held sink.marks (answer_text a) after.moment (Err e) sink_now.held sink_now.marks
+      → LineOutcome p line before notes sink result new after notes_now sink_now
   -- the disk failed, and the answer that says so is written
   Lost : (a : Answer) (q : Plain) → result ≡ Err ends.Disk → Faults p line (a ∷ []) q → Keeps before after q.journal (journal_len p.journal)
-      → notes_now ≡ with_ack notes (journal_len p.journal) after.moment → Writes {T = Unit {0}} {E = Failed} sink.held sink.marks (answer_text a) after.moment (Ok tt) sink_now.held sink_now.marks
-      → Turn p line before notes sink result new after notes_now sink_now
+      → notes_now ≡ with_ack notes (journal_len p.journal) after.moment
+      → Writes {T = Unit {0}} {E = Failed} sink.held sink.marks (answer_text a) after.moment (Ok tt) sink_now.held sink_now.marks
+      → LineOutcome p line before notes sink result new after notes_now sink_now
   -- the disk failed, and then the sink
-  LostUnwritten : (a : Answer) (q : Plain) (e : Failed) → result ≡ Err ends.Write → Faults p line (a ∷ []) q → Keeps before after q.journal (journal_len p.journal) → Rose before.faults after.faults
-      → notes_now ≡ with_ack notes (journal_len p.journal) after.moment → Writes {T = Unit {0}} {E = Failed} sink.held sink.marks (answer_text a) after.moment (Err e) sink_now.held sink_now.marks
-      → Turn p line before notes sink result new after notes_now sink_now
+  LostUnwritten : (a : Answer) (q : Plain) (e : Failed) → result ≡ Err ends.Write → Faults p line (a ∷ []) q
+      → Keeps before after q.journal (journal_len p.journal) → Rose before.faults after.faults
+      → notes_now ≡ with_ack notes (journal_len p.journal) after.moment
+      → Writes {T = Unit {0}} {E = Failed} sink.held sink.marks (answer_text a) after.moment (Err e) sink_now.held sink_now.marks
+      → LineOutcome p line before notes sink result new after notes_now sink_now
 
 -- whatever plain state the store ran from
-pub record Turns (old : Logged) (before : View) (line : Parsed) (notes : Noted) (sink : Sunk) (result : Result (Unit {0}) TurnEnd) (new : Logged) (after : View) (notes_now : Noted) (sink_now : Sunk) : Type 0 where
-  pub each : (p : Plain) → Runs old before p → Turn p line before notes sink result new after notes_now sink_now
+pub record Turns
+    (old : Logged) (before : View) (line : Parsed) (notes : Noted) (sink : Sunk) (result : Result (Unit {0}) TurnEnd)
+    (new : Logged) (after : View) (notes_now : Noted) (sink_now : Sunk) : Type 0 where
+  pub each : (p : Plain) → Runs old before p → LineOutcome p line before notes sink result new after notes_now sink_now
 
 -- the faults of disk and sink that a result speaks of
 pub record TurnCauses (before after : View) (writes writes_now : ℕ) (result : Result (Unit {0}) TurnEnd) : Type 0 where

@@ -4,6 +4,7 @@ use Rattle.ut_outside.specs.Disk.{View}
 use Rattle.ut_outside.specs.Run.{ReadsOnly}
 use Rattle.ut_outside.specs.declared.ask.Ask.{Ask}
 
+-- all that a run reads, writes or changes outside of itself, at one moment
 pub record World : Type 1 where
   -- the bytes that the source has left and the calls that it answered, where it tells them, and how often it has failed
   pub source : Option (List ℕ)

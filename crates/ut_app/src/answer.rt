@@ -35,7 +35,7 @@ pub(crate) fn answer<D: Disk, B: Build>(
     }
 }
 
-/// What is built of the pending merge's job, where a statement ends it and there is memory.
+// What is built of the pending merge's job, where a statement ends it and there is memory.
 fn built_for<D: Disk, B: Build>(
     alloc: Global,
     engine: &Engine<'_, D>,

@@ -24,7 +24,7 @@ const LINE_ROOM: usize = 16_384;
 
 /// Why no line is taken.
 #[derive(Clone, Copy, Debug, PartialEq, Eq)]
-pub enum LineEnd {
+pub(crate) enum LineEnd {
     /// The script was answered to its end.
     Over,
     Memory,
@@ -73,7 +73,7 @@ pub(crate) fn bench<K: Sink<D>, D: Disk, B: Build>(
     }
 }
 
-/// Makes room for one acknowledgement more and takes the next line of the script, or says why there is none.
+// Makes room for one acknowledgement more and takes the next line of the script, or says why there is none.
 fn next_line(notes: &mut Notes, script: &mut Script, text: &mut Vec<u8>) -> Result<(), LineEnd>
     requires few { notes.old.lines < 2 ^ 32 - 1 }
     ensures room { OnOk result (1 ≤ notes.new.acks.spare) }
@@ -97,7 +97,7 @@ fn next_line(notes: &mut Notes, script: &mut Script, text: &mut Vec<u8>) -> Resu
     }
 }
 
-/// Writes the line of a run whose script was answered, and says how the run ends.
+// Writes the line of a run whose script was answered, and says how the run ends.
 fn finish<K: Sink<D>, D: Disk>(
     alloc: Global,
     engine: &Engine<'_, D>,
@@ -118,7 +118,7 @@ fn finish<K: Sink<D>, D: Disk>(
     }
 }
 
-/// Writes the line, where there is memory for it.
+// Writes the line, where there is memory for it.
 fn tell<K: Sink<D>, D: Disk>(
     alloc: Global,
     engine: &Engine<'_, D>,
@@ -140,7 +140,7 @@ fn tell<K: Sink<D>, D: Disk>(
     }
 }
 
-/// Puts the line of a run whose script was answered, alone.
+// Puts the line of a run whose script was answered, alone.
 fn put_line<D: Disk>(
     alloc: Global,
     engine: &Engine<'_, D>,

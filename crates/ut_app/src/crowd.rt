@@ -76,7 +76,7 @@ pub(crate) fn crowd<
     }
 }
 
-/// A run in which no line of a session was answered.
+// A run in which no line of a session was answered.
 fn unrun(alloc: Global, status: Status, journal: u32) -> Report
     ensures status { result.status ≡ status }
     ensures lines { result.lines ≡ 0 }
@@ -91,7 +91,7 @@ fn unrun(alloc: Global, status: Status, journal: u32) -> Report
     }
 }
 
-/// Reads all lines, so many at most, or says why not.
+// Reads all lines, so many at most, or says why not.
 fn read_all<S: Source<K>, K: Taken>(
     alloc: Global,
     limit: u32,
@@ -121,7 +121,7 @@ fn read_all<S: Source<K>, K: Taken>(
     }
 }
 
-/// Puts a copy of a line behind the others.
+// Puts a copy of a line behind the others.
 fn keep(alloc: Global, lines: &mut VecDeque<Seq<u8>>, line: &[u8]) -> Result<(), AllocError>
     ensures { OnOk result (lines.new.items ≡ lines.old.items ++ line.now ∷ []) }
 {
@@ -132,7 +132,7 @@ fn keep(alloc: Global, lines: &mut VecDeque<Seq<u8>>, line: &[u8]) -> Result<(),
     }
 }
 
-/// Writes the book, and says what the run came to.
+// Writes the book, and says what the run came to.
 fn tell<K: Sink<D>, D: Disk>(
     alloc: Global,
     engine: &Engine<'_, D>,
@@ -145,7 +145,7 @@ fn tell<K: Sink<D>, D: Disk>(
         (record { held = K.held sink.old; marks = K.moments sink.old; writes = K.faults sink.old }) (D.view engine.now.disk).moment
         (record { held = K.held sink.new; marks = K.moments sink.new; writes = K.faults sink.new })
         result.status result.lines result.acks.items }
-    ensures journal { result.journal ≡ last_length engine.now.store.down engine.now.store.store.entries book.now }
+    ensures journal { result.journal ≡ last_length engine.now.store.down engine.now.store.store.counts.entries book.now }
 {
     let mut acks = AckList::new(alloc);
     let journal = last_length(engine, book) as u64;
@@ -174,7 +174,7 @@ fn tell<K: Sink<D>, D: Disk>(
     }
 }
 
-/// Notes an acknowledgement for each turn, as far as there is memory.
+// Notes an acknowledgement for each turn, as far as there is memory.
 fn note_all(acks: &mut AckList, book: &[Turn]) -> Result<(), AllocError>
     ensures all { OnOk result (acks.new.items ≡ acks.old.items ++ acks_in book.now) }
     ensures some { OnErr result (IsFrontOf (acks.old.items ++ acks_in book.now) acks.new.items) }
@@ -189,9 +189,9 @@ fn note_all(acks: &mut AckList, book: &[Turn]) -> Result<(), AllocError>
     Ok(())
 }
 
-/// The length of the journal behind the last turn without a fault.
+// The length of the journal behind the last turn without a fault.
 fn last_length<D: Disk>(engine: &Engine<'_, D>, book: &[Turn]) -> u32
-    ensures { result ≡ last_length engine.now.store.down engine.now.store.store.entries book.now }
+    ensures { result ≡ last_length engine.now.store.down engine.now.store.store.counts.entries book.now }
 {
     if engine.down() {
         match book {

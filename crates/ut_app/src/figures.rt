@@ -33,7 +33,7 @@ pub(crate) fn put_figures(text: &mut Vec<u8>, figures: &Figures) -> Result<(), A
     Ok(())
 }
 
-/// A word or two, and a number.
+// A word or two, and a number.
 fn put_named<I: Integer>(text: &mut Vec<u8>, name: &[u8], number: I) -> Result<(), AllocError>
     ensures { OnOk result (text.new.items ≡ text.old.items ++ (name.now ++ I.text number)) }
 {
@@ -67,7 +67,7 @@ pub(crate) fn rows_of<D: Disk>(alloc: Global, engine: &Engine<'_, D>) -> Result<
     Ok(rows)
 }
 
-/// How many rows the table of a name has.
+// How many rows the table of a name has.
 fn table_rows<D: Disk>(
     alloc: Global,
     engine: &Engine<'_, D>,

@@ -17,7 +17,7 @@ use ut_script::parse_line;
 /// What a run of a script noted so far: how many lines were taken, what was acknowledged, the length of the journal, and what
 /// was counted.
 #[derive(Drop)]
-pub struct Notes {
+pub(crate) struct Notes {
     pub lines: u32,
     pub acks: AckList,
     pub journal: u32,
@@ -39,7 +39,7 @@ impl Notes {
         }
     }
 
-    /// Notes what was heard of a line: the journal had one length before it, and has another now.
+    // Notes what was heard of a line: the journal had one length before it, and has another now.
     fn note(&mut self, heard: Heard, was: u32, now: u32, moment: u64)
         requires spare { 1 ≤ self.old.acks.spare }
         requires few { self.old.tally.refused < 2 ^ 32 - 1 }
@@ -96,7 +96,7 @@ pub(crate) fn answer_line<D: Disk, B: Build>(
     requires spare { 1 ≤ notes.old.acks.spare }
     requires few { notes.old.tally.refused < 2 ^ 32 - 1 }
     ensures hears { Hears engine.old.store (D.view engine.old.disk) (parsed false line.now) result engine.new.store (D.view engine.new.disk) }
-    ensures noted { record { acks = notes.new.acks.items; journal = notes.new.journal; tally = notes.new.tally } ≡ noted_by result (record { acks = notes.old.acks.items; journal = notes.old.journal; tally = notes.old.tally }) engine.old.store.store.entries engine.new.store.store.entries (D.view engine.new.disk).moment }
+    ensures noted { record { acks = notes.new.acks.items; journal = notes.new.journal; tally = notes.new.tally } ≡ noted_by result (record { acks = notes.old.acks.items; journal = notes.old.journal; tally = notes.old.tally }) engine.old.store.store.counts.entries engine.new.store.store.counts.entries (D.view engine.new.disk).moment }
     ensures lines { notes.new.lines ≡ notes.old.lines }
     ensures cause { MayHear (D.view engine.old.disk) (D.view engine.new.disk) result }
     ensures loan { engine.new.loan ≡ engine.old.loan }

@@ -41,7 +41,7 @@ pub(crate) fn next_line<S: Source<K>, K: Taken>(
     outcome(lines.advance(source, sink))
 }
 
-/// What an answer of the reader says of the run.
+// What an answer of the reader says of the run.
 fn outcome(read: Result<bool, LineError>) -> Result<(), Status>
     ensures { GoesOn read result }
 {

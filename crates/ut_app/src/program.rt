@@ -79,7 +79,7 @@ pub fn serve<S: Source<K>, K: Sink<D>, D: Disk + Send, H: Hook + Sync>(
     }
 }
 
-/// What the program says where the words have no plan.
+// What the program says where the words have no plan.
 fn status_of(error: WordsError) -> Status
     ensures { WordsStatus error result }
 {

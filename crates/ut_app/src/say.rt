@@ -96,7 +96,7 @@ fn say_statement<D: Disk, B: Build>(
     said_of(&reply)
 }
 
-/// Puts a refusal into an empty buffer.
+// Puts a refusal into an empty buffer.
 fn refuse(text: &mut Vec<u8>, session: Option<u8>, why: Refusal) -> Said
     requires empty { text.old.items ≡ [] }
     requires room { 96 ≤ vec_capacity text.old }
@@ -108,7 +108,7 @@ fn refuse(text: &mut Vec<u8>, session: Option<u8>, why: Refusal) -> Said
     Said::Reply
 }
 
-/// Puts a reply into an empty buffer, and where a long one finds no memory, that it was refused.
+// Puts a reply into an empty buffer, and where a long one finds no memory, that it was refused.
 fn put_text(text: &mut Vec<u8>, session: u8, reply: &Reply)
     requires empty { text.old.items ≡ [] }
     requires room { 96 ≤ vec_capacity text.old }

@@ -12,9 +12,7 @@ use std::alloc::{AllocError, Global};
 use ut_engine::Engine;
 use ut_merge::Build;
 use ut_outside::{Ack, AckList, Disk, Failed, Sink};
-
-/// A reply without rows, groups, values and parts has at most so many bytes.
-const SMALL_REPLY: usize = 96;
+use ut_reply::SMALL_REPLY;
 
 /// Why a run ends at a line.
 #[derive(Clone, Copy, Debug, PartialEq, Eq)]
@@ -25,7 +23,7 @@ pub enum TurnEnd {
 
 /// The text of the reply in hand, what was acknowledged so far, and the length of the journal.
 #[derive(Drop)]
-pub struct Replies {
+pub(crate) struct Replies {
     pub text: Vec<u8>,
     pub acks: AckList,
     pub journal: u32,
@@ -73,7 +71,7 @@ impl Replies {
         }
     }
 
-    /// Acknowledges the reply in hand, and writes it.
+    // Acknowledges the reply in hand, and writes it.
     fn give<K: Sink<D>, D: Disk>(
         &mut self,
         journal: u32,

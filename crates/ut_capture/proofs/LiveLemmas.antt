@@ -29,42 +29,42 @@ module _ (e : Held) (p : Plain) (stands : StandsFor e p) where
   rows = (current p.journal).rows
 
   abbrev seen : StagedRow → Bool
-  seen = live.is_live e.fates e.entries
+  seen = live.is_live e.rows.fates e.counts.entries
 
-  are_live : (n : ℕ) (s : Staged) → slice_get e.staged n ≡ Some s → AreLive rows seen s
+  are_live : (n : ℕ) (s : Staged) → slice_get e.rows.staged n ≡ Some s → AreLive rows seen s
   are_live n s is = λ q row at.
-      live_is_seen (place_at e.staged) (IsGone e.fates p.sessions) stands.rows.held e.fates p.journal p.opening n q row stands.rows.places stands.rows.exact stands.plain.opened.1 stands.rows.dead (here e.staged n s q is ∙ at)
-      ∙ ap (λ (k : ℕ). sees e.fates k None row.stamp) (sym stands.counts.entries)
+      live_is_seen (place_at e.rows.staged) (IsGone e.rows.fates p.sessions) stands.rows.held e.rows.fates p.journal p.opening n q row stands.rows.places stands.rows.exact stands.plain.opened.1 stands.rows.dead (here e.rows.staged n s q is ∙ at)
+      ∙ ap (λ (k : ℕ). sees e.rows.fates k None row.stamp) (sym stands.counts.entries)
 
   closed-live : (o : Option (List StagedRow)) → ((i : ℕ) (row : StagedRow) → row_in o i ≡ Some row → is_live rows (placed_of row) ≡ seen row)
-      → captured_rows rows (unwrap_or (option_map (map placed_of) o) []) ≡ live_places e.fates e.entries (unwrap_or o [])
+      → captured_rows rows (unwrap_or (option_map (map placed_of) o) []) ≡ live_places e.rows.fates e.counts.entries (unwrap_or o [])
   closed-live None are = refl
   closed-live (Some list) are = filter-mapped placed_of (is_live rows) seen list are
 
   part-live : (list : List StagedRow) → ((i : ℕ) (row : StagedRow) → slice_get list i ≡ Some row → is_live rows (placed_of row) ≡ seen row)
-      → map (captured_place rows) (map placed_of list) ≡ map (live_place e.fates e.entries) list
+      → map (captured_place rows) (map placed_of list) ≡ map (live_place e.rows.fates e.counts.entries) list
   part-live list are = map-twice (captured_place rows) placed_of list
-      ∙ map-agree (λ (row : StagedRow). captured_place rows (placed_of row)) (live_place e.fates e.entries) list (λ i row at. ap (λ (b : Bool). record { id = row.id; values = row.values; dead = not b }) (are i row at))
+      ∙ map-agree (λ (row : StagedRow). captured_place rows (placed_of row)) (live_place e.rows.fates e.counts.entries) list (λ i row at. ap (λ (b : Bool). record { id = row.id; values = row.values; dead = not b }) (are i row at))
 
   parts-live : (parts : List (List StagedRow)) → ((n i : ℕ) (row : StagedRow) → row_in (slice_get parts n) i ≡ Some row → is_live rows (placed_of row) ≡ seen row)
-      → map (map (captured_place rows)) (map (map placed_of) parts) ≡ live_parts e.fates e.entries parts
+      → map (map (captured_place rows)) (map (map placed_of) parts) ≡ live_parts e.rows.fates e.counts.entries parts
   parts-live parts are = map-twice (map (captured_place rows)) (map placed_of) parts
-      ∙ map-agree (λ (list : List StagedRow). map (captured_place rows) (map placed_of list)) (map (live_place e.fates e.entries)) parts
+      ∙ map-agree (λ (list : List StagedRow). map (captured_place rows) (map placed_of list)) (map (live_place e.rows.fates e.counts.entries)) parts
       (λ n list at. part-live list (λ i row is. are n i row (ap (λ (o : Option (List StagedRow)). row_in o i) at ∙ is)))
 
-  table-live : (n : ℕ) (s : Staged) → slice_get e.staged n ≡ Some s → captured_table rows (stages_of s) ≡ live_stages e.fates e.entries s
+  table-live : (n : ℕ) (s : Staged) → slice_get e.rows.staged n ≡ Some s → captured_table rows (stages_of s) ≡ live_stages e.rows.fates e.counts.entries s
   table-live n s is =
       let are = are_live n s is in
-      let l1 : captured_rows rows (map placed_of s.l1) ≡ live_places e.fates e.entries s.l1 = filter-mapped placed_of (is_live rows) seen s.l1 (λ i row at. are (places.L1 i) row at) in
-      let l2 : captured_rows rows (map placed_of s.l2) ≡ live_places e.fates e.entries s.l2 = filter-mapped placed_of (is_live rows) seen s.l2 (λ i row at. are (places.L2 i) row at) in
+      let l1 : captured_rows rows (map placed_of s.l1) ≡ live_places e.rows.fates e.counts.entries s.l1 = filter-mapped placed_of (is_live rows) seen s.l1 (λ i row at. are (places.L1 i) row at) in
+      let l2 : captured_rows rows (map placed_of s.l2) ≡ live_places e.rows.fates e.counts.entries s.l2 = filter-mapped placed_of (is_live rows) seen s.l2 (λ i row at. are (places.L2 i) row at) in
       let closed = closed-live s.closed (λ i row at. are (places.Closed i) row at) in
       let parts = parts-live s.parts (λ n i row at. are (places.Main n i) row at) in
       λ i. record { l1 = l1 i; l2 = closed i ++ l2 i; closed = None; parts = parts i; keep = [] }
 
   -- the directory is that of the tables' live rows
-  pub capture-live : capture (current p.journal) p.stages ≡ record { tables = e.tables; stages = map (live_stages e.fates e.entries) e.staged }
+  pub capture-live : capture (current p.journal) p.stages ≡ record { tables = e.rows.tables; stages = map (live_stages e.rows.fates e.counts.entries) e.rows.staged }
   capture-live =
-      let stages : map (captured_table rows) p.stages ≡ map (live_stages e.fates e.entries) e.staged =
-      ap (map (captured_table rows)) stands.rows.stages ∙ map-twice (captured_table rows) stages_of e.staged
-      ∙ map-agree (λ (s : Staged). captured_table rows (stages_of s)) (live_stages e.fates e.entries) e.staged table-live in
+      let stages : map (captured_table rows) p.stages ≡ map (live_stages e.rows.fates e.counts.entries) e.rows.staged =
+      ap (map (captured_table rows)) stands.rows.stages ∙ map-twice (captured_table rows) stages_of e.rows.staged
+      ∙ map-agree (λ (s : Staged). captured_table rows (stages_of s)) (live_stages e.rows.fates e.counts.entries) e.rows.staged table-live in
       λ i. record { tables = sym stands.counts.tables i; stages = stages i }

@@ -153,9 +153,6 @@ module _ (fates : List Fate) (entries : ℕ) (stage : Stage) (s : Staged) (stamp
   is_there : row_at s (place_in stage i) ≡ Some row
   is_there = in-stage stage s i ∙ get-in rows i _ inside
 
-  pub row-there : IsSome (row_at s (place_in stage i))
-  row-there = subst IsSome (sym is_there) refl
-
   tested : (d : Stamp) (b : Bool) → sees fates entries None (get_or stamps i d) ≡ b → is_live fates entries row ≡ b
   tested d b is = ap (sees fates entries None) (sym (ap (λ (l : List Stamp). get_or l i d) same ∙ get_or-map stamp_of rows i _ d inside)) ∙ is
 

@@ -28,10 +28,10 @@ tables-more (c0 ∷ cs) (t0 ∷ ts) [] c t s all one = absurd all
 tables-more (c0 ∷ cs) (t0 ∷ ts) (s0 ∷ ss) c t s all one = (all.0, tables-more cs ts ss c t s all.1 one)
 
 -- what is captured of all tables is the directory
-pub captures : (e : Held) (cs : List CapturedTable) → CaptureTables cs e.tables (map (live_stages e.fates e.entries) e.staged) → (p : Plain) → StandsFor e p → Captures cs (capture (current p.journal) p.stages)
+pub captures : (e : Held) (cs : List CapturedTable) → CaptureTables cs e.rows.tables (map (live_stages e.rows.fates e.counts.entries) e.rows.staged) → (p : Plain) → StandsFor e p → Captures cs (capture (current p.journal) p.stages)
 captures e cs all p stands = subst (Captures cs) (sym (capture-live e p stands)) all
 
-module _ (e : Held) (st : Stands e) (ts : List Table) (vs : List TableValue) (tables : ts ≡ e.tables) (stages : map (λ (v : TableValue). v.stages) vs ≡ e.staged) where
+module _ (e : Held) (st : Stands e) (ts : List Table) (vs : List TableValue) (tables : ts ≡ e.rows.tables) (stages : map (λ (v : TableValue). v.stages) vs ≡ e.rows.staged) where
   alike : map (λ (t : Table). t.columns) ts ≡ map (λ (v : TableValue). v.stages.columns) vs
   alike = ap (map (λ (t : Table). t.columns)) tables ∙ sym st.stands.rows.columns ∙ ap (map (λ (s : Staged). s.columns)) (sym stages) ∙ map-twice (λ (s : Staged). s.columns) (λ (v : TableValue). v.stages) vs
 
@@ -62,11 +62,11 @@ module _ (e : Held) (st : Stands e) (ts : List Table) (vs : List TableValue) (ta
       staged : List Staged
       staged = map (λ (x : TableValue). x.stages) vs
 
-  pub all_captured : (fates : List Fate) (entries n : ℕ) (cs : List CapturedTable) → fates ≡ e.fates → entries ≡ e.entries → length ts ≤ n
+  pub all_captured : (fates : List Fate) (entries n : ℕ) (cs : List CapturedTable) → fates ≡ e.rows.fates → entries ≡ e.counts.entries → length ts ≤ n
       → CaptureTables cs (take n ts) (map (live_stages fates entries) (take n (map (λ (x : TableValue). x.stages) vs))) → (p : Plain) → StandsFor e p → Captures cs (capture (current p.journal) p.stages)
   all_captured fates entries n cs fates_is entries_is all are p stands =
-      let front : take n ts ≡ e.tables = take_all n ts all ∙ tables in
-      let behind : take n (map (λ (x : TableValue). x.stages) vs) ≡ e.staged = take_all n (map (λ (x : TableValue). x.stages) vs) (omega (arith, all, as_many, length-map vs (λ (x : TableValue). x.stages))) ∙ stages in
-      let live : map (live_stages fates entries) (take n (map (λ (x : TableValue). x.stages) vs)) ≡ map (live_stages e.fates e.entries) e.staged = λ i. map (live_stages (fates_is i) (entries_is i)) (behind i) in
-      captures e cs (subst (λ (l : List Table). CaptureTables cs l (map (live_stages e.fates e.entries) e.staged)) front
+      let front : take n ts ≡ e.rows.tables = take_all n ts all ∙ tables in
+      let behind : take n (map (λ (x : TableValue). x.stages) vs) ≡ e.rows.staged = take_all n (map (λ (x : TableValue). x.stages) vs) (omega (arith, all, as_many, length-map vs (λ (x : TableValue). x.stages))) ∙ stages in
+      let live : map (live_stages fates entries) (take n (map (λ (x : TableValue). x.stages) vs)) ≡ map (live_stages e.rows.fates e.counts.entries) e.rows.staged = λ i. map (live_stages (fates_is i) (entries_is i)) (behind i) in
+      captures e cs (subst (λ (l : List Table). CaptureTables cs l (map (live_stages e.rows.fates e.counts.entries) e.rows.staged)) front
       (subst (λ (l : Stages). CaptureTables cs (take n ts) l) live are)) p stands

@@ -12,7 +12,7 @@ use ut_image::image_row;
 use ut_stamps::{Fates, Stamp, sees};
 use ut_table::Table;
 
-/// How many of these rows are live.
+// How many of these rows are live.
 fn live_count(fates: &Fates, entries: u32, stamps: &[Stamp]) -> u32
     requires { length stamps.now ≤ 2 ^ 31 }
     ensures count { result ≡ length (filter (sees fates.now entries None) stamps.now) }
@@ -27,7 +27,7 @@ fn live_count(fates: &Fates, entries: u32, stamps: &[Stamp]) -> u32
     count
 }
 
-/// Appends the live rows of a stage.
+// Appends the live rows of a stage.
 fn put_live(
     alloc: Global,
     table: &Table,

@@ -14,7 +14,7 @@ use ut_stamps::{Fates, sees};
 use ut_table::Table;
 use ut_value::Seq;
 
-/// Which rows of a part are live.
+// Which rows of a part are live.
 fn live_marks(
     alloc: Global,
     fates: &Fates,
@@ -30,7 +30,7 @@ fn live_marks(
     Ok(Seq::from_vec(marks))
 }
 
-/// A part of these stages.
+// A part of these stages.
 fn captured_part(
     alloc: Global,
     stages: &Stages<'_>,

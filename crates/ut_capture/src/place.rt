@@ -47,7 +47,7 @@ pub(crate) fn stamps_in(table: &Table, stage: Stage) -> &[Stamp]
     }
 }
 
-/// The id of the row in a place.
+// The id of the row in a place.
 fn id_in(table: &Table, place: Place) -> u32
     requires { IsSome (row_at table.now.stages place) }
     ensures { (row : StagedRow) → row_at table.now.stages place ≡ Some row → result ≡ row.id }

@@ -11,7 +11,7 @@ use Rattle.ut_value.specs.KeyBytes.{is_value}
 use Rattle.ut_value.specs.Spelling.{is_op, is_u16, is_u32, are_values, are_columns}
 use Rattle.ut_plain.specs.Tables.{fits_columns}
 use Rattle.ut_plain.specs.Rows.{op_inserts, inserts_of}
-use Rattle.ut_plain.specs.Made.{cut, rows_of, inserts}
+use Rattle.ut_plain.specs.Made.{cut, inserts}
 use Rattle.ut_plain.proofs.BoolLemmas.{and_left, and_right, and_both}
 use Rattle.ut_plain.proofs.ListLemmas.{list_all_take, list_all_drop}
 use Rattle.ut_plain.proofs.TableLemmas.{are_values-fit}
@@ -31,6 +31,10 @@ pub inserts-all : (n : ℕ) (rows : List Row) → inserts_of (inserts_all n rows
 inserts-all n [] = refl
 inserts-all n (r ∷ rs) = let rest = inserts-all n rs in let one = sum_by-cons op_inserts (ops.Insert n r.id r.values) (inserts_all n rs) in omega (arith, rest, one)
 
+pub ends-all : (n : ℕ) (rows : List Row) → ends_of (inserts_all n rows) ≡ 0
+ends-all n [] = refl
+ends-all n (r ∷ rs) = let rest = ends-all n rs in let one = sum_by-cons op_ends (ops.Insert n r.id r.values) (inserts_all n rs) in omega (arith, rest, one)
+
 pub inserted-all : (n : ℕ) (rows : List Row) → inserted (inserts_all n rows) ≡ rows
 inserted-all n [] = refl
 inserted-all n (r ∷ rs) = ap (λ (xs : List Row). r ∷ xs) (inserted-all n rs)
@@ -44,10 +48,6 @@ inserts-numbered n id (vs ∷ rows) = ap (λ os. ops.Insert n id vs ∷ os) (ins
 pub begun-numbered : (t id : ℕ) (rows : List (List Value)) → map (begun_row t) (numbered id rows) ≡ new_rows t id rows
 begun-numbered t id [] = refl
 begun-numbered t id (vs ∷ rows) = ap (λ rs. record { id = id; values = vs; stamp = record { begin = t; end = None } } ∷ rs) (begun-numbered t (id + 1) rows)
-
-pub length-numbered : (id : ℕ) (rows : List (List Value)) → length (numbered id rows) ≡ length rows
-length-numbered id [] = refl
-length-numbered id (vs ∷ rows) = ap suc (length-numbered (id + 1) rows)
 
 pub inserts-fit : (columns : List Column) (n id : ℕ) (rows : List (List Value)) → IsTrue (list_all (fits_columns columns) rows) → IsTrue (list_all (op_fits columns) (inserts n id rows))
 inserts-fit columns n id [] h = refl
@@ -75,11 +75,3 @@ inserts-none n id (vs ∷ rows) h = cc
 pub inserts-some : (n id : ℕ) (rows : List (List Value)) (op : Op) (rest : List Op) → inserts n id rows ≡ op ∷ rest → 0 < length rows
 inserts-some n id [] op rest h = cc
 inserts-some n id (vs ∷ rows) op rest h = omega arith
-
-pub cut-some : (width : ℕ) (vs : List Value) → 0 < length vs → 0 < length (rows_of width vs)
-cut-some width [] h = absurd (omega arith)
-cut-some width (v ∷ vs) h = omega arith
-
-pub inserts-made : (n id : ℕ) (rows : List (List Value)) → 0 < length rows → 0 < length (inserts n id rows)
-inserts-made n id [] h = absurd (omega arith)
-inserts-made n id (vs ∷ rows) h = omega arith

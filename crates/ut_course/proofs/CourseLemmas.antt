@@ -90,13 +90,13 @@ module _ (p : Plain) (disk : View) (lines : List Parsed) (answers : List Answer)
       holding_more disk was now p.journal q.journal r.journal acks (journal_len q.journal) on same (no_shorter q.journal r.journal on) (λ c left. l.each c (counts was.moment c l.later (only c left))) l h)
 
   by_came : (q : Plain) → Runs old was q → Tells p lines answers (lengths_of acks) q → (IsTold disk → Holding disk was p.journal q.journal acks) → (reply ≡ replies.DiskFault → Rose was.faults now.faults) → Came q line who was reply new now
-      → After (length_after reply old.store.entries new.store.entries)
+      → After (length_after reply old.store.counts.entries new.store.counts.entries)
   by_came q runs tells holding cause (Answered r sound is runs' keeps) =
-      subst (λ (n : ℕ). After n) (sym (length_by reply false old.store.entries new.store.entries (not_fault reply sound) ∙ runs'.stands.counts.entries)) (answered q r runs tells holding is runs' keeps)
+      subst (λ (n : ℕ). After n) (sym (length_by reply false old.store.counts.entries new.store.counts.entries (not_fault reply sound) ∙ runs'.stands.counts.entries)) (answered q r runs tells holding is runs' keeps)
   by_came q runs tells holding cause (Lost r fault down faults keeps) =
-      subst (λ (n : ℕ). After n) (sym (length_by reply true old.store.entries new.store.entries (ap is_fault fault) ∙ runs.stands.counts.entries)) (lost q r tells holding down faults keeps (cause fault))
+      subst (λ (n : ℕ). After n) (sym (length_by reply true old.store.counts.entries new.store.counts.entries (ap is_fault fault) ∙ runs.stands.counts.entries)) (lost q r tells holding down faults keeps (cause fault))
 
   -- a line more was answered, and its answer is acknowledged now
-  pub course_more : old.down ≡ false → Comes old was line who reply new now → Course p disk lines answers acks was old → After (length_after reply old.store.entries new.store.entries)
+  pub course_more : old.down ≡ false → Comes old was line who reply new now → Course p disk lines answers acks was old → After (length_after reply old.store.counts.entries new.store.counts.entries)
   course_more up comes (Goes q runs tells holding) = by_came q runs tells holding comes.cause (comes.each q runs)
   course_more up comes (Failed journal q down told rose holding) = cc

@@ -106,27 +106,27 @@ same_number : (n : ℕ) → nat_eq n n ≡ true
 same_number n = grind (arith, common_steps)
 
 module _ (e : Held) (p : Plain) (s : StandsFor e p) where
-  of_table : (m : PendingMerge) → e.pending ≡ Some m → p.pending ≡ Some m → (t : Staged) → slice_get e.staged m.table ≡ Some t → pending_job e ≡ job_by p.pending p.stages (current p.journal).tables
+  of_table : (m : PendingMerge) → e.counts.pending ≡ Some m → p.pending ≡ Some m → (t : Staged) → slice_get e.rows.staged m.table ≡ Some t → pending_job e ≡ job_by p.pending p.stages (current p.journal).tables
   of_table m is plain t at =
       let merging : t.merge ≡ Some m =
-      s.rows.merging m.table t.merge (get_map (λ (x : Staged). x.merge) e.staged m.table t at) ∙ ap (λ o. merge_at o m.table) is ∙ ap (λ (b : Bool). cond b (Some m) None) (same_number m.table) in
+      s.rows.merging m.table t.merge (get_map (λ (x : Staged). x.merge) e.rows.staged m.table t at) ∙ ap (λ o. merge_at o m.table) is ∙ ap (λ (b : Bool). cond b (Some m) None) (same_number m.table) in
       let stages : stages_at p.stages m.table ≡ stages_of t =
-      ap (λ (l : Stages). stages_at l m.table) s.rows.stages ∙ ap (λ o. unwrap_or o no_stages) (get_map stages_of e.staged m.table t at) in
+      ap (λ (l : Stages). stages_at l m.table) s.rows.stages ∙ ap (λ o. unwrap_or o no_stages) (get_map stages_of e.rows.staged m.table t at) in
       let width : width_at (current p.journal).tables m.table ≡ length t.columns =
-      ap (λ (l : List Table). width_at l m.table) (sym s.counts.tables) ∙ width_of e.staged e.tables m.table t s.rows.columns at in
-      ap (λ o. option_and_then (λ (m : PendingMerge). option_and_then tables.pending_job (slice_get e.staged m.table)) o) is
+      ap (λ (l : List Table). width_at l m.table) (sym s.counts.tables) ∙ width_of e.rows.staged e.rows.tables m.table t s.rows.columns at in
+      ap (λ o. option_and_then (λ (m : PendingMerge). option_and_then tables.pending_job (slice_get e.rows.staged m.table)) o) is
       ∙ ap (λ o. option_and_then tables.pending_job o) at
       ∙ ap (λ o. option_map (tables.job_of t) o) merging
       ∙ ap Some (job_same m t ∙ ap (λ (x : TableStages). job_in m x (length t.columns)) (sym stages) ∙ ap (λ (w : ℕ). job_in m (stages_at p.stages m.table) w) (sym width))
       ∙ ap (λ o. job_by o p.stages (current p.journal).tables) (sym plain)
 
-  of_pending : (o : Option PendingMerge) → e.pending ≡ o → p.pending ≡ o → AreMerges o p.stages (current p.journal).merges (journal_len p.journal) → pending_job e ≡ job_by p.pending p.stages (current p.journal).tables
+  of_pending : (o : Option PendingMerge) → e.counts.pending ≡ o → p.pending ≡ o → AreMerges o p.stages (current p.journal).merges (journal_len p.journal) → pending_job e ≡ job_by p.pending p.stages (current p.journal).tables
   of_pending None is plain merges =
-      ap (λ o. option_and_then (λ (m : PendingMerge). option_and_then tables.pending_job (slice_get e.staged m.table)) o) is ∙ ap (λ o. job_by o p.stages (current p.journal).tables) (sym plain)
+      ap (λ o. option_and_then (λ (m : PendingMerge). option_and_then tables.pending_job (slice_get e.rows.staged m.table)) o) is ∙ ap (λ o. job_by o p.stages (current p.journal).tables) (sym plain)
   of_pending (Some m) is plain merges =
-      let count : length p.stages ≡ length e.staged = ap (λ (l : Stages). length l) s.rows.stages ∙ length-map e.staged stages_of in
+      let count : length p.stages ≡ length e.rows.staged = ap (λ (l : Stages). length l) s.rows.stages ∙ length-map e.rows.staged stages_of in
       let within = merges.table in
-      let t = there e.staged m.table (omega (arith, count, within)) in of_table m is plain t.0 t.1
+      let t = there e.rows.staged m.table (omega (arith, count, within)) in of_table m is plain t.0 t.1
 
   pub job_is : pending_job e ≡ job_by p.pending p.stages (current p.journal).tables
   job_is = of_pending p.pending s.counts.pending refl s.plain.merges

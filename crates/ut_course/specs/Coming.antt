@@ -25,10 +25,12 @@ session_in Stranger = None
 session_in (Bad session) = Some session
 session_in (Good session st) = Some session
 
+-- whether that is this session
 abbrev pub is_of : ℕ → Option ℕ → Bool
 is_of session None = false
 is_of session (Some n) = nat_eq n session
 
+-- whether a line says a statement that the grammar knows
 abbrev pub is_good : Parsed → Bool
 is_good (Good session st) = true
 is_good _ = false
@@ -39,6 +41,7 @@ is_of_merge (MergeBegin name kind) = true
 is_of_merge MergeEnd = true
 is_of_merge _ = false
 
+-- whether a line asks for the begin of a merge or the end of one
 abbrev pub asks_merge : Parsed → Bool
 asks_merge (Good session st) = is_of_merge st
 asks_merge _ = false
@@ -47,9 +50,12 @@ asks_merge _ = false
 
 -- from a plain state: it is answered, or the disk failed
 pub data Came (p : Plain) (line : Parsed) (who : Option ℕ) (before : View) (reply : Reply) (new : Logged) (after : View) : Type 0 where
-  Answered : (q : Plain) → (reply ≡ DiskFault → ⊥) → AnswersLine p line (record { session = who; reply = reply } ∷ []) q → Runs new after q → Keeps before after q.journal (journal_len p.journal)
+  Answered : (q : Plain) → (reply ≡ DiskFault → ⊥) → AnswersLine p line (record { session = who; reply = reply } ∷ []) q
+      → Runs new after q → Keeps before after q.journal (journal_len p.journal)
       → Came p line who before reply new after
-  Lost : (q : Plain) → reply ≡ DiskFault → new.down ≡ true → Faults p line (record { session = who; reply = reply } ∷ []) q → Keeps before after q.journal (journal_len p.journal)
+  Lost : (q : Plain) → reply ≡ DiskFault → new.down ≡ true
+      → Faults p line (record { session = who; reply = reply } ∷ []) q
+      → Keeps before after q.journal (journal_len p.journal)
       → Came p line who before reply new after
 
 -- the job of the pending merge stays, but where a merge begins or ends
@@ -57,7 +63,9 @@ abbrev pub KeepsJob : Parsed → Logged → Logged → Type 0
 KeepsJob line old new = asks_merge line ≡ false → new.down ≡ false → pending_job new.store ≡ pending_job old.store
 
 -- whatever plain state the store ran from
-pub record Comes (old : Logged) (before : View) (line : Parsed) (who : Option ℕ) (reply : Reply) (new : Logged) (after : View) : Type 0 where
+pub record Comes
+    (old : Logged) (before : View) (line : Parsed) (who : Option ℕ) (reply : Reply) (new : Logged)
+    (after : View) : Type 0 where
   pub each : (p : Plain) → Runs old before p → Came p line who before reply new after
   pub job : (p : Plain) → Runs old before p → KeepsJob line old new
   pub told : after.told ≡ before.told
@@ -66,6 +74,7 @@ pub record Comes (old : Logged) (before : View) (line : Parsed) (who : Option �
 
 -- ---- the length that is acknowledged
 
+-- whether a reply says that the disk failed
 abbrev pub is_fault : Reply → Bool
 is_fault DiskFault = true
 is_fault _ = false

@@ -13,7 +13,8 @@ TellsLine p line answers lengths q = AnswersLine p line answers q × (lengths �
 abbrev pub Tells : Plain → List Parsed → List Answer → List ℕ → Plain → Type 0
 Tells p [] answers lengths q = (answers ≡ []) × (lengths ≡ []) × (q ≡ p)
 Tells p (line ∷ lines) answers lengths q =
-    (here rest : List Answer) × (now later : List ℕ) × (mid : Plain) × (answers ≡ here ++ rest) × (lengths ≡ now ++ later) × TellsLine p line here now mid × Tells mid lines rest later q
+    (here rest : List Answer) × (now later : List ℕ) × (mid : Plain) × (answers ≡ here ++ rest)
+    × (lengths ≡ now ++ later) × TellsLine p line here now mid × Tells mid lines rest later q
 
 -- The lines are answered to the last, and the journal is so long then.
 pub record AnswersAll (p : Plain) (lines : List Parsed) (answers : List Answer) (lengths : List ℕ) (journal : ℕ) (q : Plain) : Type 0 where
@@ -21,7 +22,9 @@ pub record AnswersAll (p : Plain) (lines : List Parsed) (answers : List Answer) 
   pub length_is : journal ≡ journal_len q.journal
 
 -- The lines are answered to one at which the disk failed: that is the last one, and its length is that before it.
-pub record AnswersToFault (p : Plain) (lines : List Parsed) (answers : List Answer) (lengths : List ℕ) (journal : ℕ) (q : Plain) : Type 0 where
+pub record AnswersToFault
+    (p : Plain) (lines : List Parsed) (answers : List Answer) (lengths : List ℕ) (journal : ℕ)
+    (q : Plain) : Type 0 where
   pub before : List Parsed
   pub line : Parsed
   pub given : List Answer

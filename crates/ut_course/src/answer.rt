@@ -14,9 +14,7 @@ use ut_merge::Built;
 use ut_outside::Disk;
 use ut_plain::{Parsed, Refusal, Reply, Statement};
 use ut_script::parse_line;
-
-/// The store itself asks as the operator.
-const STORE: u8 = 0;
+use ut_value::OPERATOR;
 
 /// What a line of a session is answered. No line is one of the store.
 pub fn answer_line<D: Disk>(
@@ -65,7 +63,7 @@ pub fn answer_statement<D: Disk>(alloc: Global, engine: &mut Engine<'_, D>, st: 
     ensures comes { Comes engine.old.store (D.view engine.old.disk) (Parsed.Good 0 st.now) (Some 0) result engine.new.store (D.view engine.new.disk) }
     ensures loan { engine.new.loan ≡ engine.old.loan }
 {
-    engine.statement(alloc, STORE, st)
+    engine.statement(alloc, OPERATOR, st)
 }
 
 /// What the end of the pending merge is answered, with what was built of its job. It takes no memory.
@@ -75,7 +73,7 @@ pub fn end_merge<D: Disk>(engine: &mut Engine<'_, D>, built: Built) -> Reply
     ensures comes { Comes engine.old.store (D.view engine.old.disk) (Parsed.Good 0 statements.MergeEnd) (Some 0) result engine.new.store (D.view engine.new.disk) }
     ensures loan { engine.new.loan ≡ engine.old.loan }
 {
-    engine.merge_end(STORE, built)
+    engine.merge_end(OPERATOR, built)
 }
 
 /// The length of the journal that an acknowledgement carries: that before the line where the disk failed.

@@ -43,7 +43,7 @@ map_more f (y ∷ ys) x = ap (λ l. f y ∷ l) (map_more f ys x)
 -- the turn of a reply that was told just now
 abbrev pub turn_now : ℕ → Asked → Turn → Logged → Logged → View → Type 0
 turn_now session asked t old new now =
-    (t.session ≡ Some session) × (t.asked ≡ asked) × (t.journal ≡ length_after t.reply old.store.entries new.store.entries) × (t.moment ≡ now.moment)
+    (t.session ≡ Some session) × (t.asked ≡ asked) × (t.journal ≡ length_after t.reply old.store.counts.entries new.store.counts.entries) × (t.moment ≡ now.moment)
 
 -- ---- the course of a book with one turn more
 
@@ -58,7 +58,7 @@ module _ (p : Plain) (disk : View) (book : List Turn) (was : View) (old : Logged
   course_turn : OnlyNow now → CountsNow now → now.told ≡ was.told → disk.faults ≤ was.faults → turn_now session asked t old new now → old.down ≡ false → Comes old was (said asked) (Some session) t.reply new now
       → Course p disk (lines_in book) (answers_in book) (acks_in book) was old → Course p disk (lines_in (book ++ t ∷ [])) (answers_in (book ++ t ∷ [])) (acks_in (book ++ t ∷ [])) now new
   course_turn only counts same le turn up comes course =
-      let n = length_after t.reply old.store.entries new.store.entries in
+      let n = length_after t.reply old.store.counts.entries new.store.counts.entries in
       course_by
       (lines_in book ++ said asked ∷ [])
       (answers_in book ++ record { session = Some session; reply = t.reply } ∷ [])
@@ -90,16 +90,16 @@ held_more g queues book name was now old new (Some job) line who t none up comes
 
 -- a turn that was answered just now, by a journal of so many entries before
 abbrev pub turn_with : (session : ℕ) → Asked → (before : ℕ) → Reply → Logged → View → Turn
-turn_with session asked before reply new now = record { session = Some session; asked = asked; reply = reply; journal = length_after reply before new.store.entries; moment = now.moment }
+turn_with session asked before reply new now = record { session = Some session; asked = asked; reply = reply; journal = length_after reply before new.store.counts.entries; moment = now.moment }
 
 reply_is : (session : ℕ) (asked : Asked) (before : ℕ) (reply : Reply) (t : Turn) (new : Logged) (now : View) → t ≡ turn_with session asked before reply new now → t.reply ≡ reply
 reply_is session asked before reply t new now e = ap (λ (u : Turn). u.reply) e
 
-turn_is : (session : ℕ) (asked : Asked) (before : ℕ) (reply : Reply) (t : Turn) (old new : Logged) (now : View) → t ≡ turn_with session asked before reply new now → before ≡ old.store.entries → turn_now session asked t old new now
+turn_is : (session : ℕ) (asked : Asked) (before : ℕ) (reply : Reply) (t : Turn) (old new : Logged) (now : View) → t ≡ turn_with session asked before reply new now → before ≡ old.store.counts.entries → turn_now session asked t old new now
 turn_is session asked before reply t old new now e f = (
   ap (λ (u : Turn). u.session) e,
   ap (λ (u : Turn). u.asked) e,
-  ap (λ (u : Turn). u.journal) e ∙ ap (λ (n : ℕ). length_after reply n new.store.entries) f ∙ ap (λ (r : Reply). length_after r old.store.entries new.store.entries) (sym (reply_is session asked before reply t new now e)),
+  ap (λ (u : Turn). u.journal) e ∙ ap (λ (n : ℕ). length_after reply n new.store.counts.entries) f ∙ ap (λ (r : Reply). length_after r old.store.counts.entries new.store.counts.entries) (sym (reply_is session asked before reply t new now e)),
   ap (λ (u : Turn). u.moment) e,
 )
 
@@ -151,21 +151,21 @@ stands_merged g queues book name name' was now old new job st t of spelled turn 
 
 -- ---- the same, by the turn that the code makes
 
-pub stands_line : (g : Ground) (queues left : List (List (List ℕ))) (book : List Turn) (name name' : GName) (was now : View) (old new : Logged) (job : Option JobValue) (session before : ℕ) (line : List ℕ) (reply : Reply) (t : Turn) → t ≡ turn_with session (Line line) before reply new now → before ≡ old.store.entries
+pub stands_line : (g : Ground) (queues left : List (List (List ℕ))) (book : List Turn) (name name' : GName) (was now : View) (old new : Logged) (job : Option JobValue) (session before : ℕ) (line : List ℕ) (reply : Reply) (t : Turn) → t ≡ turn_with session (Line line) before reply new now → before ≡ old.store.counts.entries
     → Takes queues session line left → Comes old was (parsed true line) (Some session) reply new now → name' ≡ name → old.down ≡ false → OnlyNow now → CountsNow now
     → StandsOn g queues book name was old job → StandsOn g left (book ++ t ∷ []) name' now new job
 stands_line g queues left book name name' was now old new job session before line reply t e f takes comes same up only counts s =
     stands_more g queues left book name name' was now old new job session line t (turn_is session (Line line) before reply t old new now e f) takes
     (subst (λ (r : Reply). Comes old was (parsed true line) (Some session) r new now) (sym (reply_is session (Line line) before reply t new now e)) comes) same up only counts s
 
-pub stands_said : (g : Ground) (queues : List (List (List ℕ))) (book : List Turn) (name name' : GName) (was now : View) (old new : Logged) (job : Option JobValue) (before : ℕ) (st : Statement) (reply : Reply) (t : Turn) → t ≡ turn_with 0 (Store st) before reply new now → before ≡ old.store.entries
+pub stands_said : (g : Ground) (queues : List (List (List ℕ))) (book : List Turn) (name name' : GName) (was now : View) (old new : Logged) (job : Option JobValue) (before : ℕ) (st : Statement) (reply : Reply) (t : Turn) → t ≡ turn_with 0 (Store st) before reply new now → before ≡ old.store.counts.entries
     → IsTrue (is_of_store st) → IsTrue (is_spelled st) → is_of_merge st ≡ false → Comes old was (Good 0 st) (Some 0) reply new now → name' ≡ name → old.down ≡ false → OnlyNow now → CountsNow now
     → StandsOn g queues book name was old job → StandsOn g queues (book ++ t ∷ []) name' now new job
 stands_said g queues book name name' was now old new job before st reply t e f of spelled none comes same up only counts s =
     stands_stored g queues book name name' was now old new job st t of spelled none (turn_is 0 (Store st) before reply t old new now e f)
     (subst (λ (r : Reply). Comes old was (Good 0 st) (Some 0) r new now) (sym (reply_is 0 (Store st) before reply t new now e)) comes) same up only counts s
 
-pub stands_jobless : (g : Ground) (queues : List (List (List ℕ))) (book : List Turn) (name name' : GName) (was now : View) (old new : Logged) (job : Option JobValue) (before : ℕ) (st : Statement) (reply : Reply) (t : Turn) → t ≡ turn_with 0 (Store st) before reply new now → before ≡ old.store.entries
+pub stands_jobless : (g : Ground) (queues : List (List (List ℕ))) (book : List Turn) (name name' : GName) (was now : View) (old new : Logged) (job : Option JobValue) (before : ℕ) (st : Statement) (reply : Reply) (t : Turn) → t ≡ turn_with 0 (Store st) before reply new now → before ≡ old.store.counts.entries
     → IsTrue (is_of_store st) → IsTrue (is_spelled st) → Comes old was (Good 0 st) (Some 0) reply new now → name' ≡ name → old.down ≡ false → OnlyNow now → CountsNow now
     → StandsOn g queues book name was old job → StandsOn g queues (book ++ t ∷ []) name' now new None
 stands_jobless g queues book name name' was now old new job before st reply t e f of spelled comes same up only counts s =
@@ -186,7 +186,7 @@ stands_same g queues left book name now store job session none s = record {
 
 -- ---- the beginning
 
-pub starts_stand : (g : Ground) (lines : List (List ℕ)) (queues : List (List (List ℕ))) (book : List Turn) (n m : ℕ) (name : GName) (now : View) (store : Logged) → n ≡ store.store.entries → m ≡ now.moment → OnlyNow now → Sorted lines queues book n m
+pub starts_stand : (g : Ground) (lines : List (List ℕ)) (queues : List (List (List ℕ))) (book : List Turn) (n m : ℕ) (name : GName) (now : View) (store : Logged) → n ≡ store.store.counts.entries → m ≡ now.moment → OnlyNow now → Sorted lines queues book n m
     → Starts g lines name now store → StandsOn g queues book name now store None
 starts_stand g lines queues book n m name now store e f only sorted s = record {
   weaves = record {

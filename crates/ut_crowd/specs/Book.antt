@@ -17,12 +17,15 @@ abbrev pub said : Asked → Parsed
 said (Line bytes) = parsed true bytes
 said (Store st) = parsed false (asked_text (Store st))
 
+-- what was asked in each turn, in order
 abbrev pub lines_in : List Turn → List Parsed
 lines_in book = map (λ (t : Turn). said t.asked) book
 
+-- the answer of a turn: its session, and the reply
 abbrev pub answer_of : Turn → Answer
 answer_of t = record { session = t.session; reply = t.reply }
 
+-- the answers of the turns, in order
 abbrev pub answers_in : List Turn → List Answer
 answers_in book = map answer_of book
 
@@ -30,13 +33,16 @@ answers_in book = map answer_of book
 abbrev pub ack_of : Turn → Ack
 ack_of t = record { journal = t.journal; moment = t.moment }
 
+-- the acknowledgements of the turns, in order
 abbrev pub acks_in : List Turn → List Ack
 acks_in book = map ack_of book
 
 -- the lines of a session, in order
 abbrev pub lines_of_session : ℕ → List (List ℕ) → List (List ℕ)
 lines_of_session session [] = []
-lines_of_session session (line ∷ lines) = if is_of session (session_in (parsed true line)) then line ∷ lines_of_session session lines else lines_of_session session lines
+lines_of_session session (line ∷ lines) =
+    if is_of session (session_in (parsed true line)) then line ∷ lines_of_session session lines
+    else lines_of_session session lines
 
 -- the line of a turn, if it is one of this session
 abbrev pub line_by : ℕ → Option ℕ → Asked → List (List ℕ)
@@ -58,9 +64,11 @@ abbrev pub strangers : List (List ℕ) → List Asked
 strangers [] = []
 strangers (line ∷ lines) = if is_strangers (parsed true line) then Line line ∷ strangers lines else strangers lines
 
+-- a turn of no session: a stranger's line
 abbrev pub IsNobodys : Turn → Type 0
 IsNobodys t = t.session ≡ None
 
+-- a turn of some session
 abbrev pub IsSomebodys : Turn → Type 0
 IsSomebodys t = (session : ℕ) × (t.session ≡ Some session)
 

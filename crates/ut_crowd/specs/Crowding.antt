@@ -9,8 +9,11 @@ use Rattle.ut_crowd.specs.declared.book.Turn.{Turn}
 use Rattle.ut_crowd.specs.Book.{lines_in, answers_in, acks_in}
 use Rattle.ut_crowd.specs.Queues.{Weaves, HasAnswered}
 
--- A store and its disk, before these lines and after them, and the book of what was answered. Where not all lines were, there was no memory for a turn, or the disk failed.
-pub record Crowded (store : Logged) (disk : View) (lines : List (List ℕ)) (book : List Turn) (all stopped : Bool) (new : Logged) (now : View) : Type 0 where
+-- A store and its disk, before these lines and after them, and the book of what was answered.
+-- Where not all lines were, there was no memory for a turn, or the disk failed.
+pub record Crowded
+    (store : Logged) (disk : View) (lines : List (List ℕ)) (book : List Turn) (all stopped : Bool) (new : Logged)
+    (now : View) : Type 0 where
   pub queues : List (List (List ℕ))
   pub weaves : Weaves lines queues book
   -- whatever plain state the store ran from, it has gone through the book

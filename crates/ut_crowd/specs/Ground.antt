@@ -4,6 +4,7 @@ use Rattle.std.specs.Prelude.{ℕ, false, List, [], Option, None}
 use Rattle.ut_outside.specs.Disk.{View}
 use Rattle.ut_plain.specs.Plain.{Plain}
 
+-- the states that the store may run from, the disk with its loan, and all lines
 pub record Ground : Type 1 where
   -- the plain states that the store may run from
   pub from : Plain → Type 0
@@ -18,7 +19,14 @@ pub record Ground : Type 1 where
 abbrev pub no_ground : Ground
 no_ground = record {
   from = λ p. ⊥;
-  disk = record { told = false; seen = record { redo = []; pages = []; redo2 = [] }; crash_states = λ c. ⊥; moment = 0; crash_states_since = λ t c. ⊥; faults = 0 };
+  disk = record {
+    told = false;
+    seen = record { redo = []; pages = []; redo2 = [] };
+    crash_states = λ c. ⊥;
+    moment = 0;
+    crash_states_since = λ t c. ⊥;
+    faults = 0;
+  };
   loan = None;
   lines = [];
 }

@@ -14,6 +14,7 @@ pub record Takes (queues : List (List (List ℕ))) (session : ℕ) (line : List 
   pub first : left_of queues session ≡ line ∷ left_of now session
   pub others : (other : ℕ) → other ≢ session → left_of now other ≡ left_of queues other
 
+-- the session has no line left, and no queue changes
 pub record TakesNone (queues : List (List (List ℕ))) (session : ℕ) (now : List (List (List ℕ))) : Type 0 where
   pub none : left_of queues session ≡ []
   pub same : (other : ℕ) → left_of now other ≡ left_of queues other
@@ -22,7 +23,8 @@ pub record TakesNone (queues : List (List (List ℕ))) (session : ℕ) (now : Li
 abbrev pub HasNone : List (List (List ℕ)) → Type 0
 HasNone queues = (session : ℕ) → session < 17 → left_of queues session ≡ []
 
--- The book is a weave of these lines: the turns of strangers come first, and all of them; each session's turns have its first lines, in order, and the others are left.
+-- The book is a weave of these lines: the turns of strangers come first, and all of them;
+-- each session's turns have its first lines, in order, and the others are left.
 pub record Weaves (lines : List (List ℕ)) (queues : List (List (List ℕ))) (book : List Turn) : Type 0 where
   pub each : (session : ℕ) → lines_by session book ++ left_of queues session ≡ lines_of_session session lines
   pub first : List Turn

@@ -18,7 +18,10 @@ abbrev pub IsHeld : Option JobValue → Logged → Type 0
 IsHeld None store = Unit {0}
 IsHeld (Some job) store = store.down ≡ false → pending_job store.store ≡ Some job
 
-pub record StandsOn (g : Ground) (queues : List (List (List ℕ))) (book : List Turn) (name : GName) (now : View) (store : Logged) (job : Option JobValue) : Type 0 where
+-- between two turns: the book and the queues have all lines, and the store has gone through the book
+pub record StandsOn
+    (g : Ground) (queues : List (List (List ℕ))) (book : List Turn) (name : GName) (now : View) (store : Logged)
+    (job : Option JobValue) : Type 0 where
   pub weaves : Weaves g.lines queues book
   -- some plain state is where it began, and from each such one the store has gone through the book
   pub some : (p : Plain) × g.from p

@@ -9,6 +9,7 @@ use Rattle.ut_crowd.specs.declared.book.Asked.{Asked}
 use Rattle.ut_crowd.specs.declared.book.Asked.TheVariants.{Line, Store}
 use Rattle.ut_crowd.specs.declared.book.Turn.{Turn}
 
+-- the word for a kind of merge
 abbrev pub kind_text : MergeKind → List ℕ
 kind_text Classic = codes "classic"
 kind_text Resort = codes "resort"
@@ -28,6 +29,7 @@ store_text statements.SaveDrop = codes "save drop"
 store_text (statements.Shape table) = codes "shape " ++ table
 store_text _ = []
 
+-- what was asked: a line as it came, a statement of the store as a line of session 0
 abbrev pub asked_text : Asked → List ℕ
 asked_text (Line bytes) = bytes
 asked_text (Store st) = codes "0 " ++ store_text st
@@ -36,5 +38,6 @@ asked_text (Store st) = codes "0 " ++ store_text st
 abbrev pub turn_text : Turn → List ℕ
 turn_text t = codes "> " ++ asked_text t.asked ++ 10 ∷ reply_text t.session t.reply
 
+-- the text of all turns, in order
 abbrev pub book_text : List Turn → List ℕ
 book_text book = flat_map turn_text book

@@ -88,7 +88,7 @@ impl<'d, D: Disk, O: Opening> Hall<'d, D, O> {
         true
     }
 
-    /// Whether a keeper that sleeps may have something to do. It looks at the lengths of each table.
+    // Whether a keeper that sleeps may have something to do. It looks at the lengths of each table.
     fn is_due(&self, l1: u32) -> bool {
         !self.stopped && !self.engine.down() && (self.calls_saver() || self.calls_merger(l1))
     }

@@ -149,7 +149,7 @@ pub(crate) fn turn_of<D: Disk>(
     before: u32,
     reply: Reply,
 ) -> Turn
-    ensures { result ≡ record { session = Some session; asked = asked; reply = reply; journal = length_after reply before engine.now.store.store.entries; moment = (D.view engine.now.disk).moment } }
+    ensures { result ≡ record { session = Some session; asked = asked; reply = reply; journal = length_after reply before engine.now.store.store.counts.entries; moment = (D.view engine.now.disk).moment } }
 {
     let journal = length_after(&reply, before, engine.journal_len());
     Turn {

@@ -144,7 +144,7 @@ impl<'d, D: Disk, O: Opening> Hall<'d, D, O> {
 
     // Begins a merge of the table at a place, and hands out its job.
     fn begin_merge(&mut self, place: usize) -> (Kept, Option<Job>)
-        requires there { place < length self.old.engine.store.store.tables }
+        requires there { place < length self.old.engine.store.store.rows.tables }
         requires up { self.old.engine.store.down ≡ false }
         requires none { self.old.job ≡ None }
         requires stands { StandsOn O.ground self.old.queues.items self.old.book.items self.old.engine.loan (D.view self.old.engine.disk) self.old.engine.store self.old.job }
@@ -263,7 +263,7 @@ fn kind_after(merges: u32) -> MergeKind {
 // The first table with so many rows in its first stage, or else in its second.
 fn first_ripe<D: Disk>(engine: &Engine<'_, D>, rows: u32) -> Option<Ripe>
     requires up { engine.now.store.down ≡ false }
-    ensures { IfSome result (λ ripe. place_of ripe < length engine.now.store.store.tables) }
+    ensures { IfSome result (λ ripe. place_of ripe < length engine.now.store.store.rows.tables) }
 {
     for place in 0..engine.tables() {
         if engine.l1_len(place) >= rows {

@@ -31,7 +31,7 @@ impl Queue {
         }
     }
 
-    /// Puts a line behind the others.
+    // Puts a line behind the others.
     fn push(&mut self, line: Seq<u8>) -> Result<(), AllocError>
         ensures { OnOk result (self.new ≡ self.old ++ line ∷ []) }
     {
@@ -47,7 +47,7 @@ impl Queue {
         self.lines.is_empty()
     }
 
-    /// The next line.
+    // The next line.
     fn next(&mut self) -> Option<Seq<u8>>
         ensures { MatchOption result ((self.old ≡ []) × (self.new ≡ [])) (λ line. self.old ≡ line ∷ self.new) }
     {

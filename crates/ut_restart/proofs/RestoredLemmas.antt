@@ -208,10 +208,10 @@ module _ (root : Root) (tables : List Drawn) (mains : List MainValue) (es : List
       next-is : max r.rows.next (r.rows.load + 1) ≡ max (current j).next (load_of j + 1)
       next-is = λ i. max (agrees.next i) (sym load-is i + 1)
 
-      fates-are : e.fates ≡ first_fates
+      fates-are : e.rows.fates ≡ first_fates
       fates-are = built.is.fates
 
-      staged-are : e.staged ≡ shown r.rows.stages.items
+      staged-are : e.rows.staged ≡ shown r.rows.stages.items
       staged-are = built.is.has_rows
 
       free : AreFree (λ id. option_map before_all (finmap.get (current j).rows id)) (max (current j).next (load_of j + 1))
@@ -224,8 +224,8 @@ module _ (root : Root) (tables : List Drawn) (mains : List MainValue) (es : List
       rows : AreRows e (opened_store o j limit)
       rows = record {
         held = λ id. option_map before_all (finmap.get (current j).rows id);
-        places = subst (λ staged. AreHeld (place_at staged) (IsGone e.fates no_sessions) (λ id. option_map before_all (finmap.get (current j).rows id))) (sym staged-are)
-            (held-sound r.tables.items (shown r.rows.stages.items) (position_in r.rows.positions) r.rows.load (current j).rows (replayed d.stages es) read.sound.rows agrees.rows (IsGone e.fates no_sessions));
+        places = subst (λ staged. AreHeld (place_at staged) (IsGone e.rows.fates no_sessions) (λ id. option_map before_all (finmap.get (current j).rows id))) (sym staged-are)
+            (held-sound r.tables.items (shown r.rows.stages.items) (position_in r.rows.positions) r.rows.load (current j).rows (replayed d.stages es) read.sound.rows agrees.rows (IsGone e.rows.fates no_sessions));
         dropped = record { each = λ n g i place at flag. nothing_kept (stages_at (replayed d.stages es) n) g i (plain.merges n).keep flag };
         free = subst (AreFree (λ id. option_map before_all (finmap.get (current j).rows id))) (sym (built.is.has_next ∙ next-is)) free;
         exact = subst (λ fs. IsExact fs (λ id. option_map before_all (finmap.get (current j).rows id)) j (journal_len j)) (sym fates-are) (exact j);
@@ -235,8 +235,8 @@ module _ (root : Root) (tables : List Drawn) (mains : List MainValue) (es : List
         started = subst (λ fs. dead_number < length fs) (sym fates-are) (omega arith);
         stages = agrees.rows.stages_are ∙ sym (ap (map stages_of) staged-are);
         columns = ap (map (λ s. s.columns)) staged-are ∙ read.sound.rows.columns ∙ sym (ap (map (λ (t : Table). t.columns)) built.is.has_tables);
-        merging = subst (λ o. AreMerging o (map (λ (s : Staged). s.merge) e.staged)) (sym built.is.no_merge)
-            (λ n merge is. merges-at r.tables.items (map (λ (s : Staged). s.merge) e.staged) n merge (ap (map (λ (s : Staged). s.merge)) staged-are ∙ read.sound.rows.merges) is);
+        merging = subst (λ o. AreMerging o (map (λ (s : Staged). s.merge) e.rows.staged)) (sym built.is.no_merge)
+            (λ n merge is. merges-at r.tables.items (map (λ (s : Staged). s.merge) e.rows.staged) n merge (ap (map (λ (s : Staged). s.merge)) staged-are ∙ read.sound.rows.merges) is);
       }
 
       pub stands : StandsFor e (opened_store o j limit)

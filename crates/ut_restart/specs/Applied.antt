@@ -24,13 +24,16 @@ AreRows r rows stages = Keeps (shown r.stages.items) (position_in r.positions) r
 -- a row more
 pub record Added (old : Rows) (table : ℕ) (row : Row) (new : Rows) : Type 0 where
   pub stages : shown new.stages.items ≡ entered_in (shown old.stages.items) table row
-  pub positions : IsSet (position_in old.positions) (position_in new.positions) row.id (Some (position table (L1 (length (staged_at (shown old.stages.items) table).l1))))
+  pub positions : IsSet (position_in old.positions) (position_in new.positions) row.id
+      (Some (position table (L1 (length (staged_at (shown old.stages.items) table).l1))))
   pub next : new.next ≡ max old.next (row.id + 1)
   pub load : new.load ≡ old.load + 1
 
 -- whether a row may be inserted: it suits its table, nobody has its id, and the load is not at its limit
 abbrev pub may_insert : List Table → Rows → ℕ → Row → Bool
-may_insert tables r table row = fits_table (columns_at tables table) row.values && nat_le 1 row.id && nat_le row.id 2147483648 && is_none (position_in r.positions row.id) && nat_lt r.load 2147483648
+may_insert tables r table row =
+    fits_table (columns_at tables table) row.values && nat_le 1 row.id && nat_le row.id 2147483648
+    && is_none (position_in r.positions row.id) && nat_lt r.load 2147483648
 
 -- each operation can be applied in its place, and was
 pub record Applied (tables : List Table) (old : Rows) (os : List Op) (new : Rows) : Type 0 where
@@ -42,4 +45,5 @@ pub record Applied (tables : List Table) (old : Rows) (os : List Op) (new : Rows
 
 -- some operation cannot be applied in its place, or the load is above its limit
 pub record Refused (tables : List Table) (old : Rows) (os : List Op) : Type 0 where
-  pub never : (rows : plain.Rows) (stages : Stages) → AreRows old rows stages → IsTrue (can_apply_all tables rows os) → old.load + inserts_of os ≤ 2147483648 → ⊥
+  pub never : (rows : plain.Rows) (stages : Stages) → AreRows old rows stages → IsTrue (can_apply_all tables rows os)
+      → old.load + inserts_of os ≤ 2147483648 → ⊥

@@ -15,6 +15,7 @@ use Rattle.ut_restart.specs.Rows.{Positions, IsSet, position_in, position}
 
 -- ---- an id and its position
 
+-- an id and where its row stands
 abbrev pub Note : Type 0
 Note = ℕ × Position
 
@@ -29,33 +30,41 @@ noted n at i (c ∷ cells) = cond c.1 (noted n at (suc i) cells) ((c.0, position
 
 -- ---- of the rows of an image
 
+-- the ids of a delta's rows, each somebody's
 abbrev pub row_cells : List Row → List Cell
 row_cells rows = map (λ (r : Row). (r.id, false)) rows
 
+-- the ids of a part's rows, by their marks
 abbrev pub part_cells : List KeyRow → List Bool → List Cell
 part_cells [] marks = []
 part_cells (r ∷ rows) [] = []
 part_cells (r ∷ rows) (mark ∷ marks) = (r.id, not mark) ∷ part_cells rows marks
 
+-- place i of a delta
 abbrev pub place_in : Delta → ℕ → Place
 place_in deltas.First i = L1 i
 place_in deltas.Second i = L2 i
 
+-- the rows of a delta of table n
 abbrev pub rows_noted : ℕ → Delta → List Row → List Note
 rows_noted n delta rows = noted n (place_in delta) 0 (row_cells rows)
 
+-- the rows of all tables' deltas, the first table being table n
 abbrev pub deltas_noted : ℕ → List Drawn → List Note
 deltas_noted n [] = []
 deltas_noted n (t ∷ ts) = (rows_noted n deltas.Second t.l2 ++ rows_noted n deltas.First t.l1) ++ deltas_noted (suc n) ts
 
+-- the live rows of part p of table n
 abbrev pub part_noted : (n p : ℕ) → List KeyRow → List Bool → List Note
 part_noted n p rows marks = noted n (Main p) 0 (part_cells rows marks)
 
+-- the live rows of parts of table n, the first one being part p
 abbrev pub parts_noted : (n p : ℕ) → List PartRef → List (List KeyRow) → List Note
 parts_noted n p [] parts = []
 parts_noted n p (ref ∷ refs) [] = []
 parts_noted n p (ref ∷ refs) (rows ∷ parts) = part_noted n p rows ref.live ++ parts_noted n (suc p) refs parts
 
+-- the live rows of all tables' parts, the first table being table n
 abbrev pub mains_noted : ℕ → List Drawn → List MainValue → List Note
 mains_noted n [] mains = []
 mains_noted n (t ∷ ts) [] = []
@@ -63,9 +72,11 @@ mains_noted n (t ∷ ts) (main ∷ mains) = parts_noted n 0 t.parts main.parts +
 
 -- ---- what is noted
 
+-- positions with one more noted
 abbrev pub with_note : Positions → Note → Positions
 with_note f e q = cond (nat_eq q e.0) (Some e.1) (f q)
 
+-- positions with these noted, in order
 abbrev pub with_notes : Positions → List Note → Positions
 with_notes f [] = f
 with_notes f (e ∷ es) = with_notes (with_note f e) es

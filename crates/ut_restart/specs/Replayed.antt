@@ -48,7 +48,8 @@ pub record Followed (old : Replay) (entry : Entry) (new : Replay) : Type 0 where
 
 -- the entry does not suit what stood before it, or the load is above its limit
 pub record Strange (old : Replay) (entry : Entry) : Type 0 where
-  pub never : (s : State) (stages : Stages) → Agrees old s stages → IsTrue (suits s entry) → old.rows.load + entry_inserts entry ≤ 2147483648 → ⊥
+  pub never : (s : State) (stages : Stages) → Agrees old s stages → IsTrue (suits s entry)
+      → old.rows.load + entry_inserts entry ≤ 2147483648 → ⊥
 
 -- the entries can be applied one behind the other, and this is what they come to
 pub record Replayed (old : Replay) (es : List Entry) (new : Replay) : Type 0 where
@@ -60,4 +61,5 @@ pub record Replayed (old : Replay) (es : List Entry) (new : Replay) : Type 0 whe
 
 -- they cannot, or the load is above its limit
 pub record NoJournal (old : Replay) (es : List Entry) : Type 0 where
-  pub never : (s : State) (stages : Stages) → Agrees old s stages → IsTrue (can_all s es) → old.rows.load + sum_by entry_inserts es ≤ 2147483648 → ⊥
+  pub never : (s : State) (stages : Stages) → Agrees old s stages → IsTrue (can_all s es)
+      → old.rows.load + sum_by entry_inserts es ≤ 2147483648 → ⊥

@@ -19,9 +19,11 @@ use Rattle.ut_restart.specs.Standing.{staged_at}
 abbrev pub Positions : Type 0
 Positions = ℕ → Option Position
 
+-- the positions that a map has
 abbrev pub position_in : {S : Type 0} → HashMap ℕ Position S → Positions
 position_in m id = get nat_eq m id
 
+-- a place of table n
 abbrev pub position : ℕ → Place → Position
 position n p = record { table = n; place = p }
 
@@ -39,13 +41,16 @@ pub record Changed (old new : List Staged) (n : ℕ) (p : Place) (row : StagedRo
 pub record IsSound (tables : List Table) (staged : List Staged) (positions : Positions) (load : ℕ) : Type 0 where
   pub columns : map (λ (s : Staged). s.columns) staged ≡ map (λ (t : Table). t.columns) tables
   pub merges : map (λ (s : Staged). s.merge) staged ≡ map (λ (t : Table). None) tables
-  pub live : (n : ℕ) (p : Place) (row : StagedRow) → place_at staged n p ≡ Some row → is_dead row.stamp ≡ false → positions row.id ≡ Some (position n p)
-  pub there : (id n : ℕ) (p : Place) → positions id ≡ Some (position n p) → (row : StagedRow) × (place_at staged n p ≡ Some row) × (row.stamp ≡ stamp_of false) × (row.id ≡ id)
+  pub live : (n : ℕ) (p : Place) (row : StagedRow) → place_at staged n p ≡ Some row → is_dead row.stamp ≡ false
+      → positions row.id ≡ Some (position n p)
+  pub there : (id n : ℕ) (p : Place) → positions id ≡ Some (position n p)
+      → (row : StagedRow) × (place_at staged n p ≡ Some row) × (row.stamp ≡ stamp_of false) × (row.id ≡ id)
   pub few : (n : ℕ) → count_of (staged_at staged n) ≤ load
   pub within : load ≤ 2147483648
 
 -- ---- as the plain store has them
 
+-- a row of table n, as the plain store has it
 abbrev pub stored_of : ℕ → StagedRow → Stored
 stored_of n row = record { table = n; values = row.values }
 

@@ -18,16 +18,27 @@ use Rattle.ut_durable.specs.Bytes.{row_in, main_of, live_marks}
 abbrev pub stamp_of : Bool → Stamp
 stamp_of dead = record { begin = cond dead dead_number 0; end = None }
 
+-- the stamp of a row, by its mark in a directory
 abbrev pub stamp_of_mark : Bool → Stamp
 stamp_of_mark live = stamp_of (not live)
 
+-- a place of an image, as memory holds it
 abbrev pub staged_place : Placed → StagedRow
 staged_place p = record { id = p.id; values = p.values; stamp = stamp_of p.dead }
 
 -- the stages of a table of which nothing is being merged
 abbrev pub staged_of : List Column → TableStages → Staged
-staged_of columns s = record { columns = columns; l1 = map staged_place s.l1; l2 = map staged_place s.l2; closed = None; parts = map (map staged_place) s.parts; keep = []; merge = None }
+staged_of columns s = record {
+  columns = columns;
+  l1 = map staged_place s.l1;
+  l2 = map staged_place s.l2;
+  closed = None;
+  parts = map (map staged_place) s.parts;
+  keep = [];
+  merge = None;
+}
 
+-- the stages of all tables, in order
 abbrev pub staged_all : List Drawn → Stages → List Staged
 staged_all [] ss = []
 staged_all (t ∷ ts) [] = []

@@ -13,10 +13,10 @@ use crate::rows::Rows;
 use std::alloc::Global;
 use ut_plain::{Table, place_of};
 use ut_table::Table as Stages;
-use ut_value::{Column, Duplicate, Entry, Name, Op, Seq};
+use ut_value::{Column, Duplicate, Entry, Name, Op, Seq, TABLES_LIMIT};
 
 /// A store may have so many tables.
-const TABLES_LIMIT: usize = 256;
+const MAX_TABLES: usize = TABLES_LIMIT as usize;
 
 /// What an image and the entries so far come to.
 #[derive(Drop)]
@@ -76,7 +76,7 @@ impl Replay {
         ensures ok { OnOk result (Followed self.old (entries.Create name columns) self.new) }
         ensures damaged { IsErrOf result RestartError.Damaged → Strange self.old (entries.Create name columns) }
     {
-        if place_of(&self.tables, name.as_slice()).is_some() || self.tables.len() >= TABLES_LIMIT {
+        if place_of(&self.tables, name.as_slice()).is_some() || self.tables.len() >= MAX_TABLES {
             return Err(RestartError::Damaged);
         }
         let copy = columns.duplicate(alloc)?;

@@ -20,10 +20,10 @@ use ut_image::Drawn;
 use ut_main::Main;
 use ut_pages::Root;
 use ut_store::Store;
-use ut_value::{Entry, Seq};
+use ut_value::{Entry, JOURNAL_LIMIT, Seq};
 
-/// A journal may have so many entries.
-const ENTRIES_LIMIT: usize = 1 << 30;
+/// The most entries of a journal.
+const MOST_ENTRIES: usize = JOURNAL_LIMIT as usize;
 
 /// The store of an image and the entries behind it. The parts of main are taken as they are, the rows of the deltas stay in theirs, and each row of the log stands in the first stage behind them; a deleted one is nobody's.
 pub fn reopen(
@@ -56,7 +56,7 @@ fn is_too_long(root: &Root, entries: usize) -> bool
     ensures long { IsTrue result → 1073741824 < root.now.length + entries }
     ensures short { result ≡ false → root.now.length + entries ≤ 1073741824 }
 {
-    entries > ENTRIES_LIMIT || root.length as usize + entries > ENTRIES_LIMIT
+    entries > MOST_ENTRIES || root.length as usize + entries > MOST_ENTRIES
 }
 
 fn rebuilt(alloc: Global, replay: Replay, rows_limit: u32) -> Result<Store, AllocError>

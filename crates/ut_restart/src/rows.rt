@@ -14,10 +14,7 @@ use ut_plain::{Table, fits_columns};
 use ut_scan::Place;
 use ut_stamps::Stamp;
 use ut_table::Table as Stages;
-use ut_value::{Op, Row, Seq};
-
-/// The greatest id, and the greatest load.
-const ROWS_LIMIT: u32 = 1 << 31;
+use ut_value::{Op, ROWS_LIMIT, Row, Seq};
 
 /// The transaction that is committed before all else.
 pub(crate) const BEFORE_ALL: u64 = 0;
@@ -43,7 +40,7 @@ pub(crate) struct Rows {
     pub load: u32,
 }
 
-/// A row enters the first stage of a table, behind the others.
+// A row enters the first stage of a table, behind the others.
 fn enter(stages: &mut [Stages], table: u16, row: Row) -> Result<Place, AllocError>
     requires { CanEnter (shown stages.old) table row }
     ensures place { IfOk result (λ place. place ≡ L1 (length (staged_at (shown stages.old) table).l1)) }
@@ -60,7 +57,7 @@ fn enter(stages: &mut [Stages], table: u16, row: Row) -> Result<Place, AllocErro
     Ok(place)
 }
 
-/// The row in a place is nobody's from now on.
+// The row in a place is nobody's from now on.
 fn bury(stages: &mut [Stages], at: Position)
     requires { IsSome (place_at (shown stages.old) at.table at.place) }
     ensures { shown stages.new ≡ buried_in (shown stages.old) at }

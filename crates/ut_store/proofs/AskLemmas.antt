@@ -17,7 +17,7 @@ use Rattle.ut_plain.specs.Refusals.{is_save, state_why, merge_why, unless, or_el
 use Rattle.ut_plain.specs.Spelled.{is_spelled}
 use Rattle.ut_plain.specs.Step.{may_lack_memory}
 use Rattle.ut_names.specs.Resolved.{Hinders}
-use Rattle.ut_query.specs.Tells.{IsTold}
+use Rattle.ut_query.specs.Tells.{IsAnswer}
 use Rattle.ut_txn.specs.Seats.{opened_at}
 use Rattle.ut_store.specs.declared.turn.Turn.TheVariants.{Answered}
 use Rattle.ut_store.specs.Held.{Held}
@@ -47,12 +47,12 @@ quiet false (Some m) (statements.Delete name preds) h = refl
 quiet inside pending _ h = cc
 
 abbrev behind : Held → ℕ → Statement → Option Refusal
-behind e session st = or_else (option_map refusals.State (state_why (is_some (opened_at e.seats session)) st)) (option_map refusals.State (merge_why e.pending st))
+behind e session st = or_else (option_map refusals.State (state_why (is_some (opened_at e.seats session)) st)) (option_map refusals.State (merge_why e.counts.pending st))
 
-pub early_none : (e : Held) (session : ℕ) (st : Statement) → finds_rows st ≡ true → names_known e.tables st ≡ true → kinds_fit e.tables st ≡ true → early_refusal e session st ≡ None
+pub early_none : (e : Held) (session : ℕ) (st : Statement) → finds_rows st ≡ true → names_known e.rows.tables st ≡ true → kinds_fit e.rows.tables st ≡ true → early_refusal e session st ≡ None
 early_none e session st finds names kinds =
     (λ i. or_else (unless (names i) refusals.Name) (or_else (unless (kinds i) refusals.Kind) (behind e session st)))
-    ∙ quiet (is_some (opened_at e.seats session)) e.pending st finds
+    ∙ quiet (is_some (opened_at e.seats session)) e.counts.pending st finds
 
 no_save : (st : Statement) → finds_rows st ≡ true → is_save st ≡ false
 no_save (statements.Ask q) h = refl
@@ -67,10 +67,10 @@ lacks (statements.Delete name preds) h = refl
 lacks _ h = cc
 
 -- what keeps a statement back is its answer
-pub kept_back : (e : Held) (session : ℕ) (st : Statement) (why : Refusal) → session < 17 → finds_rows st ≡ true → Hinders (names_known e.tables st) (kinds_fit e.tables st) why → Answers e session st (Answered (replies.Refused why)) e
+pub kept_back : (e : Held) (session : ℕ) (st : Statement) (why : Refusal) → session < 17 → finds_rows st ≡ true → Hinders (names_known e.rows.tables st) (kinds_fit e.rows.tables st) why → Answers e session st (Answered (replies.Refused why)) e
 kept_back e session st refusals.Name small finds h =
     refused e e session st refusals.Name
-    (early e session st refusals.Name small (no_save st finds) (λ i. or_else (unless (h i) refusals.Name) (or_else (unless (kinds_fit e.tables st) refusals.Kind) (behind e session st)))) (itself_same e)
+    (early e session st refusals.Name small (no_save st finds) (λ i. or_else (unless (h i) refusals.Name) (or_else (unless (kinds_fit e.rows.tables st) refusals.Kind) (behind e session st)))) (itself_same e)
 kept_back e session st refusals.Kind small finds h =
     refused e e session st refusals.Kind
     (early e session st refusals.Kind small (no_save st finds) (λ i. or_else (unless (h.0 i) refusals.Name) (or_else (unless (h.1 i) refusals.Kind) (behind e session st)))) (itself_same e)
@@ -81,13 +81,13 @@ kept_back e session st refusals.Full small finds h = absurd h
 kept_back e session st (refusals.Conflict id) small finds h = absurd h
 
 -- what a question is answered
-pub told_now : (e : Held) (session : ℕ) (q : Query) (reply : Reply) → session < 17 → IsTrue (is_spelled (statements.Ask q)) → IsTold (sight_of e session) q reply → Answers e session (statements.Ask q) (Answered reply) e
+pub told_now : (e : Held) (session : ℕ) (q : Query) (reply : Reply) → session < 17 → IsTrue (is_spelled (statements.Ask q)) → IsAnswer (sight_of e session) q reply → Answers e session (statements.Ask q) (Answered reply) e
 told_now e session q reply small spelled t =
     tells e e session (statements.Ask q) reply spelled (allowed e session (statements.Ask q) small refl (early_none e session (statements.Ask q) refl t.known t.fits) (λ p s. refl) (λ p s. refl)) (itself_same e)
     (λ p s. ap (λ (r : Reply). record { reply = r; plain = p }) (sym (t.told (view p session).rows (sees e p session small s) ∙ ap (λ ts. query.told ts (view p session).rows q) s.counts.tables)))
 
 -- a change of rows that nothing keeps back
-pub may_change : (e : Held) (session : ℕ) (st : Statement) → session < 17 → IsTrue (suits_session session st) → IsTrue (is_spelled st) → Stands e → finds_rows st ≡ true → IsTrue (changes_rows st) → names_known e.tables st ≡ true → kinds_fit e.tables st ≡ true → MayChange e session st
+pub may_change : (e : Held) (session : ℕ) (st : Statement) → session < 17 → IsTrue (suits_session session st) → IsTrue (is_spelled st) → Stands e → finds_rows st ≡ true → IsTrue (changes_rows st) → names_known e.rows.tables st ≡ true → kinds_fit e.rows.tables st ≡ true → MayChange e session st
 may_change e session st small suits spelled stands finds kind names kinds = record {
   seat = small;
   inside = inside session st suits kind;

@@ -49,7 +49,7 @@ create_spelling e session name columns s early =
     let is_named : IsTrue (is_name name) = and_left (is_name name) (is_count 64 (length columns)) front in
     let counted : IsTrue (is_count 64 (length columns)) = and_right (is_name name) _ front in
     let each : IsTrue (list_all is_column columns) = and_right (is_name name && is_count 64 (length columns)) _ s in
-    let differ : IsTrue (names_differ columns) = and_right (is_none (place_of e.tables name)) _ (named e session (Create name columns) early) in
+    let differ : IsTrue (names_differ columns) = and_right (is_none (place_of e.rows.tables name)) _ (named e session (Create name columns) early) in
     let are : IsTrue (are_columns columns) = and_both (is_count 64 (length columns) && list_all is_column columns) _ (and_both (is_count 64 (length columns)) _ counted each) differ in
     let few : length columns ≤ 64 = few_columns name columns s in
     let short : length name ≤ 32 = name-short name is_named in
@@ -59,7 +59,7 @@ create_spelling e session name columns s early =
 
 -- ---- limits
 
-room-is : (e : Held) (session : ℕ) (name : List ℕ) (columns : List Column) (room : Bool) → nat_lt (length e.tables) 256 && nat_lt e.entries 1073741823 ≡ room → (p : Plain) → StandsFor e p → has_room (view p session) (Create name columns) ≡ room
+room-is : (e : Held) (session : ℕ) (name : List ℕ) (columns : List Column) (room : Bool) → nat_lt (length e.rows.tables) 256 && nat_lt e.counts.entries 1073741823 ≡ room → (p : Plain) → StandsFor e p → has_room (view p session) (Create name columns) ≡ room
 room-is e session name columns room is p s = (λ i. nat_lt (length (sym s.counts.tables i)) 256 && nat_lt (sym s.counts.entries i) 1073741823) ∙ is
 
 no_room : (tables entries : ℕ) → (256 ≤ tables) ⊎ (1073741823 ≤ entries) → nat_lt tables 256 && nat_lt entries 1073741823 ≡ false
@@ -70,30 +70,18 @@ no_room tables entries (inr long) = ap (λ b. nat_lt tables 256 && b) (le-ltb en
     and_false true = refl
     and_false false = refl
 
-pub create_full : (e : Held) (session : ℕ) (name : List ℕ) (columns : List Column) → session < 17 → early_refusal e session (Create name columns) ≡ None → (256 ≤ length e.tables) ⊎ (1073741823 ≤ e.entries)
+pub create_full : (e : Held) (session : ℕ) (name : List ℕ) (columns : List Column) → session < 17 → early_refusal e session (Create name columns) ≡ None → (256 ≤ length e.rows.tables) ⊎ (1073741823 ≤ e.counts.entries)
     → Answers e session (Create name columns) (Answered (replies.Refused refusals.Full)) e
 create_full e session name columns small early h =
-    refused e e session (Create name columns) refusals.Full (full e session (Create name columns) small refl early (room-is e session name columns false (no_room (length e.tables) e.entries h))) (itself_same e)
+    refused e e session (Create name columns) refusals.Full (full e session (Create name columns) small refl early (room-is e session name columns false (no_room (length e.rows.tables) e.counts.entries h))) (itself_same e)
 
 -- ---- the table is there
 
 pub created_now : (e new : Held) (session : ℕ) (name : List ℕ) (columns : List Column) → session < 17 → IsTrue (is_spelled (Create name columns)) → early_refusal e session (Create name columns) ≡ None
-    → length e.tables < 256 → e.entries < 1073741823 → Created e name columns new → Answers e session (Create name columns) (Append (replies.Committed new.commits)) new
+    → length e.rows.tables < 256 → e.counts.entries < 1073741823 → Created e name columns new → Answers e session (Create name columns) (Append (replies.Committed new.counts.commits)) new
 created_now e new session name columns small spelled early few short h =
-    let room : nat_lt (length e.tables) 256 && nat_lt e.entries 1073741823 ≡ true = and_both (nat_lt (length e.tables) 256) _ (lt-ltb (length e.tables) 256 few) (lt-ltb e.entries 1073741823 short) in
-    let after : Held = record e { tables = e.tables ++ record { name = name; columns = columns } ∷ []; staged = e.staged ++ no_rows columns ∷ []; commits = e.commits + 1; entries = e.entries + 1; frame = new.frame } in
-    let is : after ≡ new = λ i. record {
-      tables = sym h.tables i;
-      staged = sym h.staged i;
-      fates = sym h.fates i;
-      seats = sym h.seats i;
-      next_id = sym h.next_id i;
-      rows_limit = sym h.rows_limit i;
-      commits = sym h.commits i;
-      merges = sym h.merges i;
-      entries = sym h.entries i;
-      pending = sym h.pending i;
-      frame = new.frame;
-    } in
-    subst (λ (x : Held). Answers e session (Create name columns) (Append (replies.Committed x.commits)) x) is
+    let room : nat_lt (length e.rows.tables) 256 && nat_lt e.counts.entries 1073741823 ≡ true = and_both (nat_lt (length e.rows.tables) 256) _ (lt-ltb (length e.rows.tables) 256 few) (lt-ltb e.counts.entries 1073741823 short) in
+    let after : Held = record e { rows = record e.rows { tables = e.rows.tables ++ record { name = name; columns = columns } ∷ []; staged = e.rows.staged ++ no_rows columns ∷ [] }; counts = record e.counts { commits = e.counts.commits + 1; entries = e.counts.entries + 1 }; frame = new.frame } in
+    let is : after ≡ new = λ i. record { rows = sym h.rows i; seats = sym h.seats i; counts = sym h.counts i; frame = new.frame } in
+    subst (λ (x : Held). Answers e session (Create name columns) (Append (replies.Committed x.counts.commits)) x) is
     (made_table e e.seats new.frame session name columns spelled (allowed e session (Create name columns) small refl early (room-is e session name columns true room) (λ p s. refl)) h.frame (itself_same e).seats)

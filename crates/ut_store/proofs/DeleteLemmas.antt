@@ -14,28 +14,25 @@ use Rattle.ut_plain.specs.View.{view}
 use Rattle.ut_plain.proofs.TableLemmas.{there_known}
 use Rattle.ut_stamps.specs.declared.place.Place.{Place}
 use Rattle.ut_names.specs.declared.resolved.Selection.{Selection}
-use Rattle.ut_names.specs.Compiled.{Compiles}
 use Rattle.ut_staged.specs.Staged.{Staged}
 use Rattle.ut_change.proofs.MadeLemmas.{deletes_of, deletes-fit, deletes-rule, ends-deletes, deletes-none, deletes-some}
 use Rattle.ut_store.specs.Held.{Held}
 use Rattle.ut_store.specs.Stands.{StandsFor}
 use Rattle.ut_store.specs.Hits.{plain_rows}
 use Rattle.ut_staged.specs.Staging.{Staging, written, AreFound}
-use Rattle.ut_store.specs.Changes.{CanLook, Looked, MayChange, AreReady, IsDelete, IsWork}
+use Rattle.ut_store.specs.Changes.{Looked, MayChange, AreReady, IsDelete, IsWork}
+use Rattle.ut_store.proofs.IndexLemmas.{some_inside}
 use Rattle.ut_store.proofs.HitLemmas.{found-is, first_taken-is}
 use Rattle.ut_store.proofs.MadeLemmas.{deletes-are, length-rows, deletes_fit, deletes_fit_alone}
 use Rattle.ut_staged.proofs.StagingLemmas.{staging-deletes, written-deletes}
 use Rattle.ut_store.proofs.KindLemmas.{early_tests, TableAt, table_at, next_small}
-use Rattle.ut_store.proofs.SearchLemmas.{can_look, looked_for, place_view, hits_view, finds_free, FoundAt, found_places}
-
-some_inside : (a b : Staged) → Some a ≡ Some b → a ≡ b
-some_inside a b h = cc
+use Rattle.ut_store.proofs.SearchLemmas.{place_view, hits_view, finds_free, FoundAt, found_places}
 
 -- ---- the statement
 
-module _ (e : Held) (session n : ℕ) (name : List ℕ) (preds : List Pred) (m : MayChange e session (statements.Delete name preds)) (is : n ≡ place_in e.tables name) where
-  delete_table : TableAt e n (columns_in e.tables name)
-  delete_table = table_at e m.stands.plain name n m.stands.stands (there_known e.tables (preds_known preds) name (early_tests e session (statements.Delete name preds) m.early).0) is
+module _ (e : Held) (session n : ℕ) (name : List ℕ) (preds : List Pred) (m : MayChange e session (statements.Delete name preds)) (is : n ≡ place_in e.rows.tables name) where
+  delete_table : TableAt e n (columns_in e.rows.tables name)
+  delete_table = table_at e m.stands.plain name n m.stands.stands (there_known e.rows.tables (preds_known preds) name (early_tests e session (statements.Delete name preds) m.early).0) is
 
   module _ (hits : List (ℕ × Place)) (l : Looked e session n preds hits) where
     the_found : FoundAt e n hits
@@ -48,7 +45,7 @@ module _ (e : Held) (session n : ℕ) (name : List ℕ) (preds : List Pred) (m :
       there = f.there;
       enough = let ends = ends-deletes n hits in omega (arith, ends);
       fits = deletes-fit f.table.columns n hits;
-      rule = deletes-rule n e.next_id hits delete_table.small (next_small e m.stands.plain m.stands.stands) f.given;
+      rule = deletes-rule n e.counts.next_id hits delete_table.small (next_small e m.stands.plain m.stands.stands) f.given;
     }
 
     rows_are : (p : Plain) → StandsFor e p → found (view p session).tables (view p session).rows name preds ≡ plain_rows e n hits
@@ -65,30 +62,24 @@ module _ (e : Held) (session n : ℕ) (name : List ℕ) (preds : List Pred) (m :
       clash = λ p s. ap (first_taken (view p session).taken) (rows_are p s) ∙ first_taken-is e p session n _ hits m.seat s (hits_view e session n name preds hits m.seat is delete_table l p s);
       fits_inside = λ o p s free h. deletes_fit e p session n name preds hits o m.seat h s (finds_free e session n name preds hits m.seat is delete_table l free);
       fits_alone = λ p s free h. deletes_fit_alone e p session n name preds hits m.seat h s (finds_free e session n name preds hits m.seat is delete_table l free);
-      staging = λ t s at alive. subst (λ (x : Staged). Staging e.staged (slice_set e.staged n x) t false e.next_id (deletes_of n hits)) (sym (written-deletes n t hits s))
-          (staging-deletes e.staged n t e.next_id hits s at l.hits_are.scan.sorted (found_places_at t s at));
+      staging = λ t s at alive. subst (λ (x : Staged). Staging e.rows.staged (slice_set e.rows.staged n x) t false e.counts.next_id (deletes_of n hits)) (sym (written-deletes n t hits s))
+          (staging-deletes e.rows.staged n t e.counts.next_id hits s at l.hits_are.scan.sorted (found_places_at t s at));
     }
       where
-        found_places_at : (t : ℕ) (s : Staged) → slice_get e.staged n ≡ Some s → AreFound s hits
+        found_places_at : (t : ℕ) (s : Staged) → slice_get e.rows.staged n ≡ Some s → AreFound s hits
         found_places_at t s at = subst (λ (x : Staged). AreFound x hits) (some_inside the_found.table s (sym the_found.at ∙ at)) the_found.found
 
 -- ---- the same of a statement that is a delete
 
-module _ (e : Held) (session : ℕ) (st : Statement) (rows : Selection) (m : MayChange e session st) (d : IsDelete e.tables st rows) where
+module _ (e : Held) (session : ℕ) (st : Statement) (rows : Selection) (m : MayChange e session st) (d : IsDelete e.rows.tables st rows) where
   that : MayChange e session (statements.Delete d.name d.preds)
   that = subst (λ x. MayChange e session x) d.is m
 
-  is : rows.table ≡ place_in e.tables d.name
+  is : rows.table ≡ place_in e.rows.tables d.name
   is = sym (ap (λ (o : Option ℕ). unwrap_or o 0) d.rows_are.table)
 
   pub delete_small : rows.table < 65536
   delete_small = (delete_table e session rows.table d.name d.preds that is).small
-
-  pub delete_look : CanLook e session rows.table rows.preds.items
-  delete_look = can_look e m.stands.plain session rows.table d.name d.preds rows.preds.items m.seat m.stands.stands (delete_table e session rows.table d.name d.preds that is) d.rows_are.preds
-
-  pub delete_looked : (hits : List (ℕ × Place)) → ((table : Staged) (wanted : List Pred) → slice_get e.staged rows.table ≡ Some table → Compiles table.columns wanted rows.preds.items → Looked e session rows.table wanted hits) → Looked e session rows.table d.preds hits
-  delete_looked hits f = looked_for e m.stands.plain session rows.table d.name d.preds rows.preds.items m.seat m.stands.stands (delete_table e session rows.table d.name d.preds that is) d.rows_are.preds hits f
 
   module _ (hits : List (ℕ × Place)) (l : Looked e session rows.table d.preds hits) where
     pub delete_few : length hits ≤ 2147483649

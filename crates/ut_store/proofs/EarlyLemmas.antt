@@ -52,9 +52,9 @@ refusal-is e p session st small served s =
     (λ i. or_else (unless (names_known (r.tables i) st) refusals.Name) (or_else (unless (kinds_fit (r.tables i) st) refusals.Kind)
     (or_else (option_map refusals.State (state_why (r.is_open i) st)) (or_else (option_map refusals.State (merge_why (r.pending i) st))
     (or_else (option_map refusals.State (no_save (view p session).phase st served i)) late)))))
-    ∙ sym (or_else-again (unless (names_known e.tables st) refusals.Name) _ late
-    ∙ ap (or_else (unless (names_known e.tables st) refusals.Name)) (or_else-again (unless (kinds_fit e.tables st) refusals.Kind) _ late
-    ∙ ap (or_else (unless (kinds_fit e.tables st) refusals.Kind)) (or_else-again (option_map refusals.State (state_why (is_some (opened_at e.seats session)) st)) _ late)))
+    ∙ sym (or_else-again (unless (names_known e.rows.tables st) refusals.Name) _ late
+    ∙ ap (or_else (unless (names_known e.rows.tables st) refusals.Name)) (or_else-again (unless (kinds_fit e.rows.tables st) refusals.Kind) _ late
+    ∙ ap (or_else (unless (kinds_fit e.rows.tables st) refusals.Kind)) (or_else-again (option_map refusals.State (state_why (is_some (opened_at e.seats session)) st)) _ late)))
 
 pub early : (e : Held) (session : ℕ) (st : Statement) (why : Refusal) → session < 17 → is_save st ≡ false → early_refusal e session st ≡ Some why → IsRefused e session st (Some why)
 early e session st why small served h = record { is = λ p s. refusal-is e p session st small served s ∙ ap (λ a. or_else a (or_else (unless (has_room (view p session) st) refusals.Full) (option_map refusals.Conflict (conflict (view p session) st)))) h }
@@ -79,20 +79,20 @@ behind None b h = h
 behind (Some why) b h = cc
 
 -- where a merge may begin none is pending
-pub not_busy : (e : Held) (session : ℕ) (name : List ℕ) (kind : MergeKind) → early_refusal e session (statements.MergeBegin name kind) ≡ None → e.pending ≡ None
+pub not_busy : (e : Held) (session : ℕ) (name : List ℕ) (kind : MergeKind) → early_refusal e session (statements.MergeBegin name kind) ≡ None → e.counts.pending ≡ None
 not_busy e session name kind h =
-    by e.pending (behind (option_map refusals.State (state_why (is_some (opened_at e.seats session)) (statements.MergeBegin name kind))) _
-    (behind (unless (kinds_fit e.tables (statements.MergeBegin name kind)) refusals.Kind) _ (behind (unless (names_known e.tables (statements.MergeBegin name kind)) refusals.Name) _ h)))
+    by e.counts.pending (behind (option_map refusals.State (state_why (is_some (opened_at e.seats session)) (statements.MergeBegin name kind))) _
+    (behind (unless (kinds_fit e.rows.tables (statements.MergeBegin name kind)) refusals.Kind) _ (behind (unless (names_known e.rows.tables (statements.MergeBegin name kind)) refusals.Name) _ h)))
   where
     by : (o : Option PendingMerge) → option_map refusals.State (merge_why o (statements.MergeBegin name kind)) ≡ None → o ≡ None
     by None h = refl
     by (Some m) h = cc
 
 -- where one is pending it may end
-pub may_end : (e : Held) (session : ℕ) (m : PendingMerge) → e.pending ≡ Some m → early_refusal e session statements.MergeEnd ≡ None
+pub may_end : (e : Held) (session : ℕ) (m : PendingMerge) → e.counts.pending ≡ Some m → early_refusal e session statements.MergeEnd ≡ None
 may_end e session m is = by (is_some (opened_at e.seats session)) ∙ (λ i. option_map refusals.State (merge_why (is i) statements.MergeEnd))
   where
-    by : (inside : Bool) → or_else (option_map refusals.State (state_why inside statements.MergeEnd)) (option_map refusals.State (merge_why e.pending statements.MergeEnd)) ≡ option_map refusals.State (merge_why e.pending statements.MergeEnd)
+    by : (inside : Bool) → or_else (option_map refusals.State (state_why inside statements.MergeEnd)) (option_map refusals.State (merge_why e.counts.pending statements.MergeEnd)) ≡ option_map refusals.State (merge_why e.counts.pending statements.MergeEnd)
     by true = refl
     by false = refl
 

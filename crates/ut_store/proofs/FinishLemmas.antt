@@ -16,7 +16,7 @@ use Rattle.ut_plain.specs.Plain.{Plain, open_at}
 use Rattle.ut_plain.specs.View.{view, own_ops}
 use Rattle.ut_plain.specs.Limits.{has_room, has_ops_room}
 use Rattle.ut_plain.specs.Refusals.{unless, or_else, conflict}
-use Rattle.ut_plain.specs.Step.{may_lack_memory}
+use Rattle.ut_plain.specs.Step.{LacksMemory, may_lack_memory}
 use Rattle.ut_plain.proofs.BoolLemmas.{and_right}
 use Rattle.ut_plain.proofs.JournalLaws.{length-current}
 use Rattle.ut_plain.proofs.StateLaws.{IsState-current}
@@ -33,14 +33,16 @@ use Rattle.ut_txn.specs.Seats.{opened_at, payload_at}
 use Rattle.ut_plain.specs.declared.reply.Refusal.{Refusal}
 use Rattle.ut_store.specs.declared.turn.Turn.{Turn}
 use Rattle.ut_store.specs.declared.turn.Turn.TheVariants.{Answered, Append}
-use Rattle.ut_store.specs.Held.{Held}
+use Rattle.ut_store.specs.declared.counts.Counts.{Counts}
+use Rattle.ut_store.specs.Held.{Held, Rows}
 use Rattle.ut_store.specs.Stands.{StandsFor}
 use Rattle.ut_store.specs.Hits.{first_taken_of}
 use Rattle.ut_store.specs.Answers.{Answers, Same}
 use Rattle.ut_store.specs.Allowed.{IsRefused}
 use Rattle.ut_store.specs.Standing.{changes_rows}
-use Rattle.ut_store.specs.Changes.{has_room_for, late_refusal, HasPlaces, CanDo, CanAppend, DoneInside, DoneAlone, MayChange, AreReady, IsWork}
+use Rattle.ut_store.specs.Changes.{has_room_for, late_refusal, HasPlaces, CanDo, CanAppend, DoneInside, DoneAlone, Stays, MayChange, AreReady, IsWork}
 use Rattle.ut_store.proofs.ReadLemmas.{reads, SameSession, Closed, Open, same_session}
+use Rattle.ut_store.proofs.SeatLemmas.{stands-same}
 use Rattle.ut_store.proofs.EarlyLemmas.{refusal-is, no_save_changes}
 use Rattle.ut_store.proofs.StandsLemmas.{no_memory, refused, itself_same, IsOpenOn, By, open_on, number_is, not_dead}
 use Rattle.ut_store.proofs.ChangeLemmas.{Makes, changed_inside, changed_alone, changed_nothing}
@@ -92,6 +94,12 @@ module _ (e : Held) (session : ℕ) (st : Statement) (n : ℕ) (hits : List (ℕ
     room : (p : Plain) → StandsFor e p → HasRoom p session os
     room p s = room_is p session os s.plain (own_is p session s.plain) (room-is e p session os m.seat s ∙ roomy)
 
+-- ---- what is done
+
+-- a store is what its parts are
+held_is : (new : Held) {rows : Rows} {counts : Counts} → new.rows ≡ rows → new.counts ≡ counts → record { rows = rows; seats = new.seats; counts = counts; frame = new.frame } ≡ new
+held_is new rows counts = λ i. record { rows = sym rows i; seats = new.seats; counts = sym counts i; frame = new.frame }
+
 -- ---- what may be done
 
 pub has_places : (e : Held) (n : ℕ) (hits : List (ℕ × Place)) (os : List Op) → AreReady e n hits os → HasPlaces e n hits
@@ -104,15 +112,15 @@ module _ (e : Held) (session : ℕ) (st : Statement) (n : ℕ) (hits : List (ℕ
   pub size_fits : length (payload_at e.seats session) + ops_len os ≤ 1073741824
   size_fits = let b = the_room.bytes in let is = bytes-are e m.stands.plain session os m.seat m.stands.stands in omega (arith, b, is)
 
-  pub ids_fit : e.next_id + inserts_of os ≤ 2147483649
+  pub ids_fit : e.counts.next_id + inserts_of os ≤ 2147483649
   ids_fit = let ids = the_room.ids in let next = m.stands.stands.counts.next_id in omega (arith, ids, next)
 
   pub can_do : AreReady e n hits os → CanDo e n hits os
   can_do r =
       let s = m.stands.stands in
-      let count = count-within e.staged n r.table r.at in
+      let count = count-within e.rows.staged n r.table r.at in
       let places = s.plain.places in
-      let stages : all_places m.stands.plain.stages ≡ all_places (map stages_of e.staged) = ap all_places s.rows.stages in
+      let stages : all_places m.stands.plain.stages ≡ all_places (map stages_of e.rows.staged) = ap all_places s.rows.stages in
       let ids = the_room.ids in
       let own = own_len e m.stands.plain session m.seat s in
       let size = size_fits in
@@ -128,11 +136,11 @@ module _ (e : Held) (session : ℕ) (st : Statement) (n : ℕ) (hits : List (ℕ
   pub can_append : opened_at e.seats session ≡ None → 0 < length os → CanAppend e
   can_append closed some = record { entries = by os some (roomy e session st n hits os rows after m w late); commits = few }
     where
-      by : (os : List Op) → 0 < length os → has_room_for e session os ≡ true → e.entries < 1073741823
+      by : (os : List Op) → 0 < length os → has_room_for e session os ≡ true → e.counts.entries < 1073741823
       by [] k h = absurd (omega arith)
-      by (op ∷ rest) k h = ltb-true e.entries 1073741823 (ap (λ o. is_some o || nat_lt e.entries 1073741823) (sym closed) ∙ and_right _ _ h)
+      by (op ∷ rest) k h = ltb-true e.counts.entries 1073741823 (ap (λ o. is_some o || nat_lt e.counts.entries 1073741823) (sym closed) ∙ and_right _ _ h)
 
-      few : e.commits ≤ e.entries
+      few : e.counts.commits ≤ e.counts.entries
       few =
           let s = m.stands.stands in
           let j = m.stands.plain.journal in
@@ -148,30 +156,17 @@ module _ (e : Held) (session : ℕ) (st : Statement) (n : ℕ) (hits : List (ℕ
   pub answers_inside : (new : Held) (o : Opened) → AreReady e n hits os → opened_at e.seats session ≡ Some o → DoneInside e new session o n os after → Answers e session st (Answered (replies.Changed rows None)) new
   answers_inside new o r is d =
       let s = m.stands.stands in
-      let staged = slice_set e.staged n (after o.number r.table) in
-      let same : record e { staged = staged; seats = new.seats; next_id = e.next_id + inserts_of os; frame = new.frame } ≡ new =
-      λ i. record {
-        tables = sym d.tables i;
-        staged = sym (d.staged r.table r.at) i;
-        fates = sym d.fates i;
-        seats = new.seats;
-        next_id = sym d.next_id i;
-        rows_limit = sym d.rows_limit i;
-        commits = sym d.commits i;
-        merges = sym d.merges i;
-        entries = sym d.entries i;
-        pending = sym d.pending i;
-        frame = new.frame;
-      } in
-      subst (λ (x : Held). Answers e session st (Answered (replies.Changed rows None)) x) same
+      let staged = slice_set e.rows.staged n (after o.number r.table) in
+      subst (λ (x : Held). Answers e session st (Answered (replies.Changed rows None)) x)
+      (held_is new (d.rows r.table r.at) d.counts)
       (changed_inside e staged new.seats new.frame session st o os rows m.inside m.seat m.spelled (refused_not e session st n hits os rows after m w late) is makes
       (λ p s. w.fits_inside o p s (free e session st n hits os rows after m w late) is) (w.staging o.number r.table r.at (alive (open_on e m.stands.plain session o is s.seats))) d.bytes d.seats)
     where
       alive : IsOpenOn e m.stands.plain session o → o.number ≢ dead_number
       alive (By t own look) same =
           let s = m.stands.stands in
-          let runs : fate_at e.fates o.number ≡ Running = ap (fate_at e.fates) (sym (number_is e.seats session o is)) ∙ (s.rows.transactions.own session t own).running in
-          not_dead e.fates o.number runs s.rows.dead (sym same)
+          let runs : fate_at e.rows.fates o.number ≡ Running = ap (fate_at e.rows.fates) (sym (number_is e.seats session o is)) ∙ (s.rows.transactions.own session t own).running in
+          not_dead e.rows.fates o.number runs s.rows.dead (sym same)
 
 closed_on : (e : Held) (p : Plain) (session : ℕ) → opened_at e.seats session ≡ None → StandsFor e p → open_at p.sessions session ≡ None
 closed_on e p session closed s = by (same_session e p session s.seats)
@@ -185,35 +180,23 @@ closed_on e p session closed s = by (same_session e p session s.seats)
 
 -- alone
 pub answers_alone : (e new : Held) (session : ℕ) (st : Statement) (n : ℕ) (hits : List (ℕ × Place)) (os : List Op) (rows commit : ℕ) (after : ℕ → Staged → Staged) → MayChange e session st → AreReady e n hits os → IsWork e session st n hits os rows after
-    → late_refusal e session n hits os ≡ None → opened_at e.seats session ≡ None → 0 < length os → DoneAlone e new n os after → commit ≡ new.commits → Answers e session st (Append (replies.Changed rows (Some commit))) new
+    → late_refusal e session n hits os ≡ None → opened_at e.seats session ≡ None → 0 < length os → DoneAlone e new n os after → commit ≡ new.counts.commits → Answers e session st (Append (replies.Changed rows (Some commit))) new
 answers_alone e new session st n hits [] rows commit after m r w late closed some d is = absurd (omega arith)
 answers_alone e new session st n hits (op ∷ rest) zero commit after m r w late closed some d is = let none = w.some op rest refl in absurd (omega arith)
 answers_alone e new session st n hits (op ∷ rest) (suc rows) commit after m r w late closed some d is =
     let started = m.stands.stands.rows.started in
-    let alive : length e.fates ≢ dead_number = λ same. absurd (omega (arith, started, same)) in
-    subst (λ (c : ℕ). Answers e session st (Append (replies.Changed (suc rows) (Some c))) new) (sym d.commits ∙ sym is)
+    let alive : length e.rows.fates ≢ dead_number = λ same. absurd (omega (arith, started, same)) in
+    subst (λ (c : ℕ). Answers e session st (Append (replies.Changed (suc rows) (Some c))) new) (ap (λ (k : Counts). k.commits) (sym d.counts) ∙ sym is)
     (done alive)
   where
-    done : length e.fates ≢ dead_number → Answers e session st (Append (replies.Changed (suc rows) (Some (e.commits + 1)))) new
+    done : length e.rows.fates ≢ dead_number → Answers e session st (Append (replies.Changed (suc rows) (Some (e.counts.commits + 1)))) new
     done alive =
-        let staged = slice_set e.staged n (after (length e.fates) r.table) in
-        subst (λ (x : Held). Answers e session st (Append (replies.Changed (suc rows) (Some (e.commits + 1)))) x)
-        (λ i. record {
-          tables = sym d.tables i;
-          staged = sym (d.staged r.table r.at) i;
-          fates = sym d.fates i;
-          seats = new.seats;
-          next_id = sym d.next_id i;
-          rows_limit = sym d.rows_limit i;
-          commits = sym d.commits i;
-          merges = sym d.merges i;
-          entries = sym d.entries i;
-          pending = sym d.pending i;
-          frame = new.frame;
-        })
+        let staged = slice_set e.rows.staged n (after (length e.rows.fates) r.table) in
+        subst (λ (x : Held). Answers e session st (Append (replies.Changed (suc rows) (Some (e.counts.commits + 1)))) x)
+        (held_is new (d.rows r.table r.at) d.counts)
         (changed_alone e staged new.seats new.frame session st op rest rows m.seat m.spelled (refused_not e session st n hits (op ∷ rest) (suc rows) after m w late) (λ p s. closed_on e p session closed s)
         (record { changes_rows = w.changes_rows; operations = w.operations; count = w.count })
-        (λ p s. w.fits_alone p s (free e session st n hits (op ∷ rest) (suc rows) after m w late) closed) (w.staging (length e.fates) r.table r.at alive) d.frame d.seats)
+        (λ p s. w.fits_alone p s (free e session st n hits (op ∷ rest) (suc rows) after m w late) closed) (w.staging (length e.rows.fates) r.table r.at alive) d.frame d.seats)
 
 -- nothing
 pub answers_nothing : (e : Held) (session : ℕ) (st : Statement) (n : ℕ) (hits : List (ℕ × Place)) (os : List Op) (rows : ℕ) (after : ℕ → Staged → Staged) → MayChange e session st → IsWork e session st n hits os rows after
@@ -233,6 +216,14 @@ may_lack _ h = cc
 
 pub answers_memory : (e new : Held) (session : ℕ) (st : Statement) (turn : Turn) → IsTrue (changes_rows st) → turn ≡ Answered (replies.Refused refusals.Memory) → Same e new → Answers e session st turn new
 answers_memory e new session st turn kind is same = subst (λ t. Answers e session st t new) (sym is) (no_memory e new session st (may_lack st kind) same)
+
+-- the same of a store that stands for what it stood for
+pub answers_stays : (e new : Held) (session : ℕ) (st : Statement) (turn : Turn) → IsTrue (changes_rows st) → turn ≡ Answered (replies.Refused refusals.Memory) → Stays e new → Answers e session st turn new
+answers_stays e new session st turn kind is stays = subst (λ t. Answers e session st t new) (sym is)
+    (record { each = λ p s. record { after = p; may = LacksMemory (may_lack st kind) refl refl; stands = stays.each p s; logs = refl } })
+
+pub same_stays : (e new : Held) → Same e new → Stays e new
+same_stays e new same = record { each = λ p s. stands-same e new p same s }
 
 pub answers_refused : (e : Held) (session : ℕ) (st : Statement) (n : ℕ) (hits : List (ℕ × Place)) (os : List Op) (rows : ℕ) (after : ℕ → Staged → Staged) (why : Refusal) → MayChange e session st → IsWork e session st n hits os rows after
     → late_refusal e session n hits os ≡ Some why → Answers e session st (Answered (replies.Refused why)) e

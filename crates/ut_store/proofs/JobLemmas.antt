@@ -62,7 +62,7 @@ is_job e n kind m =
     let head = next_merge e n kind in
     let few = m.few in
     record {
-      flags = flags-sizes e.fates (snapshots_of e.seats) kind s ∙ sym (sizes (s.parts ++ s.l2 ∷ [])) ∙ ap (map length) (map-append (map key_row) s.parts (s.l2 ∷ []));
+      flags = flags-sizes e.rows.fates (snapshots_of e.seats) kind s ∙ sym (sizes (s.parts ++ s.l2 ∷ [])) ∙ ap (map length) (map-append (map key_row) s.parts (s.l2 ∷ []));
       few = omega (arith, few, sum_sizes s.parts, length-map s.l2 key_row);
       room = subst (λ k. IsTrue (has_part_room kind k)) (sym (length-map s.parts (map key_row))) m.room;
       differ = λ resort. subst jobs.HaveOwnIds (sym (kept_are head keep s)) (own_keys (taken_over kind keep s) m.own_ids);
@@ -71,10 +71,10 @@ is_job e n kind m =
 -- ---- what was read of a store whose merge begins
 
 -- the flags that were made of what was read
-flags_read : (e : Held) (kind : MergeKind) (s table : Staged) (keep : List (List Bool)) (snapshots : List ℕ) → s ≡ table → snapshots ≡ snapshots_of e.seats → keep ≡ stamp_flags e.fates snapshots kind s → keep ≡ flags_now e kind table
-flags_read e kind s table keep snapshots here looks is = is ∙ (λ i. stamp_flags e.fates (looks i) kind (here i))
+flags_read : (e : Held) (kind : MergeKind) (s table : Staged) (keep : List (List Bool)) (snapshots : List ℕ) → s ≡ table → snapshots ≡ snapshots_of e.seats → keep ≡ stamp_flags e.rows.fates snapshots kind s → keep ≡ flags_now e kind table
+flags_read e kind s table keep snapshots here looks is = is ∙ (λ i. stamp_flags e.rows.fates (looks i) kind (here i))
 
-pub is_job_read : (e now : Held) (n : ℕ) (kind : MergeKind) (s : Staged) (keep : List (List Bool)) (snapshots : List ℕ) → e ≡ now → (m : MayMerge now n kind) → s ≡ m.table → snapshots ≡ snapshots_of e.seats → keep ≡ stamp_flags e.fates snapshots kind s
+pub is_job_read : (e now : Held) (n : ℕ) (kind : MergeKind) (s : Staged) (keep : List (List Bool)) (snapshots : List ℕ) → e ≡ now → (m : MayMerge now n kind) → s ≡ m.table → snapshots ≡ snapshots_of e.seats → keep ≡ stamp_flags e.rows.fates snapshots kind s
     → IsJob (job_of (closed_l2 (next_merge e n kind) keep s) (next_merge e n kind))
 is_job_read e now n kind s keep snapshots same m here looks is =
     let flags : keep ≡ flags_now now kind m.table = flags_read e kind s m.table keep snapshots here looks is ∙ ap (λ (x : Held). flags_now x kind m.table) same in
@@ -82,15 +82,15 @@ is_job_read e now n kind s keep snapshots same m here looks is =
     (subst (λ (k : List (List Bool)). IsJob (job_of (closed_l2 (next_merge now n kind) k s) (next_merge now n kind))) (sym flags)
     (subst (λ (t : Staged). IsJob (job_of (closed_l2 (next_merge now n kind) (flags_now now kind m.table) t) (next_merge now n kind))) (sym here) (is_job now n kind m)))
 
-pub begun_read : (e now : Held) (items : List TableValue) (n : ℕ) (kind : MergeKind) (table s t : Staged) (new : TableValue) (keep : List (List Bool)) (snapshots : List ℕ) (head : PendingMerge) (frame : List ℕ) → e ≡ now → e.staged ≡ stages_in items
-    → slice_get (stages_in items) n ≡ Some table → t ≡ table → slice_get e.staged n ≡ Some s → snapshots ≡ snapshots_of e.seats → keep ≡ stamp_flags e.fates snapshots kind t
-    → new.stages ≡ closed_l2 (next_merge e n kind) keep t → head ≡ next_merge e n kind → frame ≡ spelling (entries.Begun (e.merges + 1) n kind)
-    → record e { staged = stages_in (slice_set items n new); merges = e.merges + 1; entries = e.entries + 1; pending = Some head; frame = frame } ≡ merge_begun now n kind s
+pub begun_read : (e now : Held) (items : List TableValue) (n : ℕ) (kind : MergeKind) (table s t : Staged) (new : TableValue) (keep : List (List Bool)) (snapshots : List ℕ) (head : PendingMerge) (frame : List ℕ) → e ≡ now → e.rows.staged ≡ stages_in items
+    → slice_get (stages_in items) n ≡ Some table → t ≡ table → slice_get e.rows.staged n ≡ Some s → snapshots ≡ snapshots_of e.seats → keep ≡ stamp_flags e.rows.fates snapshots kind t
+    → new.stages ≡ closed_l2 (next_merge e n kind) keep t → head ≡ next_merge e n kind → frame ≡ spelling (entries.Begun (e.counts.merges + 1) n kind)
+    → record e { rows = record e.rows { staged = stages_in (slice_set items n new) }; counts = record e.counts { merges = e.counts.merges + 1; entries = e.counts.entries + 1; pending = Some head }; frame = frame } ≡ merge_begun now n kind s
 begun_read e now items n kind table s t new keep snapshots head frame same are at here is looks keep_is new_is head_is spells =
     let f : Staged → Staged = λ (x : Staged). closed_l2 (next_merge e n kind) (flags_now e kind x) x in
     let after : new.stages ≡ f table = new_is ∙ (λ i. closed_l2 (next_merge e n kind) (flags_read e kind t table keep snapshots here looks keep_is i) (here i)) in
-    let put : stages_in (slice_set items n new) ≡ slice_set e.staged n (f s) = stages_put items n new table s f at (ap (λ (x : List Staged). slice_get x n) (sym are) ∙ is) after ∙ ap (λ (x : List Staged). slice_set x n (f s)) (sym are) in
-    (λ i. record e { staged = put i; merges = e.merges + 1; entries = e.entries + 1; pending = Some (head_is i); frame = spells i }) ∙ ap (λ (x : Held). merge_begun x n kind s) same
+    let put : stages_in (slice_set items n new) ≡ slice_set e.rows.staged n (f s) = stages_put items n new table s f at (ap (λ (x : List Staged). slice_get x n) (sym are) ∙ is) after ∙ ap (λ (x : List Staged). slice_set x n (f s)) (sym are) in
+    (λ i. record e { rows = record e.rows { staged = put i }; counts = record e.counts { merges = e.counts.merges + 1; entries = e.counts.entries + 1; pending = Some (head_is i) }; frame = spells i }) ∙ ap (λ (x : Held). merge_begun x n kind s) same
 
 pub job_read : (items : List TableValue) (n : ℕ) (table : Staged) (new : TableValue) (head : PendingMerge) (job : JobValue) → slice_get (stages_in items) n ≡ Some table → head.table ≡ n → pending_job new.stages ≡ Some job
     → option_and_then pending_job (slice_get (stages_in (slice_set items n new)) head.table) ≡ Some job

@@ -30,5 +30,6 @@ pub mod SearchLemmas
 pub mod DeleteLemmas
 pub mod SuitLemmas
 pub mod UpdateLemmas
+pub mod LoadLemmas
 pub mod SpentLemmas
 pub mod BulkLemmas

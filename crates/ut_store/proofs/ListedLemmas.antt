@@ -49,7 +49,7 @@ row_more s found i d rows new values there is small so_far more =
 
 -- ---- what was found is there
 
-pub are_there : (e : Held) (session n : ℕ) (test : List Value → Bool) (found : List Found) (s : Staged) → session < 17 → Stands e → slice_get e.staged n ≡ Some s → Hits e session n test (hits_of found) → AreThere s found
+pub are_there : (e : Held) (session n : ℕ) (test : List Value → Bool) (found : List Found) (s : Staged) → session < 17 → Stands e → slice_get e.rows.staged n ≡ Some s → Hits e session n test (hits_of found) → AreThere s found
 are_there e session n test found s small st is h = by found (AreFound-hits e st.plain session n test (hits_of found) s small st.stands is h)
   where
     some : (f : Found) (row : StagedRow) → row_at s f.place ≡ Some row → IsSome (row_at s f.place)
@@ -61,9 +61,9 @@ are_there e session n test found s small st is h = by found (AreFound-hits e st.
 
 -- ---- what is listed
 
-rows_same : (e : Held) (n : ℕ) (s : Staged) (found : List Found) → slice_get e.staged n ≡ Some s → map (row_in s) found ≡ map row_of (plain_rows e n (hits_of found))
+rows_same : (e : Held) (n : ℕ) (s : Staged) (found : List Found) → slice_get e.rows.staged n ≡ Some s → map (row_in s) found ≡ map row_of (plain_rows e n (hits_of found))
 rows_same e n s [] is = refl
-rows_same e n s (f ∷ fs) is = (λ i. row_same (row_at s f.place) (place_at e.staged n f.place) (sym (here e.staged n s f.place is)) i ∷ rows_same e n s fs is i)
+rows_same e n s (f ∷ fs) is = (λ i. row_same (row_at s f.place) (place_at e.rows.staged n f.place) (sym (here e.rows.staged n s f.place is)) i ∷ rows_same e n s fs is i)
   where
     alike : (o : Option StagedRow) → row_of (f.id, stored_in 0 o) ≡ row_of (f.id, stored_in n o)
     alike None = refl
@@ -78,25 +78,25 @@ all_pass test [] h = refl
 all_pass test (e ∷ es) h = (λ i. cond (h e i) (e ∷ filter test es) (filter test es)) ∙ ap (λ (xs : List (ℕ × Stored)). e ∷ xs) (all_pass test es h)
 
 -- the look for all rows of a table
-pub all_look : (e : Held) (name : List ℕ) (n : ℕ) → Stands e → place_of e.tables name ≡ Some n → CanLook e 0 n []
+pub all_look : (e : Held) (name : List ℕ) (n : ℕ) → Stands e → place_of e.rows.tables name ≡ Some n → CanLook e 0 n []
 all_look e name n st at =
     let t = named_table e name n st at in
     record { seat = omega arith; table = t.0; at = t.1; columns = All-nil (λ (p : ColumnPred). p.column < length t.0.columns); once = seen_once e st.plain 0 n t.0 st.stands t.1 }
 
 -- the place of a name, the other way
-pub hits_named : (e : Held) (name : List ℕ) (n : ℕ) (found : List Found) → place_of e.tables name ≡ Some n → Hits e 0 n (meets (columns_in e.tables name) []) (hits_of found) → Hits e 0 (place_in e.tables name) (meets (columns_in e.tables name) []) (hits_of found)
-hits_named e name n found at h = subst (λ (k : ℕ). Hits e 0 k (meets (columns_in e.tables name) []) (hits_of found)) (sym (ap (λ (o : Option ℕ). unwrap_or o 0) at)) h
+pub hits_named : (e : Held) (name : List ℕ) (n : ℕ) (found : List Found) → place_of e.rows.tables name ≡ Some n → Hits e 0 n (meets (columns_in e.rows.tables name) []) (hits_of found) → Hits e 0 (place_in e.rows.tables name) (meets (columns_in e.rows.tables name) []) (hits_of found)
+hits_named e name n found at h = subst (λ (k : ℕ). Hits e 0 k (meets (columns_in e.rows.tables name) []) (hits_of found)) (sym (ap (λ (o : Option ℕ). unwrap_or o 0) at)) h
 
-pub hits_in : (e : Held) (name : List ℕ) (n : ℕ) (found : List Found) → place_of e.tables name ≡ Some n → Hits e 0 (place_in e.tables name) (meets (columns_in e.tables name) []) (hits_of found) → Hits e 0 n (meets (columns_in e.tables name) []) (hits_of found)
-hits_in e name n found at h = subst (λ (k : ℕ). Hits e 0 k (meets (columns_in e.tables name) []) (hits_of found)) (ap (λ (o : Option ℕ). unwrap_or o 0) at) h
+pub hits_in : (e : Held) (name : List ℕ) (n : ℕ) (found : List Found) → place_of e.rows.tables name ≡ Some n → Hits e 0 (place_in e.rows.tables name) (meets (columns_in e.rows.tables name) []) (hits_of found) → Hits e 0 n (meets (columns_in e.rows.tables name) []) (hits_of found)
+hits_in e name n found at h = subst (λ (k : ℕ). Hits e 0 k (meets (columns_in e.rows.tables name) []) (hits_of found)) (ap (λ (o : Option ℕ). unwrap_or o 0) at) h
 
-pub lists_some : (e : Held) (name : List ℕ) (n : ℕ) (s : Staged) (found : List Found) → Stands e → place_of e.tables name ≡ Some n → slice_get e.staged n ≡ Some s
-    → Hits e 0 (place_in e.tables name) (meets (columns_in e.tables name) []) (hits_of found) → Lists e name (Some (map (row_in s) found))
+pub lists_some : (e : Held) (name : List ℕ) (n : ℕ) (s : Staged) (found : List Found) → Stands e → place_of e.rows.tables name ≡ Some n → slice_get e.rows.staged n ≡ Some s
+    → Hits e 0 (place_in e.rows.tables name) (meets (columns_in e.rows.tables name) []) (hits_of found) → Lists e name (Some (map (row_in s) found))
 lists_some e name n s rows st at is h = record { each = λ p stands. by p stands }
   where
     by : (p : Plain) → StandsFor e p → Some (map (row_in s) rows) ≡ listed (current p.journal) name
     by p stands =
-        let tables : e.tables ≡ (current p.journal).tables = stands.counts.tables in
+        let tables : e.rows.tables ≡ (current p.journal).tables = stands.counts.tables in
         let placed : place_of (current p.journal).tables name ≡ Some n = ap (λ (ts : List Table). place_of ts name) (sym tables) ∙ at in
         let seen : (view p 0).rows ≡ finmap.entries (current p.journal).rows = ap (λ (t : Option OpenTransaction). finmap.entries (seen_by p.journal t)) stands.seats.nobody in
         let hits : Hits e 0 n (meets (columns_in (current p.journal).tables name) []) (hits_of rows) = subst (λ (ts : List Table). Hits e 0 n (meets (columns_in ts name) []) (hits_of rows)) tables (hits_in e name n rows at h) in
@@ -107,6 +107,6 @@ lists_some e name n s rows st at is h = record { each = λ p stands. by p stands
         (λ i. Some (rows_same e n s rows is i)) ∙ (λ i. Some (map row_of (sym is_found i))) ∙ (λ i. Some (map row_of (all i)))
         ∙ ap (option_map (λ (k : ℕ). map row_of (table_rows k (finmap.entries (current p.journal).rows)))) (sym placed)
 
-pub lists_rows : (e : Held) (name : List ℕ) (n : ℕ) (s : Staged) (found : List Found) (rows : List Row) → Stands e → place_of e.tables name ≡ Some n → slice_get e.staged n ≡ Some s
-    → Hits e 0 (place_in e.tables name) (meets (columns_in e.tables name) []) (hits_of found) → rows ≡ map (row_in s) found → Lists e name (Some rows)
+pub lists_rows : (e : Held) (name : List ℕ) (n : ℕ) (s : Staged) (found : List Found) (rows : List Row) → Stands e → place_of e.rows.tables name ≡ Some n → slice_get e.rows.staged n ≡ Some s
+    → Hits e 0 (place_in e.rows.tables name) (meets (columns_in e.rows.tables name) []) (hits_of found) → rows ≡ map (row_in s) found → Lists e name (Some rows)
 lists_rows e name n s found rows st at is h are = subst (λ (x : List Row). Lists e name (Some x)) (sym are) (lists_some e name n s found st at is h)

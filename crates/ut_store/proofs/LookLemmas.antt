@@ -81,9 +81,9 @@ module _ (e : Held) (p : Plain) (session : ℕ) (small : session < 17) (s : Stan
       let few = ids_few 1 p.next_id rows r.sorted (between rows (all_found rows r.sorted)) in
       let last = s.plain.last in
       record {
-        seen = seen-held (place_at e.staged) s.rows.held e.fates (looks_at e session) (own_at e session) rows (IsGone e.fates p.sessions) (gone_never e p session s) s.rows.places (dead_never e p session s) r.sorted r.shown;
+        seen = seen-held (place_at e.rows.staged) s.rows.held e.rows.fates (looks_at e session) (own_at e session) rows (IsGone e.rows.fates p.sessions) (gone_never e p session s) s.rows.places (dead_never e p session s) r.sorted r.shown;
         columns = s.rows.columns;
-        narrow = narrow e.tables (subst (λ (ts : List Table). IsTrue (list_all is_table ts)) (sym s.counts.tables) (IsState-current p.journal s.plain.base s.plain.journal).tables);
+        narrow = narrow e.rows.tables (subst (λ (ts : List Table). IsTrue (list_all is_table ts)) (sym s.counts.tables) (IsState-current p.journal s.plain.base s.plain.journal).tables);
         once = λ n t at. seen_once e p session n t s at;
         keep = λ id row at. let k = kept id row at in record {
           fits = subst (λ (ts : List Table). IsTrue (fits_table (columns_at ts row.table) row.values)) (sym s.counts.tables) k.fits;
@@ -95,5 +95,5 @@ module _ (e : Held) (p : Plain) (session : ℕ) (small : session < 17) (s : Stan
 pub can_ask : (e : Held) (session : ℕ) → session < 17 → Stands e → CanLook (sight_of e session)
 can_ask e session small st = record { rows = (view st.plain session).rows; sees = sees e st.plain session small st.stands }
 
-pub are_narrow : (e : Held) → Stands e → AreNarrow e.tables
-are_narrow e st = narrow e.tables (subst (λ (ts : List Table). IsTrue (list_all is_table ts)) (sym st.stands.counts.tables) (IsState-current st.plain.journal st.stands.plain.base st.stands.plain.journal).tables)
+pub are_narrow : (e : Held) → Stands e → AreNarrow e.rows.tables
+are_narrow e st = narrow e.rows.tables (subst (λ (ts : List Table). IsTrue (list_all is_table ts)) (sym st.stands.counts.tables) (IsState-current st.plain.journal st.stands.plain.base st.stands.plain.journal).tables)

@@ -55,27 +55,27 @@ merging-begun m merges small h n merge is = elim (cases_eq n m.table) [
 
 -- ---- nothing is being merged
 
-pub at_rest : (e : Held) (p : Plain) → StandsFor e p → e.pending ≡ None → (n : ℕ) → IsAtRest (stages_at p.stages n)
+pub at_rest : (e : Held) (p : Plain) → StandsFor e p → e.counts.pending ≡ None → (n : ℕ) → IsAtRest (stages_at p.stages n)
 at_rest e p s idle = subst (λ o. AreMerges o p.stages (current p.journal).merges (journal_len p.journal)) (sym s.counts.pending ∙ idle) s.plain.merges
 
 closed_none : (o : Option (List StagedRow)) → option_map (map placed_of) o ≡ None → o ≡ None
 closed_none None h = refl
 closed_none (Some rows) h = cc
 
-pub not_closed : (e : Held) (p : Plain) → StandsFor e p → e.pending ≡ None → (n : ℕ) (s : Staged) → slice_get e.staged n ≡ Some s → s.closed ≡ None
+pub not_closed : (e : Held) (p : Plain) → StandsFor e p → e.counts.pending ≡ None → (n : ℕ) (s : Staged) → slice_get e.rows.staged n ≡ Some s → s.closed ≡ None
 not_closed e p st idle n s is =
-    closed_none s.closed (ap (λ (t : TableStages). t.closed) (sym (ap (λ x. stages_at x n) st.rows.stages ∙ stages-here e.staged n s is)) ∙ (at_rest e p st idle n).closed)
+    closed_none s.closed (ap (λ (t : TableStages). t.closed) (sym (ap (λ x. stages_at x n) st.rows.stages ∙ stages-here e.rows.staged n s is)) ∙ (at_rest e p st idle n).closed)
 
 -- the rows that are kept have ids of their own
-pub kept_ids : (e : Held) (p : Plain) → StandsFor e p → e.pending ≡ None → (n : ℕ) (s : Staged) (kind : MergeKind) → slice_get e.staged n ≡ Some s → HaveOwnIds (taken_over kind (flags_now e kind s) s)
+pub kept_ids : (e : Held) (p : Plain) → StandsFor e p → e.counts.pending ≡ None → (n : ℕ) (s : Staged) (kind : MergeKind) → slice_get e.rows.staged n ≡ Some s → HaveOwnIds (taken_over kind (flags_now e kind s) s)
 kept_ids e p st idle n s kind is =
-    own_ids e.staged n s (next_merge e n kind) e.fates (snapshots_of e.seats) (IsGone e.fates p.sessions) st.rows.held is (not_closed e p st idle n s is) st.rows.places st.rows.dead
+    own_ids e.rows.staged n s (next_merge e n kind) e.rows.fates (snapshots_of e.seats) (IsGone e.rows.fates p.sessions) st.rows.held is (not_closed e p st idle n s is) st.rows.places st.rows.dead
 
 -- ---- the merge begins
 
 pub merge_begins : (e : Held) (session : ℕ) (name : List ℕ) (kind : MergeKind) (n : ℕ) (s : Staged) → IsTrue (is_spelled (MergeBegin name kind)) → IsRefused e session (MergeBegin name kind) None
-    → slice_get e.staged n ≡ Some s → e.pending ≡ None → ((p : Plain) → StandsFor e p → place_in (view p session).tables name ≡ n)
-    → Answers e session (MergeBegin name kind) (Append (replies.Merge (e.merges + 1))) (merge_begun e n kind s)
+    → slice_get e.rows.staged n ≡ Some s → e.counts.pending ≡ None → ((p : Plain) → StandsFor e p → place_in (view p session).tables name ≡ n)
+    → Answers e session (MergeBegin name kind) (Append (replies.Merge (e.counts.merges + 1))) (merge_begun e n kind s)
 merge_begins e session name kind n s spelled h is idle place = record {
   each = λ p st.
       let head = next_merge e n kind in
@@ -83,10 +83,10 @@ merge_begins e session name kind n s spelled h is idle place = record {
       let entry = entries.Begun ((current p.journal).merges + 1) n kind in
       let now = current-appended p.journal entry in
       let looks = are_snapshots e.seats p.sessions st.seats in
-      let alike : (q : Place) (row : StagedRow) → row_at s q ≡ Some row → stamp_keeps e.fates (snapshots_of e.seats) row.stamp ≡ is_kept p.journal p.sessions (placed_of row) =
-      kept_here e.staged e.fates st.rows.held p.sessions (number_at e.seats) p.journal p.opening (snapshots_of e.seats) st.rows.exact st.rows.transactions st.plain.opened.1 looks st.rows.places st.rows.dead n s is in
-      let here : stages_at p.stages n ≡ stages_of s = ap (λ x. stages_at x n) st.rows.stages ∙ stages-here e.staged n s is in
-      answer_by e (merge_begun e n kind s) session (MergeBegin name kind) (Append (replies.Merge (e.merges + 1))) p (plain.merge_begun p n kind) spelled (h.is p st) st
+      let alike : (q : Place) (row : StagedRow) → row_at s q ≡ Some row → stamp_keeps e.rows.fates (snapshots_of e.seats) row.stamp ≡ is_kept p.journal p.sessions (placed_of row) =
+      kept_here e.rows.staged e.rows.fates st.rows.held p.sessions (number_at e.seats) p.journal p.opening (snapshots_of e.seats) st.rows.exact st.rows.transactions st.plain.opened.1 looks st.rows.places st.rows.dead n s is in
+      let here : stages_at p.stages n ≡ stages_of s = ap (λ x. stages_at x n) st.rows.stages ∙ stages-here e.rows.staged n s is in
+      answer_by e (merge_begun e n kind s) session (MergeBegin name kind) (Append (replies.Merge (e.counts.merges + 1))) p (plain.merge_begun p n kind) spelled (h.is p st) st
       (ap (λ k. plain.merge_begun p k kind) (place p st)) (ap (λ k. replies.Merge (k + 1)) st.counts.merges)
       (record {
         tables = st.counts.tables ∙ sym (ap (λ (x : State). x.tables) now);
@@ -100,21 +100,21 @@ merge_begins e session name kind n s spelled h is idle place = record {
       st.seats
       (record {
         held = st.rows.held;
-        places = AreHeld-closed e.staged n s head keep (IsGone e.fates p.sessions) st.rows.held is (not_closed e p st idle n s is) st.rows.places;
-        dropped = subst (λ (x : Stages). AreDropped (with_stages (closing p.journal p.sessions kind) n x) (IsGone e.fates p.sessions) st.rows.held) (sym st.rows.stages)
-            (AreDropped-closing e.staged e.fates st.rows.held p.sessions (number_at e.seats) p.journal p.opening (snapshots_of e.seats) st.rows.exact st.rows.transactions st.plain.opened.1 looks st.rows.places n s kind is
+        places = AreHeld-closed e.rows.staged n s head keep (IsGone e.rows.fates p.sessions) st.rows.held is (not_closed e p st idle n s is) st.rows.places;
+        dropped = subst (λ (x : Stages). AreDropped (with_stages (closing p.journal p.sessions kind) n x) (IsGone e.rows.fates p.sessions) st.rows.held) (sym st.rows.stages)
+            (AreDropped-closing e.rows.staged e.rows.fates st.rows.held p.sessions (number_at e.seats) p.journal p.opening (snapshots_of e.seats) st.rows.exact st.rows.transactions st.plain.opened.1 looks st.rows.places n s kind is
             (λ m. ap (λ (x : Stages). (stages_at x m).keep) (sym st.rows.stages) ∙ (at_rest e p st idle m).keep));
         free = st.rows.free;
-        exact = IsExact-entry e.fates st.rows.held p.journal p.opening entry st.plain.opened.1 refl (λ id. refl) st.rows.exact;
-        transactions = AreOpen-entry e.fates st.rows.held p.sessions (number_at e.seats) p.journal (appended p.journal entry) p.opening (omega (arith, journal_len-appended p.journal entry)) st.rows.transactions;
+        exact = IsExact-entry e.rows.fates st.rows.held p.journal p.opening entry st.plain.opened.1 refl (λ id. refl) st.rows.exact;
+        transactions = AreOpen-entry e.rows.fates st.rows.held p.sessions (number_at e.seats) p.journal (appended p.journal entry) p.opening (omega (arith, journal_len-appended p.journal entry)) st.rows.transactions;
         dead = st.rows.dead;
         started = st.rows.started;
         stages = (λ i. slice_set (st.rows.stages i) n (closing p.journal p.sessions kind (here i)))
-            ∙ ap (slice_set (map stages_of e.staged) n) (sym (stages-closed e.fates (snapshots_of e.seats) p.journal p.sessions head s alike)) ∙ sym (stages-set e.staged n (closed_l2 head keep s));
-        columns = map-kept (λ (x : Staged). x.columns) e.staged n s (closed_l2 head keep s) is refl ∙ st.rows.columns;
-        merging = subst (AreMerging (Some head)) (sym (map-set (λ (x : Staged). x.merge) e.staged n (closed_l2 head keep s)))
-            (merging-begun head (map (λ (x : Staged). x.merge) e.staged) (omega (arith, get-within e.staged n s is, length-map e.staged (λ (x : Staged). x.merge)))
-            (subst (λ (o : Option PendingMerge). AreMerging o (map (λ (x : Staged). x.merge) e.staged)) idle st.rows.merging));
+            ∙ ap (slice_set (map stages_of e.rows.staged) n) (sym (stages-closed e.rows.fates (snapshots_of e.seats) p.journal p.sessions head s alike)) ∙ sym (stages-set e.rows.staged n (closed_l2 head keep s));
+        columns = map-kept (λ (x : Staged). x.columns) e.rows.staged n s (closed_l2 head keep s) is refl ∙ st.rows.columns;
+        merging = subst (AreMerging (Some head)) (sym (map-set (λ (x : Staged). x.merge) e.rows.staged n (closed_l2 head keep s)))
+            (merging-begun head (map (λ (x : Staged). x.merge) e.rows.staged) (omega (arith, get-within e.rows.staged n s is, length-map e.rows.staged (λ (x : Staged). x.merge)))
+            (subst (λ (o : Option PendingMerge). AreMerging o (map (λ (x : Staged). x.merge) e.rows.staged)) idle st.rows.merging));
       })
       (entry, refl, ap (λ k. spelling (entries.Begun (k + 1) n kind)) st.counts.merges);
 }

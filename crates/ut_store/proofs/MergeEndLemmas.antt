@@ -58,7 +58,7 @@ merging-ended m merges h n merge is = elim (cases_eq n m.table) [
 
 -- ---- the merge that is pending
 
-pub pending_is : (e : Held) (p : Plain) (m : PendingMerge) → StandsFor e p → e.pending ≡ Some m → IsPending m p.stages (current p.journal).merges (journal_len p.journal)
+pub pending_is : (e : Held) (p : Plain) (m : PendingMerge) → StandsFor e p → e.counts.pending ≡ Some m → IsPending m p.stages (current p.journal).merges (journal_len p.journal)
 pending_is e p m s is = subst (λ o. AreMerges o p.stages (current p.journal).merges (journal_len p.journal)) (sym s.counts.pending ∙ is) s.plain.merges
 
 -- a flag stands beside each place
@@ -88,7 +88,7 @@ rests p m pending n = elim (cases_eq n m.table) [
 
 -- ---- the merge ends
 
-pub merge_ends : (e : Held) (session : ℕ) (m : PendingMerge) (s : Staged) (olds : List Place) → IsRefused e session MergeEnd None → e.pending ≡ Some m → slice_get e.staged m.table ≡ Some s → IsArranged m.kind s olds
+pub merge_ends : (e : Held) (session : ℕ) (m : PendingMerge) (s : Staged) (olds : List Place) → IsRefused e session MergeEnd None → e.counts.pending ≡ Some m → slice_get e.rows.staged m.table ≡ Some s → IsArranged m.kind s olds
     → Answers e session MergeEnd (Append (replies.Merge m.number)) (merge_ended e m s olds)
 merge_ends e session m s olds h is at arranged = record {
   each = λ p st.
@@ -98,9 +98,9 @@ merge_ends e session m s olds h is at arranged = record {
       let new = switched stay olds s in
       let same : p.pending ≡ Some m = sym st.counts.pending ∙ is in
       let pending = pending_is e p m st is in
-      let here : stages_at p.stages m.table ≡ stages_of s = ap (λ x. stages_at x m.table) st.rows.stages ∙ stages-here e.staged m.table s at in
+      let here : stages_at p.stages m.table ≡ stages_of s = ap (λ x. stages_at x m.table) st.rows.stages ∙ stages-here e.rows.staged m.table s at in
       let flags = flags_are m.kind s (subst (λ (t : TableStages). IsMerging m.kind t) here pending.merging) in
-      let dropped : AreDropped (map stages_of e.staged) (IsGone e.fates p.sessions) st.rows.held = subst (λ (x : Stages). AreDropped x (IsGone e.fates p.sessions) st.rows.held) st.rows.stages st.rows.dropped in
+      let dropped : AreDropped (map stages_of e.rows.staged) (IsGone e.rows.fates p.sessions) st.rows.held = subst (λ (x : Stages). AreDropped x (IsGone e.rows.fates p.sessions) st.rows.held) st.rows.stages st.rows.dropped in
       answer_by e (merge_ended e m s olds) session MergeEnd (Append (replies.Merge m.number)) p (plain.merge_ended p (Some m)) refl (h.is p st) st
       (ap (plain.merge_ended p) same) refl
       (record {
@@ -115,18 +115,18 @@ merge_ends e session m s olds h is at arranged = record {
       st.seats
       (record {
         held = st.rows.held;
-        places = AreHeld-merged (IsGone e.fates p.sessions) st.rows.held e.staged m.table stay s olds at flags st.rows.places dropped arranged.choice;
-        dropped = AreDropped-rest (with_stages (plain_merges.switched m.kind) m.table p.stages) (IsGone e.fates p.sessions) st.rows.held (rests p m pending);
+        places = AreHeld-merged (IsGone e.rows.fates p.sessions) st.rows.held e.rows.staged m.table stay s olds at flags st.rows.places dropped arranged.choice;
+        dropped = AreDropped-rest (with_stages (plain_merges.switched m.kind) m.table p.stages) (IsGone e.rows.fates p.sessions) st.rows.held (rests p m pending);
         free = st.rows.free;
-        exact = IsExact-entry e.fates st.rows.held p.journal p.opening entry st.plain.opened.1 refl (λ id. refl) st.rows.exact;
-        transactions = AreOpen-entry e.fates st.rows.held p.sessions (number_at e.seats) p.journal (appended p.journal entry) p.opening (omega (arith, journal_len-appended p.journal entry)) st.rows.transactions;
+        exact = IsExact-entry e.rows.fates st.rows.held p.journal p.opening entry st.plain.opened.1 refl (λ id. refl) st.rows.exact;
+        transactions = AreOpen-entry e.rows.fates st.rows.held p.sessions (number_at e.seats) p.journal (appended p.journal entry) p.opening (omega (arith, journal_len-appended p.journal entry)) st.rows.transactions;
         dead = st.rows.dead;
         started = st.rows.started;
         stages = (λ i. slice_set (st.rows.stages i) m.table (plain_merges.switched m.kind (here i)))
-            ∙ ap (slice_set (map stages_of e.staged) m.table) (sym (stages-switched m.kind s olds arranged)) ∙ sym (stages-set e.staged m.table new);
-        columns = map-kept (λ (x : Staged). x.columns) e.staged m.table s new at refl ∙ st.rows.columns;
-        merging = subst (AreMerging None) (sym (map-set (λ (x : Staged). x.merge) e.staged m.table new))
-            (merging-ended m (map (λ (x : Staged). x.merge) e.staged) (subst (λ (o : Option PendingMerge). AreMerging o (map (λ (x : Staged). x.merge) e.staged)) is st.rows.merging));
+            ∙ ap (slice_set (map stages_of e.rows.staged) m.table) (sym (stages-switched m.kind s olds arranged)) ∙ sym (stages-set e.rows.staged m.table new);
+        columns = map-kept (λ (x : Staged). x.columns) e.rows.staged m.table s new at refl ∙ st.rows.columns;
+        merging = subst (AreMerging None) (sym (map-set (λ (x : Staged). x.merge) e.rows.staged m.table new))
+            (merging-ended m (map (λ (x : Staged). x.merge) e.rows.staged) (subst (λ (o : Option PendingMerge). AreMerging o (map (λ (x : Staged). x.merge) e.rows.staged)) is st.rows.merging));
       })
       (entry, refl, refl);
 }

@@ -57,47 +57,47 @@ sum_placed (rows ∷ lists) =
     omega (arith, rest, length-map rows placed_of, sum_by-cons length rows lists, sum_by-cons length (map placed_of rows) (map (map placed_of) lists))
 
 -- the plain store's test is that of the stages
-room-is : (e : Held) (session : ℕ) (name : List ℕ) (kind : MergeKind) (n : ℕ) (s : Staged) (room : Bool) → slice_get e.staged n ≡ Some s → ((p : Plain) → StandsFor e p → place_in (view p session).tables name ≡ n) → has_room_to_merge e s kind ≡ room
+room-is : (e : Held) (session : ℕ) (name : List ℕ) (kind : MergeKind) (n : ℕ) (s : Staged) (room : Bool) → slice_get e.rows.staged n ≡ Some s → ((p : Plain) → StandsFor e p → place_in (view p session).tables name ≡ n) → has_room_to_merge e s kind ≡ room
     → (p : Plain) → StandsFor e p → has_room (view p session) (MergeBegin name kind) ≡ room
 room-is e session name kind n s room is place test p st =
-    let here : stages_at p.stages (place_in (view p session).tables name) ≡ stages_of s = ap (stages_at p.stages) (place p st) ∙ ap (λ (x : Stages). stages_at x n) st.rows.stages ∙ stages-here e.staged n s is in
+    let here : stages_at p.stages (place_in (view p session).tables name) ≡ stages_of s = ap (stages_at p.stages) (place p st) ∙ ap (λ (x : Stages). stages_at x n) st.rows.stages ∙ stages-here e.rows.staged n s is in
     let places : has_places (stages_of s) ≡ nat_lt (sum_by length s.parts + length s.l2) 2147483648 = λ i. nat_lt (sum_placed s.parts i + length-map s.l2 placed_of i) 2147483648 in
     (λ i. nat_lt (sym st.counts.entries i) 1073741823 && has_places (here i) && has_part_room kind (length (here i).parts))
-    ∙ (λ i. nat_lt e.entries 1073741823 && places i && has_part_room kind (length-map s.parts (map placed_of) i)) ∙ test
+    ∙ (λ i. nat_lt e.counts.entries 1073741823 && places i && has_part_room kind (length-map s.parts (map placed_of) i)) ∙ test
 
-pub may_merge : (e : Held) (n : ℕ) (s : Staged) (kind : MergeKind) → Stands e → e.pending ≡ None → slice_get e.staged n ≡ Some s → has_room_to_merge e s kind ≡ true → MayMerge e n kind
+pub may_merge : (e : Held) (n : ℕ) (s : Staged) (kind : MergeKind) → Stands e → e.counts.pending ≡ None → slice_get e.rows.staged n ≡ Some s → has_room_to_merge e s kind ≡ true → MayMerge e n kind
 may_merge e n s kind st idle is test =
-    let room = and_parts (nat_lt e.entries 1073741823 && nat_lt (sum_by length s.parts + length s.l2) 2147483648) (has_part_room kind (length s.parts)) test in
-    let tests = and_parts (nat_lt e.entries 1073741823) (nat_lt (sum_by length s.parts + length s.l2) 2147483648) room.0 in
+    let room = and_parts (nat_lt e.counts.entries 1073741823 && nat_lt (sum_by length s.parts + length s.l2) 2147483648) (has_part_room kind (length s.parts)) test in
+    let tests = and_parts (nat_lt e.counts.entries 1073741823) (nat_lt (sum_by length s.parts + length s.l2) 2147483648) room.0 in
     let few = ltb-true (sum_by length s.parts + length s.l2) 2147483648 tests.1 in
     record {
       table = s;
       at = is;
-      idle = st.stands.rows.merging n s.merge (get-map (λ (x : Staged). x.merge) e.staged n s is) ∙ ap (λ o. merge_at o n) idle;
+      idle = st.stands.rows.merging n s.merge (get-map (λ (x : Staged). x.merge) e.rows.staged n s is) ∙ ap (λ o. merge_at o n) idle;
       few = omega (arith, few);
       room = room.1;
       own_ids = kept_ids e st.plain st.stands idle n s kind is;
     }
 
 -- its numbers don't wrap
-pub merge_small : (e : Held) (n : ℕ) (s : Staged) (kind : MergeKind) → Stands e → slice_get e.staged n ≡ Some s → has_room_to_merge e s kind ≡ true → (n < 65536) × (e.entries < 1073741823) × (e.merges < 1073741823)
+pub merge_small : (e : Held) (n : ℕ) (s : Staged) (kind : MergeKind) → Stands e → slice_get e.rows.staged n ≡ Some s → has_room_to_merge e s kind ≡ true → (n < 65536) × (e.counts.entries < 1073741823) × (e.counts.merges < 1073741823)
 merge_small e n s kind st is test =
     let small = are_small e st in
     let merges = small.merges in
     let few_tables = small.tables in
-    let room = and_parts (nat_lt e.entries 1073741823 && nat_lt (sum_by length s.parts + length s.l2) 2147483648) (has_part_room kind (length s.parts)) test in
-    let short = ltb-true e.entries 1073741823 (and_parts (nat_lt e.entries 1073741823) (nat_lt (sum_by length s.parts + length s.l2) 2147483648) room.0).0 in
-    (omega (arith, get-within e.staged n s is, staged_count e st, few_tables), short, omega (arith, merges, short))
+    let room = and_parts (nat_lt e.counts.entries 1073741823 && nat_lt (sum_by length s.parts + length s.l2) 2147483648) (has_part_room kind (length s.parts)) test in
+    let short = ltb-true e.counts.entries 1073741823 (and_parts (nat_lt e.counts.entries 1073741823) (nat_lt (sum_by length s.parts + length s.l2) 2147483648) room.0).0 in
+    (omega (arith, get-within e.rows.staged n s is, staged_count e st, few_tables), short, omega (arith, merges, short))
 
-pub merge_full : (e : Held) (session : ℕ) (name : List ℕ) (kind : MergeKind) (n : ℕ) (s : Staged) → session < 17 → early_refusal e session (MergeBegin name kind) ≡ None → place_of e.tables name ≡ Some n → slice_get e.staged n ≡ Some s → has_room_to_merge e s kind ≡ false
+pub merge_full : (e : Held) (session : ℕ) (name : List ℕ) (kind : MergeKind) (n : ℕ) (s : Staged) → session < 17 → early_refusal e session (MergeBegin name kind) ≡ None → place_of e.rows.tables name ≡ Some n → slice_get e.rows.staged n ≡ Some s → has_room_to_merge e s kind ≡ false
     → Answers e session (MergeBegin name kind) (Answered (replies.Refused refusals.Full)) e
 merge_full e session name kind n s small early at is test =
     refused e e session (MergeBegin name kind) refusals.Full (full e session (MergeBegin name kind) small refl early (room-is e session name kind n s false is (place-is e session name n at) test)) (itself_same e)
 
-pub merge_begun_now : (e new : Held) (session : ℕ) (name : List ℕ) (kind : MergeKind) (n : ℕ) (s : Staged) → session < 17 → IsTrue (is_spelled (MergeBegin name kind)) → early_refusal e session (MergeBegin name kind) ≡ None → e.pending ≡ None
-    → place_of e.tables name ≡ Some n → slice_get e.staged n ≡ Some s → has_room_to_merge e s kind ≡ true → new ≡ merge_begun e n kind s → Answers e session (MergeBegin name kind) (Append (replies.Merge new.merges)) new
+pub merge_begun_now : (e new : Held) (session : ℕ) (name : List ℕ) (kind : MergeKind) (n : ℕ) (s : Staged) → session < 17 → IsTrue (is_spelled (MergeBegin name kind)) → early_refusal e session (MergeBegin name kind) ≡ None → e.counts.pending ≡ None
+    → place_of e.rows.tables name ≡ Some n → slice_get e.rows.staged n ≡ Some s → has_room_to_merge e s kind ≡ true → new ≡ merge_begun e n kind s → Answers e session (MergeBegin name kind) (Append (replies.Merge new.counts.merges)) new
 merge_begun_now e new session name kind n s small spelled early idle at is test same =
-    subst (λ (x : Held). Answers e session (MergeBegin name kind) (Append (replies.Merge x.merges)) x) (sym same)
+    subst (λ (x : Held). Answers e session (MergeBegin name kind) (Append (replies.Merge x.counts.merges)) x) (sym same)
     (merge_begins e session name kind n s spelled (allowed e session (MergeBegin name kind) small refl early (room-is e session name kind n s true is (place-is e session name n at) test) (λ p st. refl)) is idle (place-is e session name n at))
 
 -- ---- the pending merge
@@ -105,48 +105,48 @@ merge_begun_now e new session name kind n s small spelled early idle at is test 
 -- the table of the pending merge, whose job is the store's
 pub record IsMergedTable (e : Held) (m : PendingMerge) (job : JobValue) : Type 0 where
   pub table : Staged
-  pub at : slice_get e.staged m.table ≡ Some table
+  pub at : slice_get e.rows.staged m.table ≡ Some table
   pub has : tables.pending_job table ≡ Some job
   pub head : job.head ≡ m
 
-pub merged_table : (e : Held) (m : PendingMerge) (job : JobValue) → Stands e → e.pending ≡ Some m → pending_job e ≡ Some job → IsMergedTable e m job
-merged_table e m job st is has = by (slice_get e.staged m.table) refl (ap (λ (o : Option PendingMerge). option_and_then (λ (x : PendingMerge). option_and_then tables.pending_job (slice_get e.staged x.table)) o) (sym is) ∙ has)
+pub merged_table : (e : Held) (m : PendingMerge) (job : JobValue) → Stands e → e.counts.pending ≡ Some m → pending_job e ≡ Some job → IsMergedTable e m job
+merged_table e m job st is has = by (slice_get e.rows.staged m.table) refl (ap (λ (o : Option PendingMerge). option_and_then (λ (x : PendingMerge). option_and_then tables.pending_job (slice_get e.rows.staged x.table)) o) (sym is) ∙ has)
   where
     heads : (s : Staged) (o : Option PendingMerge) → s.merge ≡ o → o ≡ Some m → tables.pending_job s ≡ Some job → job.head ≡ m
     heads s None merge same job_is = absurd (none_some m same)
     heads s (Some x) merge same job_is =
         ap (λ (v : JobValue). v.head) (sym (some_same (tables.job_of s x) job (ap (option_map (tables.job_of s)) (sym merge) ∙ job_is))) ∙ some_same x m same
 
-    by : (o : Option Staged) → slice_get e.staged m.table ≡ o → option_and_then tables.pending_job o ≡ Some job → IsMergedTable e m job
+    by : (o : Option Staged) → slice_get e.rows.staged m.table ≡ o → option_and_then tables.pending_job o ≡ Some job → IsMergedTable e m job
     by None at job_is = absurd (none_some job job_is)
     by (Some s) at job_is = record {
       table = s;
       at = at;
       has = job_is;
       head = heads s s.merge refl
-          (st.stands.rows.merging m.table s.merge (get-map (λ (x : Staged). x.merge) e.staged m.table s at) ∙ ap (λ o. merge_at o m.table) is ∙ ap (λ b. cond b (Some m) None) (eq-eqb m.table m.table refl)) job_is;
+          (st.stands.rows.merging m.table s.merge (get-map (λ (x : Staged). x.merge) e.rows.staged m.table s at) ∙ ap (λ o. merge_at o m.table) is ∙ ap (λ b. cond b (Some m) None) (eq-eqb m.table m.table refl)) job_is;
     }
 
 -- the place of the pending merge's table
-pub merged_within : (e : Held) (m : PendingMerge) → Stands e → e.pending ≡ Some m → m.table < length e.staged
+pub merged_within : (e : Held) (m : PendingMerge) → Stands e → e.counts.pending ≡ Some m → m.table < length e.rows.staged
 merged_within e m st is =
     let pending = pending_is e st.plain m st.stands is in
     let small = pending.table in
-    omega (arith, small, ap length st.stands.rows.stages, length-map e.staged stages_of)
+    omega (arith, small, ap length st.stands.rows.stages, length-map e.rows.staged stages_of)
 
 -- the new part's rows stood in these places
 abbrev pub Switches : PendingMerge → Staged → Staged → Type 0
 Switches m old new = (olds : List Place) × IsArranged m.kind old olds × (new ≡ switched (staying m.kind (length old.parts)) olds old)
 
-pub merge_ended_now : (e : Held) (items : List TableValue) (m : PendingMerge) (t new : TableValue) (session : ℕ) (frame : List ℕ) → session < 17 → e.pending ≡ Some m → e.staged ≡ stages_in items → slice_get items m.table ≡ Some t
+pub merge_ended_now : (e : Held) (items : List TableValue) (m : PendingMerge) (t new : TableValue) (session : ℕ) (frame : List ℕ) → session < 17 → e.counts.pending ≡ Some m → e.rows.staged ≡ stages_in items → slice_get items m.table ≡ Some t
     → Switches m t.stages new.stages → frame ≡ spelling (entries.Ended m.number)
-    → Answers e session MergeEnd (Append (replies.Merge m.number)) (record e { staged = stages_in (slice_set items m.table new); entries = e.entries + 1; pending = None; frame = frame })
+    → Answers e session MergeEnd (Append (replies.Merge m.number)) (record e { rows = record e.rows { staged = stages_in (slice_set items m.table new) }; counts = record e.counts { entries = e.counts.entries + 1; pending = None }; frame = frame })
 merge_ended_now e items m t new session frame small is are at switch spells =
-    let here : slice_get e.staged m.table ≡ Some t.stages = ap (λ (x : List Staged). slice_get x m.table) are ∙ staged_at items m.table t at in
-    let after : slice_set e.staged m.table (switched (staying m.kind (length t.stages.parts)) switch.0 t.stages) ≡ stages_in (slice_set items m.table new) =
+    let here : slice_get e.rows.staged m.table ≡ Some t.stages = ap (λ (x : List Staged). slice_get x m.table) are ∙ staged_at items m.table t at in
+    let after : slice_set e.rows.staged m.table (switched (staying m.kind (length t.stages.parts)) switch.0 t.stages) ≡ stages_in (slice_set items m.table new) =
     (λ i. slice_set (are i) m.table (sym switch.2 i)) ∙ sym (map-set (λ (x : TableValue). x.stages) items m.table new) in
     subst (λ (x : Held). Answers e session MergeEnd (Append (replies.Merge m.number)) x)
-    (λ i. record e { staged = after i; entries = e.entries + 1; pending = None; frame = sym spells i })
+    (λ i. record e { rows = record e.rows { staged = after i }; counts = record e.counts { entries = e.counts.entries + 1; pending = None }; frame = sym spells i })
     (merge_ends e session m t.stages switch.0 (allowed e session MergeEnd small refl (may_end e session m is) (λ p st. refl) (λ p st. refl)) is here switch.1)
 
 -- ---- no other statement hands out a job

@@ -24,46 +24,46 @@ use Rattle.ut_store.specs.Early.{early_refusal}
 use Rattle.ut_staged.specs.Staged.{Staged}
 
 -- a statement that passes has names that are known
-pub named : (e : Held) (session : ℕ) (st : Statement) → early_refusal e session st ≡ None → IsTrue (names_known e.tables st)
-named e session st h = by (names_known e.tables st) _ h
+pub named : (e : Held) (session : ℕ) (st : Statement) → early_refusal e session st ≡ None → IsTrue (names_known e.rows.tables st)
+named e session st h = by (names_known e.rows.tables st) _ h
   where
     by : (a : Bool) (r : Option Refusal) → or_else (unless a Name) r ≡ None → IsTrue a
     by true r h = refl
     by false r h = cc
 
 -- each table has its stages
-pub staged_count : (e : Held) → Stands e → length e.staged ≡ length e.tables
-staged_count e st = sym (length-map e.staged (λ (s : Staged). s.columns)) ∙ ap (λ (cs : List (List Column)). length cs) st.stands.rows.columns ∙ length-map e.tables (λ (t : Table). t.columns)
+pub staged_count : (e : Held) → Stands e → length e.rows.staged ≡ length e.rows.tables
+staged_count e st = sym (length-map e.rows.staged (λ (s : Staged). s.columns)) ∙ ap (λ (cs : List (List Column)). length cs) st.stands.rows.columns ∙ length-map e.rows.tables (λ (t : Table). t.columns)
 
 -- the place of a name is the plain one
-pub place-is : (e : Held) (session : ℕ) (name : List ℕ) (place : ℕ) → place_of e.tables name ≡ Some place → (p : Plain) → StandsFor e p → place_in (view p session).tables name ≡ place
+pub place-is : (e : Held) (session : ℕ) (name : List ℕ) (place : ℕ) → place_of e.rows.tables name ≡ Some place → (p : Plain) → StandsFor e p → place_in (view p session).tables name ≡ place
 place-is e session name place is p s = ap (λ (ts : List Table). place_in ts name) (sym s.counts.tables) ∙ ap (λ (o : Option ℕ). unwrap_or o 0) is
 
 -- the place of a name is that of some stages
-pub place_within : (e : Held) (items : List TableValue) (name : List ℕ) (place : ℕ) → Stands e → e.staged ≡ map (λ (t : TableValue). t.stages) items → place_of e.tables name ≡ Some place → place < length items
+pub place_within : (e : Held) (items : List TableValue) (name : List ℕ) (place : ℕ) → Stands e → e.rows.staged ≡ map (λ (t : TableValue). t.stages) items → place_of e.rows.tables name ≡ Some place → place < length items
 place_within e items name place st are is =
-    let below = position_below (λ (table : Table). same_bytes table.name name) e.tables place is in
+    let below = position_below (λ (table : Table). same_bytes table.name name) e.rows.tables place is in
     omega (arith, below, staged_count e st, ap (λ (x : List Staged). length x) are, length-map items (λ (t : TableValue). t.stages))
 
 -- the stages of a name's table
-pub named_table : (e : Held) (name : List ℕ) (place : ℕ) → Stands e → place_of e.tables name ≡ Some place → (s : Staged) × (slice_get e.staged place ≡ Some s)
+pub named_table : (e : Held) (name : List ℕ) (place : ℕ) → Stands e → place_of e.rows.tables name ≡ Some place → (s : Staged) × (slice_get e.rows.staged place ≡ Some s)
 named_table e name place st is =
-    let below = position_below (λ (table : Table). same_bytes table.name name) e.tables place is in
-    get-there e.staged place (omega (arith, below, staged_count e st))
+    let below = position_below (λ (table : Table). same_bytes table.name name) e.rows.tables place is in
+    get-there e.rows.staged place (omega (arith, below, staged_count e st))
 
 -- so the table that is read there is one of them
-pub table_read : (e : Held) (items : List TableValue) (name : List ℕ) (place : ℕ) (t : TableValue) → Stands e → e.staged ≡ map (λ (x : TableValue). x.stages) items → place_of e.tables name ≡ Some place
+pub table_read : (e : Held) (items : List TableValue) (name : List ℕ) (place : ℕ) (t : TableValue) → Stands e → e.rows.staged ≡ map (λ (x : TableValue). x.stages) items → place_of e.rows.tables name ≡ Some place
     → t ≡ get_or items place t → slice_get items place ≡ Some t
 table_read e items name place t st are at is = slice_get_read items (length items) place t refl (place_within e items name place st are at) is
 
 -- the place of a name, as it was looked up
-pub looked_up : (e now : Held) (tables : List Table) (name : List ℕ) (found : Option ℕ) (place : ℕ) → e ≡ now → tables ≡ e.tables → found ≡ place_of tables name → found ≡ Some place → place_of now.tables name ≡ Some place
+pub looked_up : (e now : Held) (tables : List Table) (name : List ℕ) (found : Option ℕ) (place : ℕ) → e ≡ now → tables ≡ e.rows.tables → found ≡ place_of tables name → found ≡ Some place → place_of now.rows.tables name ≡ Some place
 looked_up e now tables name found place same are is some =
-    ap (λ (x : Held). place_of x.tables name) (sym same) ∙ ap (λ (ts : List Table). place_of ts name) (sym are) ∙ sym is ∙ some
+    ap (λ (x : Held). place_of x.rows.tables name) (sym same) ∙ ap (λ (ts : List Table). place_of ts name) (sym are) ∙ sym is ∙ some
 
 -- the stages of the table that is read there
-pub staged_read : (e now : Held) (items : List TableValue) (name : List ℕ) (place : ℕ) (t : TableValue) → e ≡ now → Stands now → e.staged ≡ map (λ (x : TableValue). x.stages) items → place_of now.tables name ≡ Some place
-    → t ≡ get_or items place t → slice_get now.staged place ≡ Some t.stages
+pub staged_read : (e now : Held) (items : List TableValue) (name : List ℕ) (place : ℕ) (t : TableValue) → e ≡ now → Stands now → e.rows.staged ≡ map (λ (x : TableValue). x.stages) items → place_of now.rows.tables name ≡ Some place
+    → t ≡ get_or items place t → slice_get now.rows.staged place ≡ Some t.stages
 staged_read e now items name place t same st are at is =
-    let all : now.staged ≡ map (λ (x : TableValue). x.stages) items = ap (λ (x : Held). x.staged) (sym same) ∙ are in
+    let all : now.rows.staged ≡ map (λ (x : TableValue). x.stages) items = ap (λ (x : Held). x.rows.staged) (sym same) ∙ are in
     ap (λ (s : List Staged). slice_get s place) all ∙ slice_get-map (λ (x : TableValue). x.stages) items place ∙ ap (option_map (λ (x : TableValue). x.stages)) (table_read now items name place t st all at is)

@@ -9,12 +9,12 @@ use Rattle.ut_store.specs.Standing.{Stands}
 
 -- bounds of the numbers that a store counts
 pub record AreSmall (e : Held) : Type 0 where
-  pub entries : e.entries ≤ 1073741824
-  pub commits : e.commits ≤ e.entries
-  pub merges : e.merges ≤ e.entries
-  pub next_id : e.next_id ≤ 2147483649
-  pub rows_limit : e.rows_limit ≤ 2147483648
-  pub tables : length e.tables ≤ 256
+  pub entries : e.counts.entries ≤ 1073741824
+  pub commits : e.counts.commits ≤ e.counts.entries
+  pub merges : e.counts.merges ≤ e.counts.entries
+  pub next_id : e.counts.next_id ≤ 2147483649
+  pub rows_limit : e.counts.rows_limit ≤ 2147483648
+  pub tables : length e.rows.tables ≤ 256
 
 pub are_small : (e : Held) → Stands e → AreSmall e
 are_small e st =

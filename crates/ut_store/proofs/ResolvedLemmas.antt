@@ -24,8 +24,8 @@ use Rattle.ut_store.proofs.AskLemmas.{kept_back, may_change}
 
 -- ---- a delete
 
-module _ (e : Held) (st : Statement) (name : List ℕ) (preds : List Pred) (ts : List Table) (n : List ℕ) (ps : List Pred) (h : st ≡ statements.Delete name preds) (tables : ts ≡ e.tables) (names : n ≡ name) (asked : ps ≡ preds) where
-  pub delete_is : (rows : Selection) → IsSelection ts n ps rows → IsDelete e.tables st rows
+module _ (e : Held) (st : Statement) (name : List ℕ) (preds : List Pred) (ts : List Table) (n : List ℕ) (ps : List Pred) (h : st ≡ statements.Delete name preds) (tables : ts ≡ e.rows.tables) (names : n ≡ name) (asked : ps ≡ preds) where
+  pub delete_is : (rows : Selection) → IsSelection ts n ps rows → IsDelete e.rows.tables st rows
   delete_is rows s = record {
     name = name;
     preds = preds;
@@ -36,20 +36,20 @@ module _ (e : Held) (st : Statement) (name : List ℕ) (preds : List Pred) (ts :
   pub delete_kept : (session : ℕ) (why : Refusal) → session < 17 → Hinders (known (preds_known ps) (columns_of ts n)) (preds_fit (columns_in ts n) ps) why → Answers e session st (Answered (replies.Refused why)) e
   delete_kept session why small s =
       kept_back e session st why small (ap finds_rows h)
-      (subst (λ (x : Statement). Hinders (names_known e.tables x) (kinds_fit e.tables x) why) (sym h)
+      (subst (λ (x : Statement). Hinders (names_known e.rows.tables x) (kinds_fit e.rows.tables x) why) (sym h)
       (subst (λ (x : List Table). Hinders (known (preds_known preds) (columns_of x name)) (preds_fit (columns_in x name) preds) why) tables
       (subst (λ (x : List ℕ). Hinders (known (preds_known preds) (columns_of ts x)) (preds_fit (columns_in ts x) preds) why) names
       (subst (λ (x : List Pred). Hinders (known (preds_known x) (columns_of ts n)) (preds_fit (columns_in ts n) x) why) asked s))))
 
-pub delete_may : (e : Held) (session : ℕ) (st : Statement) (rows : Selection) → session < 17 → IsTrue (suits_session session st) → IsTrue (is_spelled st) → Stands e → IsDelete e.tables st rows → MayChange e session st
+pub delete_may : (e : Held) (session : ℕ) (st : Statement) (rows : Selection) → session < 17 → IsTrue (suits_session session st) → IsTrue (is_spelled st) → Stands e → IsDelete e.rows.tables st rows → MayChange e session st
 delete_may e session st rows small suits spelled stands d =
     may_change e session st small suits spelled stands (ap finds_rows d.is) (ap changes_rows d.is)
-    (ap (names_known e.tables) d.is ∙ selection_known e.tables d.name d.preds rows d.rows_are) (ap (kinds_fit e.tables) d.is ∙ d.rows_are.preds.fit)
+    (ap (names_known e.rows.tables) d.is ∙ selection_known e.rows.tables d.name d.preds rows d.rows_are) (ap (kinds_fit e.rows.tables) d.is ∙ d.rows_are.preds.fit)
 
 -- ---- an update
 
-module _ (e : Held) (st : Statement) (name column : List ℕ) (value : Value) (preds : List Pred) (ts : List Table) (n c : List ℕ) (ps : List Pred) (h : st ≡ statements.Update name column value preds) (tables : ts ≡ e.tables) (names : n ≡ name) (columns : c ≡ column) (asked : ps ≡ preds) where
-  pub update_is : (target : Target) → IsTarget ts n c value ps target → IsUpdate e.tables st target value
+module _ (e : Held) (st : Statement) (name column : List ℕ) (value : Value) (preds : List Pred) (ts : List Table) (n c : List ℕ) (ps : List Pred) (h : st ≡ statements.Update name column value preds) (tables : ts ≡ e.rows.tables) (names : n ≡ name) (columns : c ≡ column) (asked : ps ≡ preds) where
+  pub update_is : (target : Target) → IsTarget ts n c value ps target → IsUpdate e.rows.tables st target value
   update_is target s = record {
     name = name;
     column = column;
@@ -63,13 +63,13 @@ module _ (e : Held) (st : Statement) (name column : List ℕ) (value : Value) (p
   pub update_kept : (session : ℕ) (why : Refusal) → session < 17 → Hinders (target_known ts n c ps) (target_fits ts n c value ps) why → Answers e session st (Answered (replies.Refused why)) e
   update_kept session why small s =
       kept_back e session st why small (ap finds_rows h)
-      (subst (λ (x : Statement). Hinders (names_known e.tables x) (kinds_fit e.tables x) why) (sym h)
+      (subst (λ (x : Statement). Hinders (names_known e.rows.tables x) (kinds_fit e.rows.tables x) why) (sym h)
       (subst (λ (x : List Table). Hinders (target_known x name column preds) (target_fits x name column value preds) why) tables
       (subst (λ (x : List ℕ). Hinders (target_known ts x column preds) (target_fits ts x column value preds) why) names
       (subst (λ (x : List ℕ). Hinders (target_known ts n x preds) (target_fits ts n x value preds) why) columns
       (subst (λ (x : List Pred). Hinders (target_known ts n c x) (target_fits ts n c value x) why) asked s)))))
 
-pub update_may : (e : Held) (session : ℕ) (st : Statement) (target : Target) (value : Value) → session < 17 → IsTrue (suits_session session st) → IsTrue (is_spelled st) → Stands e → IsUpdate e.tables st target value → MayChange e session st
+pub update_may : (e : Held) (session : ℕ) (st : Statement) (target : Target) (value : Value) → session < 17 → IsTrue (suits_session session st) → IsTrue (is_spelled st) → Stands e → IsUpdate e.rows.tables st target value → MayChange e session st
 update_may e session st target value small suits spelled stands d =
     may_change e session st small suits spelled stands (ap finds_rows d.is) (ap changes_rows d.is)
-    (ap (names_known e.tables) d.is ∙ d.target_is.known) (ap (kinds_fit e.tables) d.is ∙ d.target_is.fits)
+    (ap (names_known e.rows.tables) d.is ∙ d.target_is.known) (ap (kinds_fit e.rows.tables) d.is ∙ d.target_is.fits)

@@ -71,7 +71,7 @@ restored_new e image_pages limit small r = record {
   seats = seats_of_nobody e r.seats;
   rows = record {
     held = λ id. None;
-    places = subst (λ (s : List Staged). AreHeld (place_at s) (IsGone e.fates no_sessions) (λ id. None)) (sym r.has_rows) (no_places (IsGone e.fates no_sessions));
+    places = subst (λ (s : List Staged). AreHeld (place_at s) (IsGone e.rows.fates no_sessions) (λ id. None)) (sym r.has_rows) (no_places (IsGone e.rows.fates no_sessions));
     dropped = record { each = λ n g i place at flag. nothing_kept flag };
     free = λ id h. refl;
     exact = subst (λ (f : List Fate). IsExact f (λ id. None) empty_journal 0) (sym r.fates) (IsExact-opened (λ id. None) empty_journal (λ id. finmap.get-empty nat_cmp id) (λ id row h. nothing_held row h));
@@ -80,6 +80,6 @@ restored_new e image_pages limit small r = record {
     started = omega (arith, ap (λ (f : List Fate). length f) r.fates);
     stages = ap (λ (s : List Staged). map stages_of s) (sym r.has_rows);
     columns = (λ i. map (λ (s : Staged). s.columns) (r.has_rows i)) ∙ (λ i. map (λ (t : Table). t.columns) (sym r.has_tables i));
-    merging = subst (λ (s : List Staged). AreMerging e.pending (map (λ (x : Staged). x.merge) s)) (sym r.has_rows) (λ n merge h. nothing_merging h);
+    merging = subst (λ (s : List Staged). AreMerging e.counts.pending (map (λ (x : Staged). x.merge) s)) (sym r.has_rows) (λ n merge h. nothing_merging h);
   };
 }

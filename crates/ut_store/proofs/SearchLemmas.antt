@@ -6,11 +6,12 @@ use Rattle.std.specs.FinMap.{is_sorted}
 use Rattle.std.specs.FinMap.Entries.{below_all}
 use Rattle.ut_value.specs.declared.value.Column.{Column}
 use Rattle.ut_plain.specs.declared.statement.Pred.{Pred}
-use Rattle.ut_plain.specs.Tables.{place_in, columns_in}
+use Rattle.ut_plain.specs.Tables.{place_of, place_in, columns_in}
 use Rattle.ut_plain.specs.Names.{known}
 use Rattle.ut_plain.specs.Condition.{meets}
 use Rattle.ut_plain.specs.Plain.{Plain}
 use Rattle.ut_plain.specs.View.{view}
+use Rattle.ut_plain.proofs.TableLemmas.{there}
 use Rattle.ut_stamps.specs.declared.fates.Fate.{Fate}
 use Rattle.ut_stamps.specs.declared.place.Place.{Place}
 use Rattle.ut_scan.specs.declared.place.Found.{Found}
@@ -18,6 +19,9 @@ use Rattle.ut_exact.specs.Stamped.{Stamped}
 use Rattle.ut_exact.specs.Places.{stamped_in}
 use Rattle.ut_scan.specs.declared.place.ColumnPred.{ColumnPred}
 use Rattle.ut_names.specs.Compiled.{Compiles}
+use Rattle.ut_names.specs.declared.resolved.Selection.{Selection}
+use Rattle.ut_names.specs.Resolved.{IsSelection}
+use Rattle.ut_query.specs.Tells.{IsSelected}
 use Rattle.ut_names.proofs.CompiledLemmas.{compiled_below}
 use Rattle.ut_query.proofs.ShowLemmas.{scan_of}
 use Rattle.ut_exact.proofs.OrderLemmas.{T_first, T_second, less}
@@ -27,15 +31,17 @@ use Rattle.ut_table.specs.Finds.{SeenOnce, Finds, hits_of}
 use Rattle.ut_change.proofs.MadeLemmas.{AreGiven}
 use Rattle.ut_store.specs.Held.{Held}
 use Rattle.ut_store.specs.Stands.{StandsFor}
+use Rattle.ut_store.specs.Standing.{Stands}
 use Rattle.ut_store.specs.Reads.{looks_at, own_at}
 use Rattle.ut_store.specs.Hits.{Hits, first_taken_of}
 use Rattle.ut_staged.specs.Staging.{AreFound}
 use Rattle.ut_change.specs.Writes.{AreThere}
 use Rattle.ut_store.specs.Changes.{CanLook, Looked}
 use Rattle.ut_store.proofs.ReadLemmas.{reads}
+use Rattle.ut_store.proofs.IndexLemmas.{some_inside}
 use Rattle.ut_store.proofs.HitLemmas.{dead_never, AreFound-hits}
 use Rattle.ut_store.proofs.MadeLemmas.{FindsFree}
-use Rattle.ut_store.proofs.KindLemmas.{TableAt}
+use Rattle.ut_store.proofs.KindLemmas.{TableAt, table_at}
 use Rattle.ut_staged.proofs.TableLemmas.{here}
 
 -- ---- what can be looked for
@@ -44,16 +50,16 @@ pub known_in : (o : Option (List Column)) (test : List Column → Bool) → know
 known_in None test h = cc
 known_in (Some columns) test h = h
 
-pub seen_once : (e : Held) (p : Plain) (session n : ℕ) (table : Staged) → StandsFor e p → slice_get e.staged n ≡ Some table → SeenOnce table e.fates (looks_at e session) (own_at e session)
+pub seen_once : (e : Held) (p : Plain) (session n : ℕ) (table : Staged) → StandsFor e p → slice_get e.rows.staged n ≡ Some table → SeenOnce table e.rows.fates (looks_at e session) (own_at e session)
 seen_once e p session n table s at = record {
   each = λ q r a b is_a is_b sees_a sees_b same.
-      (s.rows.places.once n n q r a b (here e.staged n table q at ∙ is_a) (here e.staged n table r at ∙ is_b)
-      (seen_is_live e.fates (looks_at e session) (own_at e session) (dead_never e p session s) a.stamp sees_a)
-      (seen_is_live e.fates (looks_at e session) (own_at e session) (dead_never e p session s) b.stamp sees_b) same).1;
+      (s.rows.places.once n n q r a b (here e.rows.staged n table q at ∙ is_a) (here e.rows.staged n table r at ∙ is_b)
+      (seen_is_live e.rows.fates (looks_at e session) (own_at e session) (dead_never e p session s) a.stamp sees_a)
+      (seen_is_live e.rows.fates (looks_at e session) (own_at e session) (dead_never e p session s) b.stamp sees_b) same).1;
 }
 
-module _ (e : Held) (p : Plain) (session n : ℕ) (name : List ℕ) (asked : List Pred) (preds : List ColumnPred) (small : session < 17) (s : StandsFor e p) (t : TableAt e n (columns_in e.tables name)) (h : Compiles (columns_in e.tables name) asked preds) where
-  pub can_look : CanLook e session n preds
+module _ (e : Held) (p : Plain) (session n : ℕ) (name : List ℕ) (asked : List Pred) (preds : List ColumnPred) (small : session < 17) (s : StandsFor e p) (t : TableAt e n (columns_in e.rows.tables name)) (h : Compiles (columns_in e.rows.tables name) asked preds) where
+  can_look : CanLook e session n preds
   can_look = record {
     seat = small;
     table = t.table;
@@ -63,27 +69,36 @@ module _ (e : Held) (p : Plain) (session n : ℕ) (name : List ℕ) (asked : Lis
   }
 
   -- what a look finds is what was asked for
-  pub looked_for : (hits : List (ℕ × Place)) → ((table : Staged) (wanted : List Pred) → slice_get e.staged n ≡ Some table → Compiles table.columns wanted preds → Looked e session n wanted hits) → Looked e session n asked hits
+  looked_for : (hits : List (ℕ × Place)) → ((table : Staged) (wanted : List Pred) → slice_get e.rows.staged n ≡ Some table → Compiles table.columns wanted preds → Looked e session n wanted hits) → Looked e session n asked hits
   looked_for hits f = f t.table asked t.at (subst (λ cs. Compiles cs asked preds) (sym t.has) h)
+
+-- the table of a name
+selected_table : (e : Held) (st : Stands e) (name : List ℕ) (n : ℕ) → place_of e.rows.tables name ≡ Some n → TableAt e n (columns_in e.rows.tables name)
+selected_table e st name n at = table_at e st.plain name n st.stands (there e.rows.tables name (ap is_some at)) (sym (ap (λ (o : Option ℕ). unwrap_or o 0) at))
+
+module _ (e : Held) (session : ℕ) (rows : Selection) (small : session < 17) (st : Stands e) where
+  pub select_look : IsSelected e.rows.tables rows → CanLook e session rows.table rows.preds.items
+  select_look h = can_look e st.plain session rows.table h.name h.asked rows.preds.items small st.stands (selected_table e st h.name rows.table h.is.table) h.is.preds
+
+  pub select_looked : (hits : List (ℕ × Place)) → ((table : Staged) (wanted : List Pred) → slice_get e.rows.staged rows.table ≡ Some table → Compiles table.columns wanted rows.preds.items → Looked e session rows.table wanted hits)
+      → (name : List ℕ) (asked : List Pred) → IsSelection e.rows.tables name asked rows → Looked e session rows.table asked hits
+  select_looked hits f name asked is = looked_for e st.plain session rows.table name asked rows.preds.items small st.stands (selected_table e st name rows.table is.table) is.preds hits f
 
 -- ---- from a table to all
 
-pub looked : (e : Held) (session n : ℕ) (preds : List Pred) (table found_in : Staged) (fates : List Fate) (k : ℕ) (own : Option ℕ) (found : List Found) → slice_get e.staged n ≡ Some table → found_in ≡ table → fates ≡ e.fates → k ≡ looks_at e session → own ≡ own_at e session
+pub looked : (e : Held) (session n : ℕ) (preds : List Pred) (table found_in : Staged) (fates : List Fate) (k : ℕ) (own : Option ℕ) (found : List Found) → slice_get e.rows.staged n ≡ Some table → found_in ≡ table → fates ≡ e.rows.fates → k ≡ looks_at e session → own ≡ own_at e session
     → Finds found_in fates k own preds found → Looked e session n preds (hits_of found)
 looked e session n preds table found_in fates k own found at same_table same_fates same_look same_own f =
-    let g : Finds table e.fates (looks_at e session) (own_at e session) preds found =
-    subst (λ (t : Staged). Finds t e.fates (looks_at e session) (own_at e session) preds found) same_table
+    let g : Finds table e.rows.fates (looks_at e session) (own_at e session) preds found =
+    subst (λ (t : Staged). Finds t e.rows.fates (looks_at e session) (own_at e session) preds found) same_table
     (subst (λ (x : List Fate). Finds found_in x (looks_at e session) (own_at e session) preds found) same_fates
     (subst (λ x. Finds found_in fates x (own_at e session) preds found) same_look (subst (λ x. Finds found_in fates k x preds found) same_own f))) in
-    record { table = table; at = at; hits_are = record { scan = scan_of e.staged n table e.fates (looks_at e session) (own_at e session) (meets table.columns preds) (hits_of found) at g.scan } }
+    record { table = table; at = at; hits_are = record { scan = scan_of e.rows.staged n table e.rows.fates (looks_at e session) (own_at e session) (meets table.columns preds) (hits_of found) at g.scan } }
 
 -- ---- what was found, in the plain store's words
 
-some_inside : (a b : Staged) → Some a ≡ Some b → a ≡ b
-some_inside a b h = cc
-
-module _ (e : Held) (session n : ℕ) (name : List ℕ) (preds : List Pred) (hits : List (ℕ × Place)) (small : session < 17) (is : n ≡ place_in e.tables name) (t : TableAt e n (columns_in e.tables name)) (l : Looked e session n preds hits) where
-  columns_are : l.table.columns ≡ columns_in e.tables name
+module _ (e : Held) (session n : ℕ) (name : List ℕ) (preds : List Pred) (hits : List (ℕ × Place)) (small : session < 17) (is : n ≡ place_in e.rows.tables name) (t : TableAt e n (columns_in e.rows.tables name)) (l : Looked e session n preds hits) where
+  columns_are : l.table.columns ≡ columns_in e.rows.tables name
   columns_are = ap (λ (s : Staged). s.columns) (some_inside l.table t.table (sym l.at ∙ t.at)) ∙ t.has
 
   pub place_view : (p : Plain) → StandsFor e p → place_in (view p session).tables name ≡ n
@@ -101,7 +116,7 @@ are_there : (s : Staged) (hits : List (ℕ × Place)) → AreFound s hits → Ar
 are_there s [] h = tt
 are_there s (x ∷ xs) h = (ap is_some h.1, are_there s xs h.4)
 
-are_given : (e : Held) (p : Plain) (n : ℕ) (table : Staged) (hits : List (ℕ × Place)) → StandsFor e p → slice_get e.staged n ≡ Some table → AreFound table hits → AreGiven e.next_id hits
+are_given : (e : Held) (p : Plain) (n : ℕ) (table : Staged) (hits : List (ℕ × Place)) → StandsFor e p → slice_get e.rows.staged n ≡ Some table → AreFound table hits → AreGiven e.counts.next_id hits
 are_given e p n table [] s at h = tt
 are_given e p n table (x ∷ xs) s at h = (low, are_given e p n table xs s at h.4)
   where
@@ -109,10 +124,10 @@ are_given e p n table (x ∷ xs) s at h = (low, are_given e p n table xs s at h.
     nothing y g = cc
 
     held_is : s.rows.held x.0 ≡ Some (stamped_in n h.0)
-    held_is = ap s.rows.held (sym h.2) ∙ s.rows.places.each n x.1 h.0 (here e.staged n table x.1 at ∙ h.1) h.3
+    held_is = ap s.rows.held (sym h.2) ∙ s.rows.places.each n x.1 h.0 (here e.rows.staged n table x.1 at ∙ h.1) h.3
 
-    low : x.0 < e.next_id
-    low = elim (cases_lt x.0 e.next_id) [ inl lt ↦ lt | inr le ↦ absurd (nothing (stamped_in n h.0) (sym (s.rows.free x.0 le) ∙ held_is)) ]
+    low : x.0 < e.counts.next_id
+    low = elim (cases_lt x.0 e.counts.next_id) [ inl lt ↦ lt | inr le ↦ absurd (nothing (stamped_in n h.0) (sym (s.rows.free x.0 le) ∙ held_is)) ]
 
 -- sorted ids below a number are at most so many
 sorted_above : (a b : ℕ) (hits : List (ℕ × Place)) → T (is_sorted nat_cmp hits) → AreGiven b hits → ((x : ℕ × Place) (xs : List (ℕ × Place)) → hits ≡ x ∷ xs → a ≤ x.0) → a ≤ b → a + length hits ≤ b
@@ -130,15 +145,15 @@ sorted_above a b (x ∷ xs) sorted g low le =
 -- what holds of the places that were found
 pub record FoundAt (e : Held) (n : ℕ) (hits : List (ℕ × Place)) : Type 0 where
   pub table : Staged
-  pub at : slice_get e.staged n ≡ Some table
+  pub at : slice_get e.rows.staged n ≡ Some table
   pub found : AreFound table hits
   pub there : AreThere table hits
-  pub given : AreGiven e.next_id hits
-  pub few : length hits ≤ e.next_id
+  pub given : AreGiven e.counts.next_id hits
+  pub few : length hits ≤ e.counts.next_id
 
 pub found_places : (e : Held) (p : Plain) (session n : ℕ) (preds : List Pred) (hits : List (ℕ × Place)) → session < 17 → StandsFor e p → Looked e session n preds hits → FoundAt e n hits
 found_places e p session n preds hits small s l =
     let found = AreFound-hits e p session n (meets l.table.columns preds) hits l.table small s l.at l.hits_are in
     let given = are_given e p n l.table hits s l.at found in
-    let few = sorted_above 0 e.next_id hits l.hits_are.scan.sorted given (λ x xs is. omega arith) (omega arith) in
+    let few = sorted_above 0 e.counts.next_id hits l.hits_are.scan.sorted given (λ x xs is. omega arith) (omega arith) in
     record { table = l.table; at = l.at; found = found; there = are_there l.table hits found; given = given; few = omega arith }

@@ -1,5 +1,5 @@
 -- Seats that change, and a store that is the same.
-use Rattle.std.proofs.Common.{ℕ, ◌<◌, ◌≡◌, ◌≢◌, inl, inr, List, length, Option, None, sym, ap, ◌∙◌, subst, arith, slice_set, unwrap_or, map}
+use Rattle.std.proofs.Common.{ℕ, ◌<◌, ◌≡◌, ◌≢◌, inl, inr, List, length, Option, None, sym, ap, ◌∙◌, subst, arith, slice_set, unwrap_or}
 use Rattle.std.proofs.lemmas.Bool.{cases_eq}
 use Rattle.std.specs.Option.{option_map}
 use Rattle.ut_value.specs.declared.entry.Entry.TheVariants.{Txn}
@@ -7,23 +7,12 @@ use Rattle.ut_value.specs.Spelling.{spelling}
 use Rattle.ut_plain.specs.declared.transaction.OpenTransaction.{OpenTransaction}
 use Rattle.ut_plain.specs.Plain.{Plain, Sessions, open_at}
 use Rattle.ut_plain.specs.View.{own_ops}
-use Rattle.ut_stamps.specs.declared.fates.Fate.{Fate}
-use Rattle.ut_stamps.specs.Stamps.{fate_at}
-use Rattle.ut_exact.specs.Exact.{IsExact, AreOpen}
-use Rattle.ut_exact.specs.Work.{AreFree}
-use Rattle.ut_exact.specs.Gone.{IsGone}
-use Rattle.ut_exact.specs.Dropped.{AreDropped}
-use Rattle.ut_exact.specs.Places.{AreHeld, dead_number}
 use Rattle.ut_exact.proofs.SessionLemmas.{at-set_same, at-set_other, AreOpen-renumbered}
-use Rattle.ut_staged.specs.Staged.{Staged, stages_of}
-use Rattle.ut_plain.specs.declared.table.Table.{Table}
-use Rattle.ut_plain.specs.declared.stage.PendingMerge.{PendingMerge}
 use Rattle.ut_txn.specs.declared.opened.Opened.{Opened}
 use Rattle.ut_txn.specs.Seats.{Seat, opened_at, payload_at, number_at, SeatSet, SeatsStay}
 use Rattle.ut_store.specs.Held.{Held}
-use Rattle.ut_store.specs.Stands.{StandsFor, AreSeats, AreMerging, snapshot_of, opened_snapshot}
+use Rattle.ut_store.specs.Stands.{StandsFor, AreSeats, snapshot_of, opened_snapshot}
 use Rattle.ut_store.specs.Answers.{Same}
-use Rattle.ut_staged.specs.Tables.{place_at}
 
 -- the sessions with the transaction of one another
 pub AreSeats-set : (old new : List Seat) (sessions : Sessions) (session : ℕ) (opened : Option Opened) (payload : List ℕ) (t : Option OpenTransaction) → 0 < session → session < 17 → length sessions ≡ 17
@@ -56,23 +45,21 @@ numbers-stay old new r c = ap (λ o. unwrap_or (option_map (λ (x : Opened). x.n
 
 -- a store that is the same stands for the same
 pub stands-same : (old new : Held) (p : Plain) → Same old new → StandsFor old p → StandsFor new p
-stands-same old new p c s = record {
+stands-same old new p c s = subst (λ (x : Held). StandsFor x p) (λ i. record { rows = sym c.rows i; seats = new.seats; counts = sym c.counts i; frame = new.frame }) (record {
   plain = s.plain;
-  counts = record { tables = c.tables ∙ s.counts.tables; commits = c.commits ∙ s.counts.commits; merges = c.merges ∙ s.counts.merges; entries = c.entries ∙ s.counts.entries; next_id = c.next_id ∙ s.counts.next_id; rows_limit = c.rows_limit ∙ s.counts.rows_limit; pending = c.pending ∙ s.counts.pending };
+  counts = record { tables = s.counts.tables; commits = s.counts.commits; merges = s.counts.merges; entries = s.counts.entries; next_id = s.counts.next_id; rows_limit = s.counts.rows_limit; pending = s.counts.pending };
   seats = seats-stay old.seats new.seats p.sessions c.seats s.seats;
   rows = record {
     held = s.rows.held;
-    places = subst (λ (x : List Fate). AreHeld (place_at new.staged) (IsGone x p.sessions) s.rows.held) (sym c.fates) (subst (λ (x : List Staged). AreHeld (place_at x) (IsGone old.fates p.sessions) s.rows.held) (sym c.staged) s.rows.places);
-    dropped = subst (λ (x : List Fate). AreDropped p.stages (IsGone x p.sessions) s.rows.held) (sym c.fates) s.rows.dropped;
-    free = subst (λ n. AreFree s.rows.held n) (sym c.next_id) s.rows.free;
-    exact = subst (λ (x : List Fate). IsExact x s.rows.held p.journal p.opening) (sym c.fates) s.rows.exact;
-    transactions = AreOpen-renumbered new.fates s.rows.held p.sessions (number_at old.seats) (number_at new.seats) p.journal p.opening
-        (λ r t h. numbers-stay old.seats new.seats r c.seats)
-        (subst (λ (x : List Fate). AreOpen x s.rows.held p.sessions (number_at old.seats) p.journal p.opening) (sym c.fates) s.rows.transactions);
-    dead = ap (λ (x : List Fate). fate_at x dead_number) c.fates ∙ s.rows.dead;
-    started = subst (λ (x : List Fate). dead_number < length x) (sym c.fates) s.rows.started;
-    stages = s.rows.stages ∙ ap (λ (x : List Staged). map stages_of x) (sym c.staged);
-    columns = ap (λ (x : List Staged). map (λ (y : Staged). y.columns) x) c.staged ∙ s.rows.columns ∙ ap (λ (x : List Table). map (λ (y : Table). y.columns) x) (sym c.tables);
-    merging = subst (λ (x : Option PendingMerge). AreMerging x (map (λ (y : Staged). y.merge) new.staged)) (sym c.pending) (subst (λ (x : List Staged). AreMerging old.pending (map (λ (y : Staged). y.merge) x)) (sym c.staged) s.rows.merging);
+    places = s.rows.places;
+    dropped = s.rows.dropped;
+    free = s.rows.free;
+    exact = s.rows.exact;
+    transactions = AreOpen-renumbered old.rows.fates s.rows.held p.sessions (number_at old.seats) (number_at new.seats) p.journal p.opening (λ r t h. numbers-stay old.seats new.seats r c.seats) s.rows.transactions;
+    dead = s.rows.dead;
+    started = s.rows.started;
+    stages = s.rows.stages;
+    columns = s.rows.columns;
+    merging = s.rows.merging;
   };
-}
+})

@@ -1,80 +1,66 @@
 -- A transaction that was started for nothing.
-use Rattle.std.proofs.Common.{ℕ, ◌≡◌, List, [], ◌∷◌, ◌++◌, length, length-append, length-set, map, Option, refl, sym, ap, ◌∙◌, subst, arith, IsTrue, slice_set}
-use Rattle.ut_plain.specs.declared.table.Table.{Table}
-use Rattle.ut_plain.specs.declared.stage.PendingMerge.{PendingMerge}
-use Rattle.ut_plain.specs.declared.reply.Reply.TheVariants as replies
-use Rattle.ut_plain.specs.declared.reply.Refusal.TheVariants as refusals
-use Rattle.ut_plain.specs.declared.statement.Statement.{Statement}
+use Rattle.std.proofs.Common.{ℕ, ◌≡◌, List, [], ◌∷◌, ◌++◌, length, length-append, length-set, Some, refl, sym, ap, ◌∙◌, subst, arith, slice_get, slice_set}
 use Rattle.ut_plain.specs.Plain.{Plain}
-use Rattle.ut_plain.specs.Step.{LacksMemory}
 use Rattle.ut_stamps.specs.declared.fates.Fate.{Fate}
 use Rattle.ut_stamps.specs.declared.fates.Fate.TheVariants.{Running, Aborted}
-use Rattle.ut_exact.specs.Work.{AreFree}
 use Rattle.ut_exact.specs.Gone.{IsGone}
 use Rattle.ut_exact.proofs.GoneLemmas.{gone-alone}
 use Rattle.ut_exact.proofs.PlaceLemmas.{AreHeld-gone}
 use Rattle.ut_exact.proofs.DroppedLemmas.{AreDropped-gone}
-use Rattle.ut_exact.specs.Places.{AreHeld}
 use Rattle.ut_exact.proofs.FateLemmas.{fate-push_new}
 use Rattle.ut_exact.proofs.ExactLemmas.{IsExact-start, IsExact-abort}
 use Rattle.ut_exact.proofs.SessionLemmas.{AreOpen-alone, AreOpen-renumbered}
-use Rattle.ut_staged.specs.Staged.{Staged, stages_of}
+use Rattle.ut_staged.specs.Staged.{Staged}
+use Rattle.ut_table.specs.Contents.{TableValue}
 use Rattle.ut_txn.specs.Seats.{number_at, SeatsStay}
-use Rattle.ut_store.specs.declared.turn.Turn.{Turn}
-use Rattle.ut_store.specs.declared.turn.Turn.TheVariants.{Answered}
 use Rattle.ut_store.specs.Held.{Held}
-use Rattle.ut_store.specs.Stands.{StandsFor, AreRows, AreMerging}
-use Rattle.ut_store.specs.Answers.{Answers}
-use Rattle.ut_store.specs.Standing.{changes_rows}
+use Rattle.ut_store.specs.Stands.{StandsFor}
 use Rattle.ut_store.specs.Changes.{Stays}
+use Rattle.ut_store.proofs.IndexLemmas.{stages_in, stages_same, seats_itself}
 use Rattle.ut_store.proofs.SeatLemmas.{seats-stay, numbers-stay}
 use Rattle.ut_store.proofs.StandsLemmas.{dead_set, dead_pushed}
-use Rattle.ut_store.proofs.FinishLemmas.{may_lack}
 use Rattle.ut_staged.specs.Tables.{place_at}
 
 -- The store is as before, but for room and the fate of one transaction more, which aborted.
-pub record Spent (old new : Held) : Type 0 where
-  pub tables : new.tables ≡ old.tables
-  pub staged : new.staged ≡ old.staged
-  pub fates : new.fates ≡ slice_set (old.fates ++ Running ∷ []) (length old.fates) Aborted
+record Spent (old new : Held) : Type 0 where
+  pub rows : new.rows ≡ record old.rows { fates = slice_set (old.rows.fates ++ Running ∷ []) (length old.rows.fates) Aborted }
   pub seats : SeatsStay old.seats new.seats
-  pub next_id : new.next_id ≡ old.next_id
-  pub rows_limit : new.rows_limit ≡ old.rows_limit
-  pub commits : new.commits ≡ old.commits
-  pub merges : new.merges ≡ old.merges
-  pub entries : new.entries ≡ old.entries
-  pub pending : new.pending ≡ old.pending
+  pub counts : new.counts ≡ old.counts
 
-pub stands-spent : (old new : Held) → Spent old new → Stays old new
-stands-spent old new c = record { each = λ p s. by p s }
+stands-spent : (old new : Held) → Spent old new → Stays old new
+stands-spent old new c = record { each = λ p s. subst (λ (x : Held). StandsFor x p) (λ i. record { rows = sym c.rows i; seats = new.seats; counts = sym c.counts i; frame = new.frame }) (by p s) }
   where
-    by : (p : Plain) → StandsFor old p → StandsFor new p
+    by : (p : Plain) → StandsFor old p → StandsFor (record { rows = record old.rows { fates = slice_set (old.rows.fates ++ Running ∷ []) (length old.rows.fates) Aborted }; seats = new.seats; counts = old.counts; frame = new.frame }) p
     by p s =
-        let n = length old.fates in
-        let fates = slice_set (old.fates ++ Running ∷ []) (length old.fates) Aborted in
+        let n = length old.rows.fates in
+        let fates = slice_set (old.rows.fates ++ Running ∷ []) n Aborted in
         record {
           plain = s.plain;
-          counts = record { tables = c.tables ∙ s.counts.tables; commits = c.commits ∙ s.counts.commits; merges = c.merges ∙ s.counts.merges; entries = c.entries ∙ s.counts.entries; next_id = c.next_id ∙ s.counts.next_id; rows_limit = c.rows_limit ∙ s.counts.rows_limit; pending = c.pending ∙ s.counts.pending };
+          counts = record { tables = s.counts.tables; commits = s.counts.commits; merges = s.counts.merges; entries = s.counts.entries; next_id = s.counts.next_id; rows_limit = s.counts.rows_limit; pending = s.counts.pending };
           seats = seats-stay old.seats new.seats p.sessions c.seats s.seats;
-          rows = subst (λ (x : List Fate). AreRows (record new { fates = x }) p) (sym c.fates) (record {
+          rows = record {
             held = s.rows.held;
-            places = subst (λ (x : List Staged). AreHeld (place_at x) (IsGone fates p.sessions) s.rows.held) (sym c.staged) (AreHeld-gone (place_at old.staged) (IsGone old.fates p.sessions) (IsGone fates p.sessions) s.rows.held (λ x. gone-alone old.fates p.sessions x Aborted) s.rows.places);
-            dropped = AreDropped-gone p.stages (IsGone old.fates p.sessions) (IsGone fates p.sessions) s.rows.held (λ x. gone-alone old.fates p.sessions x Aborted) s.rows.dropped;
-            free = subst (λ m. AreFree s.rows.held m) (sym c.next_id) s.rows.free;
-            exact = IsExact-abort (old.fates ++ Running ∷ []) s.rows.held p.journal p.opening (length old.fates) (fate-push_new old.fates Running) (IsExact-start old.fates s.rows.held p.journal p.opening s.rows.exact);
+            places = AreHeld-gone (place_at old.rows.staged) (IsGone old.rows.fates p.sessions) (IsGone fates p.sessions) s.rows.held (λ x. gone-alone old.rows.fates p.sessions x Aborted) s.rows.places;
+            dropped = AreDropped-gone p.stages (IsGone old.rows.fates p.sessions) (IsGone fates p.sessions) s.rows.held (λ x. gone-alone old.rows.fates p.sessions x Aborted) s.rows.dropped;
+            free = s.rows.free;
+            exact = IsExact-abort (old.rows.fates ++ Running ∷ []) s.rows.held p.journal p.opening n (fate-push_new old.rows.fates Running) (IsExact-start old.rows.fates s.rows.held p.journal p.opening s.rows.exact);
             transactions = AreOpen-renumbered fates s.rows.held p.sessions (number_at old.seats) (number_at new.seats) p.journal p.opening (λ r u g. numbers-stay old.seats new.seats r c.seats)
-                (AreOpen-alone old.fates Aborted s.rows.held s.rows.held p.sessions (number_at old.seats) p.journal p.journal p.opening refl (omega arith) (λ r u other x. x) s.rows.transactions);
-            dead = dead_set (old.fates ++ Running ∷ []) (length old.fates) Aborted (fate-push_new old.fates Running) (dead_pushed old.fates Running s.rows.started s.rows.dead);
-            started = omega (arith, s.rows.started, length-set (old.fates ++ Running ∷ []) (length old.fates) Aborted, length-append old.fates (Running ∷ []));
-            stages = s.rows.stages ∙ ap (λ (x : List Staged). map stages_of x) (sym c.staged);
-            columns = ap (λ (x : List Staged). map (λ (y : Staged). y.columns) x) c.staged ∙ s.rows.columns ∙ ap (λ (x : List Table). map (λ (y : Table). y.columns) x) (sym c.tables);
-            merging = subst (λ (x : Option PendingMerge). AreMerging x (map (λ (y : Staged). y.merge) new.staged)) (sym c.pending) (subst (λ (x : List Staged). AreMerging old.pending (map (λ (y : Staged). y.merge) x)) (sym c.staged) s.rows.merging);
-          });
+                (AreOpen-alone old.rows.fates Aborted s.rows.held s.rows.held p.sessions (number_at old.seats) p.journal p.journal p.opening refl (omega arith) (λ r u other x. x) s.rows.transactions);
+            dead = dead_set (old.rows.fates ++ Running ∷ []) n Aborted (fate-push_new old.rows.fates Running) (dead_pushed old.rows.fates Running s.rows.started s.rows.dead);
+            started = omega (arith, s.rows.started, length-set (old.rows.fates ++ Running ∷ []) n Aborted, length-append old.rows.fates (Running ∷ []));
+            stages = s.rows.stages;
+            columns = s.rows.columns;
+            merging = s.rows.merging;
+          };
         }
 
-pub spent_by : (old e new : Held) → e ≡ old → Spent e new → Stays old new
-spent_by old e new h s = stands-spent old new (subst (λ x. Spent x new) h s)
-
-pub answers_stays : (e new : Held) (session : ℕ) (st : Statement) (turn : Turn) → IsTrue (changes_rows st) → turn ≡ Answered (replies.Refused refusals.Memory) → Stays e new → Answers e session st turn new
-answers_stays e new session st turn kind is stays = subst (λ t. Answers e session st t new) (sym is)
-    (record { each = λ p s. record { after = p; may = LacksMemory (may_lack st kind) refl refl; stands = stays.each p s; logs = refl } })
+-- one table has more room, and the transaction is given up
+pub spent_by : (inside e : Held) (items : List TableValue) (n : ℕ) (now : TableValue) (s : Staged) (fates : List Fate) → inside ≡ e → inside.rows.staged ≡ stages_in items → slice_get e.rows.staged n ≡ Some s → now.stages ≡ s
+    → fates ≡ slice_set (inside.rows.fates ++ Running ∷ []) (length inside.rows.fates) Aborted → Stays e (record inside { rows = record inside.rows { staged = stages_in (slice_set items n now); fates = fates } })
+spent_by inside e items n now s fates same are at is aborted =
+    let there : slice_get (stages_in items) n ≡ Some s = ap (λ ss. slice_get ss n) (sym are ∙ ap (λ (h : Held). h.rows.staged) same) ∙ at in
+    stands-spent e _ (subst (λ (x : Held). Spent x (record inside { rows = record inside.rows { staged = stages_in (slice_set items n now); fates = fates } })) same (record {
+      rows = λ i. record inside.rows { staged = (stages_same items n now s there is ∙ sym are) i; fates = aborted i };
+      seats = seats_itself inside.seats;
+      counts = refl;
+    }))

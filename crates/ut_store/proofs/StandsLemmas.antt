@@ -41,6 +41,7 @@ use Rattle.ut_store.specs.Held.{Held}
 use Rattle.ut_store.specs.Stands.{StandsFor, AreCounts, AreSeats, AreRows}
 use Rattle.ut_store.specs.Answers.{Answer, Answers, Same, Logs, reply_of}
 use Rattle.ut_store.specs.Allowed.{IsRefused}
+use Rattle.ut_store.proofs.IndexLemmas.{some_inside}
 use Rattle.ut_store.proofs.ReadLemmas.{SameSession, Closed, Open, same_session}
 use Rattle.ut_store.proofs.SeatLemmas.{AreSeats-set, numbers-set, stands-same}
 use Rattle.ut_staged.specs.Tables.{place_at}
@@ -81,7 +82,7 @@ pub no_memory : (e new : Held) (session : ℕ) (st : Statement) → IsTrue (may_
 no_memory e new session st may same = record { each = λ p s. record { after = p; may = LacksMemory may refl refl; stands = stands-same e new p same s; logs = refl } }
 
 pub itself_same : (e : Held) → Same e e
-itself_same e = record { tables = refl; staged = refl; fates = refl; seats = record { count = refl; opened = λ s. refl; payloads = λ s. refl }; next_id = refl; rows_limit = refl; commits = refl; merges = refl; entries = refl; pending = refl }
+itself_same e = record { rows = refl; seats = record { count = refl; opened = λ s. refl; payloads = λ s. refl }; counts = refl }
 
 -- a statement that only tells
 pub tells : (e new : Held) (session : ℕ) (st : Statement) (reply : Reply) → IsTrue (is_spelled st) → IsRefused e session st None → Same e new
@@ -98,8 +99,8 @@ pub dead_pushed : (fates : List Fate) (f : Fate) → dead_number < length fates 
 dead_pushed fates f lt is = fate-push_old fates dead_number f (λ same. absurd (omega (arith, same, lt))) ∙ is
 
 pub began : (e : Held) (seats : List Seat) (frame : List ℕ) (session : ℕ) → 0 < session → session < 17 → IsRefused e session Begin None → opened_at e.seats session ≡ None
-    → SeatSet e.seats seats session (Some (record { snapshot = e.entries; number = length e.fates })) (payload_at e.seats session)
-    → Answers e session Begin (Answered replies.Done) (record e { fates = e.fates ++ Running ∷ []; seats = seats; frame = frame })
+    → SeatSet e.seats seats session (Some (record { snapshot = e.counts.entries; number = length e.rows.fates })) (payload_at e.seats session)
+    → Answers e session Begin (Answered replies.Done) (record e { rows = record e.rows { fates = e.rows.fates ++ Running ∷ [] }; seats = seats; frame = frame })
 began e seats frame session some small h closed set = record {
   each = λ p s.
       let t : OpenTransaction = record { snapshot = journal_len p.journal; ops = [] } in
@@ -111,15 +112,15 @@ began e seats frame session some small h closed set = record {
       (s.seats.payloads session small ∙ ap (λ o. spelling (entries.Txn (own_ops o))) none) set s.seats)
       (record {
         held = s.rows.held;
-        places = AreHeld-gone (place_at e.staged) (IsGone e.fates p.sessions) (IsGone (e.fates ++ Running ∷ []) (slice_set p.sessions session (Some t))) s.rows.held (stays p s) s.rows.places;
-        dropped = AreDropped-gone p.stages (IsGone e.fates p.sessions) (IsGone (e.fates ++ Running ∷ []) (slice_set p.sessions session (Some t))) s.rows.held (stays p s) s.rows.dropped;
+        places = AreHeld-gone (place_at e.rows.staged) (IsGone e.rows.fates p.sessions) (IsGone (e.rows.fates ++ Running ∷ []) (slice_set p.sessions session (Some t))) s.rows.held (stays p s) s.rows.places;
+        dropped = AreDropped-gone p.stages (IsGone e.rows.fates p.sessions) (IsGone (e.rows.fates ++ Running ∷ []) (slice_set p.sessions session (Some t))) s.rows.held (stays p s) s.rows.dropped;
         free = s.rows.free;
-        exact = IsExact-start e.fates s.rows.held p.journal p.opening s.rows.exact;
-        transactions = AreOpen-begun e.fates s.rows.held p.sessions (number_at e.seats) (number_at seats) p.journal p.opening session t
+        exact = IsExact-start e.rows.fates s.rows.held p.journal p.opening s.rows.exact;
+        transactions = AreOpen-begun e.rows.fates s.rows.held p.sessions (number_at e.seats) (number_at seats) p.journal p.opening session t
             (omega (arith, small, s.plain.seats)) (ap (λ o. unwrap_or (option_map (λ (x : Opened). x.number) o) 0) set.opened)
             (λ r other. numbers-set e.seats seats session _ _ r set other) none refl refl s.plain.opened.1 s.rows.exact s.rows.transactions;
-        dead = dead_pushed e.fates Running s.rows.started s.rows.dead;
-        started = omega (arith, s.rows.started, length-append e.fates (Running ∷ []));
+        dead = dead_pushed e.rows.fates Running s.rows.started s.rows.dead;
+        started = omega (arith, s.rows.started, length-append e.rows.fates (Running ∷ []));
         stages = s.rows.stages;
         columns = s.rows.columns;
         merging = s.rows.merging;
@@ -134,10 +135,10 @@ began e seats frame session some small h closed set = record {
     is_closed p (Open t o own seat same) = absurd (nothing o (sym closed ∙ seat))
 
     -- what is gone isn't seen by it either
-    stays : (p : Plain) (s : StandsFor e p) (x : Stamp) → IsGone e.fates p.sessions x → IsGone (e.fates ++ Running ∷ []) (slice_set p.sessions session (Some (record { snapshot = journal_len p.journal; ops = [] }))) x
+    stays : (p : Plain) (s : StandsFor e p) (x : Stamp) → IsGone e.rows.fates p.sessions x → IsGone (e.rows.fates ++ Running ∷ []) (slice_set p.sessions session (Some (record { snapshot = journal_len p.journal; ops = [] }))) x
     stays p s x g =
         let t : OpenTransaction = record { snapshot = journal_len p.journal; ops = [] } in
-        gone-started e.fates (slice_set p.sessions session (Some t)) x (gone-begun e.fates p.sessions x session (journal_len p.journal) t (omega (arith, small, s.plain.seats)) refl s.rows.exact.within g)
+        gone-started e.rows.fates (slice_set p.sessions session (Some t)) x (gone-begun e.rows.fates p.sessions x session (journal_len p.journal) t (omega (arith, small, s.plain.seats)) refl s.rows.exact.within g)
 
 -- ---- a transaction ends
 
@@ -169,12 +170,9 @@ open_on e p session o is seats = by (same_session e p session seats)
     nothing : None ≡ Some o → ⊥
     nothing g = cc
 
-    inside : (a b : Opened) → Some a ≡ Some b → a ≡ b
-    inside a b g = ap (λ q. unwrap_or q a) g
-
     by : SameSession e p session (open_at p.sessions session) → IsOpenOn e p session o
     by (Closed own seat) = absurd (nothing (sym seat ∙ is))
-    by (Open t other own seat same) = By t own (ap (λ (x : Opened). x.snapshot) (inside o other (sym is ∙ seat)) ∙ same)
+    by (Open t other own seat same) = By t own (ap (λ (x : Opened). x.snapshot) (some_inside o other (sym is ∙ seat)) ∙ same)
 
 pub number_is : (seats : List Seat) (session : ℕ) (o : Opened) → opened_at seats session ≡ Some o → number_at seats session ≡ o.number
 number_is seats session o is = ap (λ x. unwrap_or (option_map (λ (y : Opened). y.number) x) 0) is
@@ -182,30 +180,30 @@ number_is seats session o is = ap (λ x. unwrap_or (option_map (λ (y : Opened).
 -- the transaction's work is forgotten
 abandoned_rows : (e : Held) (seats : List Seat) (frame : List ℕ) (session : ℕ) (o : Opened) (payload : List ℕ) (p q : Plain) (t : OpenTransaction) → session < 17 → opened_at e.seats session ≡ Some o → open_at p.sessions session ≡ Some t
     → SeatSet e.seats seats session None payload → q.journal ≡ p.journal → q.opening ≡ p.opening → q.stages ≡ p.stages → q.sessions ≡ slice_set p.sessions session None → StandsFor e p
-    → AreRows (record e { fates = slice_set e.fates o.number Aborted; seats = seats; frame = frame }) q
+    → AreRows (record e { rows = record e.rows { fates = slice_set e.rows.fates o.number Aborted }; seats = seats; frame = frame }) q
 abandoned_rows e seats frame session o payload p q t small is opened set journal opening stages sessions s =
     let number = number_is e.seats session o is in
     let inside : session < length p.sessions = omega (arith, small, s.plain.seats) in
-    let runs : fate_at e.fates o.number ≡ Running = ap (fate_at e.fates) (sym number) ∙ (s.rows.transactions.own session t opened).running in
-    let ended = AreOpen-closed e.fates Aborted s.rows.held p.sessions (number_at e.seats) p.journal p.journal p.opening session t inside opened refl (omega arith) s.rows.transactions in
+    let runs : fate_at e.rows.fates o.number ≡ Running = ap (fate_at e.rows.fates) (sym number) ∙ (s.rows.transactions.own session t opened).running in
+    let ended = AreOpen-closed e.rows.fates Aborted s.rows.held p.sessions (number_at e.seats) p.journal p.journal p.opening session t inside opened refl (omega arith) s.rows.transactions in
     record {
       held = s.rows.held;
-      places = subst (λ ss. AreHeld (place_at e.staged) (IsGone (slice_set e.fates o.number Aborted) ss) s.rows.held) (sym sessions) (AreHeld-gone (place_at e.staged) (IsGone e.fates p.sessions) (IsGone (slice_set e.fates o.number Aborted) (slice_set p.sessions session None)) s.rows.held
-          (λ x g. gone-ended e.fates (slice_set p.sessions session None) x o.number Aborted runs (gone-closed e.fates p.sessions x session inside g)) s.rows.places);
-      dropped = subst (λ ss. AreDropped q.stages (IsGone (slice_set e.fates o.number Aborted) ss) s.rows.held) (sym sessions) (subst (λ st. AreDropped st (IsGone (slice_set e.fates o.number Aborted) (slice_set p.sessions session None)) s.rows.held) (sym stages)
-          (AreDropped-gone p.stages (IsGone e.fates p.sessions) (IsGone (slice_set e.fates o.number Aborted) (slice_set p.sessions session None)) s.rows.held
-          (λ x g. gone-ended e.fates (slice_set p.sessions session None) x o.number Aborted runs (gone-closed e.fates p.sessions x session inside g)) s.rows.dropped));
+      places = subst (λ ss. AreHeld (place_at e.rows.staged) (IsGone (slice_set e.rows.fates o.number Aborted) ss) s.rows.held) (sym sessions) (AreHeld-gone (place_at e.rows.staged) (IsGone e.rows.fates p.sessions) (IsGone (slice_set e.rows.fates o.number Aborted) (slice_set p.sessions session None)) s.rows.held
+          (λ x g. gone-ended e.rows.fates (slice_set p.sessions session None) x o.number Aborted runs (gone-closed e.rows.fates p.sessions x session inside g)) s.rows.places);
+      dropped = subst (λ ss. AreDropped q.stages (IsGone (slice_set e.rows.fates o.number Aborted) ss) s.rows.held) (sym sessions) (subst (λ st. AreDropped st (IsGone (slice_set e.rows.fates o.number Aborted) (slice_set p.sessions session None)) s.rows.held) (sym stages)
+          (AreDropped-gone p.stages (IsGone e.rows.fates p.sessions) (IsGone (slice_set e.rows.fates o.number Aborted) (slice_set p.sessions session None)) s.rows.held
+          (λ x g. gone-ended e.rows.fates (slice_set p.sessions session None) x o.number Aborted runs (gone-closed e.rows.fates p.sessions x session inside g)) s.rows.dropped));
       free = s.rows.free;
-      exact = subst (λ j. IsExact (slice_set e.fates o.number Aborted) s.rows.held j q.opening) (sym journal)
-          (subst (λ n. IsExact (slice_set e.fates o.number Aborted) s.rows.held p.journal n) (sym opening) (IsExact-abort e.fates s.rows.held p.journal p.opening o.number runs s.rows.exact));
-      transactions = subst (λ ss. AreOpen (slice_set e.fates o.number Aborted) s.rows.held ss (number_at seats) q.journal q.opening) (sym sessions)
-          (subst (λ j. AreOpen (slice_set e.fates o.number Aborted) s.rows.held (slice_set p.sessions session None) (number_at seats) j q.opening) (sym journal)
-          (subst (λ n. AreOpen (slice_set e.fates o.number Aborted) s.rows.held (slice_set p.sessions session None) (number_at seats) p.journal n) (sym opening)
-          (subst (λ n. AreOpen (slice_set e.fates n Aborted) s.rows.held (slice_set p.sessions session None) (number_at seats) p.journal p.opening) number
-          (AreOpen-renumbered (slice_set e.fates (number_at e.seats session) Aborted) s.rows.held (slice_set p.sessions session None) (number_at e.seats) (number_at seats) p.journal p.opening
+      exact = subst (λ j. IsExact (slice_set e.rows.fates o.number Aborted) s.rows.held j q.opening) (sym journal)
+          (subst (λ n. IsExact (slice_set e.rows.fates o.number Aborted) s.rows.held p.journal n) (sym opening) (IsExact-abort e.rows.fates s.rows.held p.journal p.opening o.number runs s.rows.exact));
+      transactions = subst (λ ss. AreOpen (slice_set e.rows.fates o.number Aborted) s.rows.held ss (number_at seats) q.journal q.opening) (sym sessions)
+          (subst (λ j. AreOpen (slice_set e.rows.fates o.number Aborted) s.rows.held (slice_set p.sessions session None) (number_at seats) j q.opening) (sym journal)
+          (subst (λ n. AreOpen (slice_set e.rows.fates o.number Aborted) s.rows.held (slice_set p.sessions session None) (number_at seats) p.journal n) (sym opening)
+          (subst (λ n. AreOpen (slice_set e.rows.fates n Aborted) s.rows.held (slice_set p.sessions session None) (number_at seats) p.journal p.opening) number
+          (AreOpen-renumbered (slice_set e.rows.fates (number_at e.seats session) Aborted) s.rows.held (slice_set p.sessions session None) (number_at e.seats) (number_at seats) p.journal p.opening
           (λ r u g. renumbered e.seats seats p.sessions session None payload r u inside set g) ended))));
-      dead = dead_set e.fates o.number Aborted runs s.rows.dead;
-      started = omega (arith, s.rows.started, length-set e.fates o.number Aborted);
+      dead = dead_set e.rows.fates o.number Aborted runs s.rows.dead;
+      started = omega (arith, s.rows.started, length-set e.rows.fates o.number Aborted);
       stages = stages ∙ s.rows.stages;
       columns = s.rows.columns;
       merging = s.rows.merging;
@@ -217,10 +215,10 @@ no_payload = spelling (entries.Txn [])
 
 pub gave_up : (e : Held) (seats : List Seat) (frame : List ℕ) (session : ℕ) (o : Opened) → 0 < session → session < 17 → IsRefused e session Abort None → opened_at e.seats session ≡ Some o
     → SeatSet e.seats seats session None no_payload
-    → Answers e session Abort (Answered replies.Done) (record e { fates = slice_set e.fates o.number Aborted; seats = seats; frame = frame })
+    → Answers e session Abort (Answered replies.Done) (record e { rows = record e.rows { fates = slice_set e.rows.fates o.number Aborted }; seats = seats; frame = frame })
 gave_up e seats frame session o some small h is set = record { each = λ p s. by p s (open_on e p session o is s.seats) }
   where
-    by : (p : Plain) (s : StandsFor e p) → IsOpenOn e p session o → Answer e session Abort (Answered replies.Done) (record e { fates = slice_set e.fates o.number Aborted; seats = seats; frame = frame }) p
+    by : (p : Plain) (s : StandsFor e p) → IsOpenOn e p session o → Answer e session Abort (Answered replies.Done) (record e { rows = record e.rows { fates = slice_set e.rows.fates o.number Aborted }; seats = seats; frame = frame }) p
     by p s (By t opened look) =
         answer_by e _ session Abort (Answered replies.Done) p (record { reply = replies.Done; plain = closed p session }) refl (h.is p s) s refl refl
         (record { tables = s.counts.tables; commits = s.counts.commits; merges = s.counts.merges; entries = s.counts.entries; next_id = s.counts.next_id; rows_limit = s.counts.rows_limit; pending = s.counts.pending })
@@ -230,10 +228,10 @@ gave_up e seats frame session o some small h is set = record { each = λ p s. by
 
 pub committed_nothing : (e : Held) (seats : List Seat) (frame : List ℕ) (session : ℕ) (o : Opened) → 0 < session → session < 17 → IsRefused e session Commit None → opened_at e.seats session ≡ Some o
     → payload_at e.seats session ≡ no_payload → ((os : List Op) → payload_at e.seats session ≡ spelling (entries.Txn os) → os ≡ []) → SeatSet e.seats seats session None no_payload
-    → Answers e session Commit (Answered replies.Done) (record e { fates = slice_set e.fates o.number Aborted; seats = seats; frame = frame })
+    → Answers e session Commit (Answered replies.Done) (record e { rows = record e.rows { fates = slice_set e.rows.fates o.number Aborted }; seats = seats; frame = frame })
 committed_nothing e seats frame session o some small h is empty only set = record { each = λ p s. by p s (open_on e p session o is s.seats) }
   where
-    by : (p : Plain) (s : StandsFor e p) → IsOpenOn e p session o → Answer e session Commit (Answered replies.Done) (record e { fates = slice_set e.fates o.number Aborted; seats = seats; frame = frame }) p
+    by : (p : Plain) (s : StandsFor e p) → IsOpenOn e p session o → Answer e session Commit (Answered replies.Done) (record e { rows = record e.rows { fates = slice_set e.rows.fates o.number Aborted }; seats = seats; frame = frame }) p
     by p s (By t opened look) =
         let no_ops : t.ops ≡ [] = only t.ops (s.seats.payloads session small ∙ ap (λ x. spelling (entries.Txn (own_ops x))) opened) in
         answer_by e _ session Commit (Answered replies.Done) p (record { reply = replies.Done; plain = closed p session }) refl (h.is p s) s

@@ -37,6 +37,7 @@ use Rattle.ut_store.specs.Held.{Held}
 use Rattle.ut_store.specs.Stands.{StandsFor}
 use Rattle.ut_store.specs.Reads.{looks_at, own_at, counts_for}
 use Rattle.ut_store.specs.Hits.{Hits}
+use Rattle.ut_store.proofs.IndexLemmas.{some_inside}
 use Rattle.ut_store.proofs.ReadLemmas.{reads}
 use Rattle.ut_store.proofs.HitLemmas.{holds}
 use Rattle.ut_staged.specs.Tables.{place_at}
@@ -73,11 +74,8 @@ op_suits tables rows id (ops.Insert table other values) was can spelled h r is =
     new : Suits tables (record { table = table; values = values })
     new = and_both _ _ (and_left _ _ (and_left _ _ (and_left _ (is_none (finmap.get rows other)) can))) (and_right (is_u16 table && is_u32 other) _ spelled)
 
-    inside : (a b : Stored) → Some a ≡ Some b → a ≡ b
-    inside a b e = cc
-
     by : (b : Bool) → cond b (Some (record { table = table; values = values })) was ≡ Some r → Suits tables r
-    by true e = subst (λ x. Suits tables x) (inside (record { table = table; values = values }) r e) new
+    by true e = subst (λ x. Suits tables x) (some_inside (record { table = table; values = values }) r e) new
     by false e = h r e
 op_suits tables rows id (ops.Delete table other) was can spelled h r is = by (nat_eq id other) is
   where
@@ -105,26 +103,23 @@ seen_suits p session id row h is = by (open_at p.sessions session) refl is
 -- the values in these places suit the table
 abbrev pub AllSuit : Held → ℕ → List (ℕ × Place) → Type 0
 AllSuit e n [] = Unit {0}
-AllSuit e n (x ∷ xs) = IsTrue (suits_table e.tables n (stored_in n (place_at e.staged n x.1)).values) × AllSuit e n xs
+AllSuit e n (x ∷ xs) = IsTrue (suits_table e.rows.tables n (stored_in n (place_at e.rows.staged n x.1)).values) × AllSuit e n xs
 
 pub all_suit : (e : Held) (p : Plain) (session n : ℕ) (test : List Value → Bool) (hits : List (ℕ × Place)) → session < 17 → StandsFor e p → Hits e session n test hits → AllSuit e n hits
 all_suit e p session n test hits small s h = by hits (all_found hits h.scan.sorted)
   where
-    one : (id : ℕ) (q : Place) → finmap.find nat_cmp id hits ≡ Some q → IsTrue (suits_table e.tables n (stored_in n (place_at e.staged n q)).values)
+    one : (id : ℕ) (q : Place) → finmap.find nat_cmp id hits ≡ Some q → IsTrue (suits_table e.rows.tables n (stored_in n (place_at e.rows.staged n q)).values)
     one id q is =
         let f = holds e p session n test hits small s h id q is in
         let sound = h.scan.sound id q is in
-        let same : f.0 ≡ sound.0 = inside f.0 sound.0 (sym f.1 ∙ sound.1) in
+        let same : f.0 ≡ sound.0 = some_inside f.0 sound.0 (sym f.1 ∙ sound.1) in
         let shows : shown_by (counts_for e session) (Some (stamped_in n f.0)) ≡ Some (record { table = n; values = f.0.values }) =
-        ap (λ b. cond b (Some (record { table = n; values = f.0.values })) None) (ap (λ (r : StagedRow). sees e.fates (looks_at e session) (own_at e session) r.stamp) same ∙ sound.3) in
+        ap (λ b. cond b (Some (record { table = n; values = f.0.values })) None) (ap (λ (r : StagedRow). sees e.rows.fates (looks_at e session) (own_at e session) r.stamp) same ∙ sound.3) in
         let seen_is : finmap.get (seen p session) id ≡ Some (record { table = n; values = f.0.values }) =
         finmap.get-entries (seen p session) id ∙ (reads e p session small s).shown id ∙ ap (shown_by (counts_for e session)) f.4 ∙ shows in
         let suits = seen_suits p session id (record { table = n; values = f.0.values }) s.plain seen_is in
-        subst (λ ts. IsTrue (suits_table ts n (stored_in n (place_at e.staged n q)).values)) (sym s.counts.tables)
+        subst (λ ts. IsTrue (suits_table ts n (stored_in n (place_at e.rows.staged n q)).values)) (sym s.counts.tables)
         (subst (λ (o : Option StagedRow). IsTrue (suits_table (current p.journal).tables n (stored_in n o).values)) (sym f.1) suits)
-      where
-        inside : (a b : StagedRow) → Some a ≡ Some b → a ≡ b
-        inside a b g = cc
 
     by : (some : List (ℕ × Place)) → AllFound hits some → AllSuit e n some
     by [] a = tt

@@ -58,25 +58,25 @@ merging-created pending merges few h n merge is = by (in_pushed merges None n me
     by (Before was) = h n merge was
 
 -- a pending merge is of a table that is there
-pending_there : (e : Held) (p : Plain) → StandsFor e p → (m : PendingMerge) → e.pending ≡ Some m → m.table < length (map (λ (s : Staged). s.merge) e.staged)
+pending_there : (e : Held) (p : Plain) → StandsFor e p → (m : PendingMerge) → e.counts.pending ≡ Some m → m.table < length (map (λ (s : Staged). s.merge) e.rows.staged)
 pending_there e p s m is = by p.pending (sym s.counts.pending ∙ is) s.plain.merges
   where
-    count : length p.stages ≡ length (map (λ (x : Staged). x.merge) e.staged)
-    count = ap length s.rows.stages ∙ length-map e.staged stages_of ∙ sym (length-map e.staged (λ (x : Staged). x.merge))
+    count : length p.stages ≡ length (map (λ (x : Staged). x.merge) e.rows.staged)
+    count = ap length s.rows.stages ∙ length-map e.rows.staged stages_of ∙ sym (length-map e.rows.staged (λ (x : Staged). x.merge))
 
-    by : (o : Option PendingMerge) → o ≡ Some m → AreMerges o p.stages (current p.journal).merges (journal_len p.journal) → m.table < length (map (λ (x : Staged). x.merge) e.staged)
+    by : (o : Option PendingMerge) → o ≡ Some m → AreMerges o p.stages (current p.journal).merges (journal_len p.journal) → m.table < length (map (λ (x : Staged). x.merge) e.rows.staged)
     by None none all = cc
     by (Some x) same one = let small = one.table in omega (arith, small, count, ap (λ (o : Option PendingMerge). (unwrap_or o x).table) same)
 
 pub made_table : (e : Held) (seats : List Seat) (frame : List ℕ) (session : ℕ) (name : List ℕ) (columns : List Column) → IsTrue (is_spelled (Create name columns)) → IsRefused e session (Create name columns) None
     → frame ≡ spelling (entries.Create name columns) → SeatsStay e.seats seats
-    → Answers e session (Create name columns) (Append (replies.Committed (e.commits + 1)))
-    (record e { tables = e.tables ++ record { name = name; columns = columns } ∷ []; staged = e.staged ++ no_rows columns ∷ []; seats = seats; commits = e.commits + 1; entries = e.entries + 1; frame = frame })
+    → Answers e session (Create name columns) (Append (replies.Committed (e.counts.commits + 1)))
+    (record e { rows = record e.rows { tables = e.rows.tables ++ record { name = name; columns = columns } ∷ []; staged = e.rows.staged ++ no_rows columns ∷ [] }; seats = seats; counts = record e.counts { commits = e.counts.commits + 1; entries = e.counts.entries + 1 }; frame = frame })
 made_table e seats frame session name columns spelled h spells stay = record {
   each = λ p s.
       let entry = entries.Create name columns in
       let now = current-appended p.journal entry in
-      answer_by e _ session (Create name columns) (Append (replies.Committed (e.commits + 1))) p (created p name columns) spelled (h.is p s) s refl
+      answer_by e _ session (Create name columns) (Append (replies.Committed (e.counts.commits + 1))) p (created p name columns) spelled (h.is p s) s refl
       (ap (λ c. replies.Committed (c + 1)) s.counts.commits)
       (record {
         tables = ap (λ ts. ts ++ record { name = name; columns = columns } ∷ []) s.counts.tables ∙ sym (ap (λ (x : State). x.tables) now);
@@ -90,18 +90,18 @@ made_table e seats frame session name columns spelled h spells stay = record {
       (seats-stay e.seats seats p.sessions stay s.seats)
       (record {
         held = s.rows.held;
-        places = AreHeld-moved (place_at e.staged) (place_at (e.staged ++ no_rows columns ∷ [])) (IsGone e.fates p.sessions) s.rows.held (λ m q. q) s.rows.places (created_moved e.staged columns);
-        dropped = AreDropped-same p.stages (p.stages ++ no_stages ∷ []) (IsGone e.fates p.sessions) s.rows.held (same-created p.stages) s.rows.dropped;
+        places = AreHeld-moved (place_at e.rows.staged) (place_at (e.rows.staged ++ no_rows columns ∷ [])) (IsGone e.rows.fates p.sessions) s.rows.held (λ m q. q) s.rows.places (created_moved e.rows.staged columns);
+        dropped = AreDropped-same p.stages (p.stages ++ no_stages ∷ []) (IsGone e.rows.fates p.sessions) s.rows.held (same-created p.stages) s.rows.dropped;
         free = s.rows.free;
-        exact = IsExact-entry e.fates s.rows.held p.journal p.opening entry s.plain.opened.1 refl (λ id. refl) s.rows.exact;
-        transactions = AreOpen-renumbered e.fates s.rows.held p.sessions (number_at e.seats) (number_at seats) (appended p.journal entry) p.opening (λ r u g. numbers-stay e.seats seats r stay)
-            (AreOpen-entry e.fates s.rows.held p.sessions (number_at e.seats) p.journal (appended p.journal entry) p.opening (omega (arith, journal_len-appended p.journal entry)) s.rows.transactions);
+        exact = IsExact-entry e.rows.fates s.rows.held p.journal p.opening entry s.plain.opened.1 refl (λ id. refl) s.rows.exact;
+        transactions = AreOpen-renumbered e.rows.fates s.rows.held p.sessions (number_at e.seats) (number_at seats) (appended p.journal entry) p.opening (λ r u g. numbers-stay e.seats seats r stay)
+            (AreOpen-entry e.rows.fates s.rows.held p.sessions (number_at e.seats) p.journal (appended p.journal entry) p.opening (omega (arith, journal_len-appended p.journal entry)) s.rows.transactions);
         dead = s.rows.dead;
         started = s.rows.started;
-        stages = ap (λ x. x ++ no_stages ∷ []) s.rows.stages ∙ sym (map-append stages_of e.staged (no_rows columns ∷ []));
-        columns = map-append (λ (x : Staged). x.columns) e.staged (no_rows columns ∷ []) ∙ ap (λ x. x ++ columns ∷ []) s.rows.columns
-            ∙ sym (map-append (λ (x : Table). x.columns) e.tables (record { name = name; columns = columns } ∷ []));
-        merging = subst (AreMerging e.pending) (sym (map-append (λ (x : Staged). x.merge) e.staged (no_rows columns ∷ []))) (merging-created e.pending (map (λ (x : Staged). x.merge) e.staged) (pending_there e p s) s.rows.merging);
+        stages = ap (λ x. x ++ no_stages ∷ []) s.rows.stages ∙ sym (map-append stages_of e.rows.staged (no_rows columns ∷ []));
+        columns = map-append (λ (x : Staged). x.columns) e.rows.staged (no_rows columns ∷ []) ∙ ap (λ x. x ++ columns ∷ []) s.rows.columns
+            ∙ sym (map-append (λ (x : Table). x.columns) e.rows.tables (record { name = name; columns = columns } ∷ []));
+        merging = subst (AreMerging e.counts.pending) (sym (map-append (λ (x : Staged). x.merge) e.rows.staged (no_rows columns ∷ []))) (merging-created e.counts.pending (map (λ (x : Staged). x.merge) e.rows.staged) (pending_there e p s) s.rows.merging);
       })
       (entry, refl, spells);
 }
@@ -109,11 +109,11 @@ made_table e seats frame session name columns spelled h spells stay = record {
 -- ---- the first stage is merged into the second
 
 pub moved_rows : (e : Held) (seats : List Seat) (frame : List ℕ) (session : ℕ) (name : List ℕ) (n table : ℕ) (s : Staged) → IsTrue (is_spelled (MergeL1 name n)) → IsRefused e session (MergeL1 name n) None
-    → slice_get e.staged table ≡ Some s → ((p : Plain) → StandsFor e p → place_in (view p session).tables name ≡ table) → SeatsStay e.seats seats
-    → Answers e session (MergeL1 name n) (Answered (replies.Moved (min n (length s.l1)))) (record e { staged = slice_set e.staged table (staged_tables.merged_l1 n s); seats = seats; frame = frame })
+    → slice_get e.rows.staged table ≡ Some s → ((p : Plain) → StandsFor e p → place_in (view p session).tables name ≡ table) → SeatsStay e.seats seats
+    → Answers e session (MergeL1 name n) (Answered (replies.Moved (min n (length s.l1)))) (record e { rows = record e.rows { staged = slice_set e.rows.staged table (staged_tables.merged_l1 n s) }; seats = seats; frame = frame })
 moved_rows e seats frame session name n table s spelled h is place stay = record {
   each = λ p st.
-      let at = stages-here e.staged table s is in
+      let at = stages-here e.rows.staged table s is in
       let here : stages_at p.stages table ≡ stages_of s = ap (λ x. stages_at x table) st.rows.stages ∙ at in
       answer_by e _ session (MergeL1 name n) (Answered (replies.Moved (min n (length s.l1)))) p (merged_l1 p table n) spelled (h.is p st) st (ap (λ k. merged_l1 p k n) (place p st))
       (ap (λ k. replies.Moved (min n k)) (sym (length-map s.l1 placed_of)) ∙ ap (λ x. replies.Moved (moved_count n x)) (sym here))
@@ -121,16 +121,16 @@ moved_rows e seats frame session name n table s spelled h is place stay = record
       (seats-stay e.seats seats p.sessions stay st.seats)
       (record {
         held = st.rows.held;
-        places = AreHeld-moved (place_at e.staged) (place_at (slice_set e.staged table (staged_tables.merged_l1 n s))) (IsGone e.fates p.sessions) st.rows.held (moved_in table (back n (length s.l2))) st.rows.places (moved_l1 e.staged table n s is);
-        dropped = AreDropped-same p.stages (with_stages (moved n) table p.stages) (IsGone e.fates p.sessions) st.rows.held (same-moved n table p.stages) st.rows.dropped;
+        places = AreHeld-moved (place_at e.rows.staged) (place_at (slice_set e.rows.staged table (staged_tables.merged_l1 n s))) (IsGone e.rows.fates p.sessions) st.rows.held (moved_in table (back n (length s.l2))) st.rows.places (moved_l1 e.rows.staged table n s is);
+        dropped = AreDropped-same p.stages (with_stages (moved n) table p.stages) (IsGone e.rows.fates p.sessions) st.rows.held (same-moved n table p.stages) st.rows.dropped;
         free = st.rows.free;
         exact = st.rows.exact;
-        transactions = AreOpen-renumbered e.fates st.rows.held p.sessions (number_at e.seats) (number_at seats) p.journal p.opening (λ r u g. numbers-stay e.seats seats r stay) st.rows.transactions;
+        transactions = AreOpen-renumbered e.rows.fates st.rows.held p.sessions (number_at e.seats) (number_at seats) p.journal p.opening (λ r u g. numbers-stay e.seats seats r stay) st.rows.transactions;
         dead = st.rows.dead;
         started = st.rows.started;
-        stages = (λ i. slice_set (st.rows.stages i) table (moved n (here i))) ∙ ap (slice_set (map stages_of e.staged) table) (sym (stages-moved n s)) ∙ sym (stages-set e.staged table (staged_tables.merged_l1 n s));
-        columns = map-kept (λ (x : Staged). x.columns) e.staged table s (staged_tables.merged_l1 n s) is refl ∙ st.rows.columns;
-        merging = subst (AreMerging e.pending) (sym (map-kept (λ (x : Staged). x.merge) e.staged table s (staged_tables.merged_l1 n s) is refl)) st.rows.merging;
+        stages = (λ i. slice_set (st.rows.stages i) table (moved n (here i))) ∙ ap (slice_set (map stages_of e.rows.staged) table) (sym (stages-moved n s)) ∙ sym (stages-set e.rows.staged table (staged_tables.merged_l1 n s));
+        columns = map-kept (λ (x : Staged). x.columns) e.rows.staged table s (staged_tables.merged_l1 n s) is refl ∙ st.rows.columns;
+        merging = subst (AreMerging e.counts.pending) (sym (map-kept (λ (x : Staged). x.merge) e.rows.staged table s (staged_tables.merged_l1 n s) is refl)) st.rows.merging;
       })
       refl;
 }

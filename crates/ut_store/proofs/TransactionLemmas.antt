@@ -43,32 +43,32 @@ closed_before e session h = by (opened_at e.seats session) (in_front (option_map
     by (Some o) h = cc
 
 -- the transaction of a session runs
-pub runs : (e : Held) (session : ℕ) (o : Opened) → Stands e → opened_at e.seats session ≡ Some o → IsTrue (is_running (fate_at e.fates o.number))
+pub runs : (e : Held) (session : ℕ) (o : Opened) → Stands e → opened_at e.seats session ≡ Some o → IsTrue (is_running (fate_at e.rows.fates o.number))
 runs e session o st is = by (open_on e st.plain session o is st.stands.seats)
   where
-    by : IsOpenOn e st.plain session o → IsTrue (is_running (fate_at e.fates o.number))
-    by (By t own look) = ap is_running (ap (fate_at e.fates) (sym (number_is e.seats session o is)) ∙ (st.stands.rows.transactions.own session t own).running)
+    by : IsOpenOn e st.plain session o → IsTrue (is_running (fate_at e.rows.fates o.number))
+    by (By t own look) = ap is_running (ap (fate_at e.rows.fates) (sym (number_is e.seats session o is)) ∙ (st.stands.rows.transactions.own session t own).running)
 
 -- ---- begin
 
-pub same_fates : (e : Held) (fates : List Fate) → fates ≡ e.fates → Same e (record e { fates = fates })
-same_fates e fates same = record { tables = refl; staged = refl; fates = same; seats = (itself_same e).seats; next_id = refl; rows_limit = refl; commits = refl; merges = refl; entries = refl; pending = refl }
+pub same_fates : (e : Held) (fates : List Fate) → fates ≡ e.rows.fates → Same e (record e { rows = record e.rows { fates = fates } })
+same_fates e fates same = record { rows = λ i. record e.rows { fates = same i }; seats = (itself_same e).seats; counts = refl }
 
 pub began_now : (e : Held) (fates : List Fate) (seats : List Seat) (session number : ℕ) → 0 < session → session < 17 → early_refusal e session Begin ≡ None
-    → fates ≡ e.fates ++ Running ∷ [] → number ≡ length e.fates → SeatSet e.seats seats session (Some (record { snapshot = e.entries; number = number })) (payload_at e.seats session)
-    → Answers e session Begin (Answered replies.Done) (record e { fates = fates; seats = seats })
+    → fates ≡ e.rows.fates ++ Running ∷ [] → number ≡ length e.rows.fates → SeatSet e.seats seats session (Some (record { snapshot = e.counts.entries; number = number })) (payload_at e.seats session)
+    → Answers e session Begin (Answered replies.Done) (record e { rows = record e.rows { fates = fates }; seats = seats })
 began_now e fates seats session number some small early started numbered set =
-    subst (λ (f : List Fate). Answers e session Begin (Answered replies.Done) (record e { fates = f; seats = seats })) (sym started)
+    subst (λ (f : List Fate). Answers e session Begin (Answered replies.Done) (record e { rows = record e.rows { fates = f }; seats = seats })) (sym started)
     (began e seats e.frame session some small (allowed e session Begin small refl early (λ p s. refl) (λ p s. refl)) (closed_before e session early)
-    (subst (λ n. SeatSet e.seats seats session (Some (record { snapshot = e.entries; number = n })) (payload_at e.seats session)) numbered set))
+    (subst (λ n. SeatSet e.seats seats session (Some (record { snapshot = e.counts.entries; number = n })) (payload_at e.seats session)) numbered set))
 
 -- ---- abort
 
 pub gave_up_now : (e : Held) (fates : List Fate) (seats : List Seat) (session : ℕ) (o : Opened) → 0 < session → session < 17 → early_refusal e session Abort ≡ None → opened_at e.seats session ≡ Some o
-    → fates ≡ slice_set e.fates o.number Aborted → SeatSet e.seats seats session None no_payload
-    → Answers e session Abort (Answered replies.Done) (record e { fates = fates; seats = seats })
+    → fates ≡ slice_set e.rows.fates o.number Aborted → SeatSet e.seats seats session None no_payload
+    → Answers e session Abort (Answered replies.Done) (record e { rows = record e.rows { fates = fates }; seats = seats })
 gave_up_now e fates seats session o some small early is ended set =
-    subst (λ (f : List Fate). Answers e session Abort (Answered replies.Done) (record e { fates = f; seats = seats })) (sym ended)
+    subst (λ (f : List Fate). Answers e session Abort (Answered replies.Done) (record e { rows = record e.rows { fates = f }; seats = seats })) (sym ended)
     (gave_up e seats e.frame session o some small (allowed e session Abort small refl early (λ p s. refl) (λ p s. refl)) is set)
 
 -- ---- commit
@@ -88,12 +88,12 @@ own_there : (seats : List Seat) (session : ℕ) (os : List Op) → nat_lt 5 (len
 own_there seats session os some is = (own_some (nat_lt 5 (length (payload_at seats session))) (payload_at seats session) os refl is).0 some
 
 pub committed_nothing_now : (e : Held) (fates : List Fate) (seats : List Seat) (session : ℕ) (o : Opened) → 0 < session → session < 17 → Stands e → early_refusal e session Commit ≡ None
-    → nat_lt 5 (length (payload_at e.seats session)) ≡ false → opened_at e.seats session ≡ Some o → fates ≡ slice_set e.fates o.number Aborted → SeatSet e.seats seats session None no_payload
-    → Answers e session Commit (Answered replies.Done) (record e { fates = fates; seats = seats })
+    → nat_lt 5 (length (payload_at e.seats session)) ≡ false → opened_at e.seats session ≡ Some o → fates ≡ slice_set e.rows.fates o.number Aborted → SeatSet e.seats seats session None no_payload
+    → Answers e session Commit (Answered replies.Done) (record e { rows = record e.rows { fates = fates }; seats = seats })
 committed_nothing_now e fates seats session o some small st early few is ended set =
     let bytes : (p : Plain) → StandsFor e p → payload_at e.seats session ≡ spelling (entries.Txn (own_ops (open_at p.sessions session))) = λ p s. s.seats.payloads session small in
     let none : (p : Plain) → StandsFor e p → own_ops (open_at p.sessions session) ≡ [] = λ p s. own_none e.seats session _ few (bytes p s) in
-    subst (λ (f : List Fate). Answers e session Commit (Answered replies.Done) (record e { fates = f; seats = seats })) (sym ended)
+    subst (λ (f : List Fate). Answers e session Commit (Answered replies.Done) (record e { rows = record e.rows { fates = f }; seats = seats })) (sym ended)
     (committed_nothing e seats e.frame session o some small (allowed e session Commit small refl early (λ p s. ap (has_commit_room (view p session)) (none p s)) (λ p s. refl)) is
     (bytes st.plain st.stands ∙ ap (λ (os : List Op). spelling (entries.Txn os)) (none st.plain st.stands)) (λ os h. own_none e.seats session os few h) set)
 
@@ -102,19 +102,19 @@ has_room-some : (p : Plain) (session : ℕ) (room : Bool) (os : List Op) → os 
 has_room-some p session room [] some is = absurd (some refl)
 has_room-some p session room (o ∷ os) some is = is
 
-room_is : (e : Held) (session : ℕ) (room : Bool) → session < 17 → nat_lt 5 (length (payload_at e.seats session)) ≡ true → nat_lt e.entries 1073741823 ≡ room → (p : Plain) → StandsFor e p → has_room (view p session) Commit ≡ room
+room_is : (e : Held) (session : ℕ) (room : Bool) → session < 17 → nat_lt 5 (length (payload_at e.seats session)) ≡ true → nat_lt e.counts.entries 1073741823 ≡ room → (p : Plain) → StandsFor e p → has_room (view p session) Commit ≡ room
 room_is e session room small some is p s =
     has_room-some p session room (own_ops (open_at p.sessions session)) (own_there e.seats session _ some (s.seats.payloads session small)) (ap (λ n. nat_lt n 1073741823) (sym s.counts.entries) ∙ is)
 
-pub commit_full : (e : Held) (session : ℕ) → session < 17 → early_refusal e session Commit ≡ None → nat_lt 5 (length (payload_at e.seats session)) ≡ true → 1073741823 ≤ e.entries
+pub commit_full : (e : Held) (session : ℕ) → session < 17 → early_refusal e session Commit ≡ None → nat_lt 5 (length (payload_at e.seats session)) ≡ true → 1073741823 ≤ e.counts.entries
     → Answers e session Commit (Answered (replies.Refused refusals.Full)) e
-commit_full e session small early some long = refused e e session Commit refusals.Full (full e session Commit small refl early (room_is e session false small some (le-ltb e.entries 1073741823 long))) (itself_same e)
+commit_full e session small early some long = refused e e session Commit refusals.Full (full e session Commit small refl early (room_is e session false small some (le-ltb e.counts.entries 1073741823 long))) (itself_same e)
 
 pub committed_something_now : (e : Held) (fates : List Fate) (seats : List Seat) (frame : List ℕ) (session : ℕ) (o : Opened) → 0 < session → session < 17 → early_refusal e session Commit ≡ None
-    → nat_lt 5 (length (payload_at e.seats session)) ≡ true → e.entries < 1073741823 → opened_at e.seats session ≡ Some o
-    → fates ≡ slice_set e.fates o.number (Committed (e.entries + 1)) → frame ≡ payload_at e.seats session → SeatSet e.seats seats session None no_payload
-    → Answers e session Commit (Append (replies.Committed (e.commits + 1))) (record e { fates = fates; seats = seats; commits = e.commits + 1; entries = e.entries + 1; frame = frame })
+    → nat_lt 5 (length (payload_at e.seats session)) ≡ true → e.counts.entries < 1073741823 → opened_at e.seats session ≡ Some o
+    → fates ≡ slice_set e.rows.fates o.number (Committed (e.counts.entries + 1)) → frame ≡ payload_at e.seats session → SeatSet e.seats seats session None no_payload
+    → Answers e session Commit (Append (replies.Committed (e.counts.commits + 1))) (record e { rows = record e.rows { fates = fates }; seats = seats; counts = record e.counts { commits = e.counts.commits + 1; entries = e.counts.entries + 1 }; frame = frame })
 committed_something_now e fates seats frame session o some small early has short is ended bytes set =
-    subst (λ (f : List Fate). Answers e session Commit (Append (replies.Committed (e.commits + 1))) (record e { fates = f; seats = seats; commits = e.commits + 1; entries = e.entries + 1; frame = frame })) (sym ended)
-    (committed_something e seats frame session o some small (allowed e session Commit small refl early (room_is e session true small has (lt-ltb e.entries 1073741823 short)) (λ p s. refl)) is
+    subst (λ (f : List Fate). Answers e session Commit (Append (replies.Committed (e.counts.commits + 1))) (record e { rows = record e.rows { fates = f }; seats = seats; counts = record e.counts { commits = e.counts.commits + 1; entries = e.counts.entries + 1 }; frame = frame })) (sym ended)
+    (committed_something e seats frame session o some small (allowed e session Commit small refl early (room_is e session true small has (lt-ltb e.counts.entries 1073741823 short)) (λ p s. refl)) is
     (λ none. own_there e.seats session [] has none refl) bytes set)

@@ -35,13 +35,6 @@ pub record Answers (old : Held) (session : ℕ) (st : Statement) (turn : Turn) (
 
 -- The store is as before, but for room that was made and the frame.
 pub record Same (old new : Held) : Type 0 where
-  pub tables : new.tables ≡ old.tables
-  pub staged : new.staged ≡ old.staged
-  pub fates : new.fates ≡ old.fates
+  pub rows : new.rows ≡ old.rows
   pub seats : SeatsStay old.seats new.seats
-  pub next_id : new.next_id ≡ old.next_id
-  pub rows_limit : new.rows_limit ≡ old.rows_limit
-  pub commits : new.commits ≡ old.commits
-  pub merges : new.merges ≡ old.merges
-  pub entries : new.entries ≡ old.entries
-  pub pending : new.pending ≡ old.pending
+  pub counts : new.counts ≡ old.counts

@@ -46,7 +46,7 @@ use Rattle.ut_staged.specs.Staging.{Staging}
 
 -- whether there are ids for so many new rows
 abbrev pub has_ids_for : Held → ℕ → Bool
-has_ids_for e rows = nat_eq rows 0 || nat_le (e.next_id + rows) (e.rows_limit + 1)
+has_ids_for e rows = nat_eq rows 0 || nat_le (e.counts.next_id + rows) (e.counts.rows_limit + 1)
 
 -- whether the session's own operations and these have a spelling
 abbrev pub has_bytes_for : Held → ℕ → List Op → Bool
@@ -55,7 +55,7 @@ has_bytes_for e session os = nat_le (length (payload_at e.seats session) + ops_l
 -- whether operations of a session keep to the limits
 abbrev pub has_room_for : Held → ℕ → List Op → Bool
 has_room_for e session [] = true
-has_room_for e session (op ∷ os) = has_ids_for e (inserts_of (op ∷ os)) && has_bytes_for e session (op ∷ os) && (is_some (opened_at e.seats session) || nat_lt e.entries 1073741823)
+has_room_for e session (op ∷ os) = has_ids_for e (inserts_of (op ∷ os)) && has_bytes_for e session (op ∷ os) && (is_some (opened_at e.seats session) || nat_lt e.counts.entries 1073741823)
 
 -- the refusal behind the early ones: of limits, else of a conflict
 abbrev pub late_refusal : Held → ℕ → ℕ → List (ℕ × Place) → List Op → Option Refusal
@@ -66,49 +66,36 @@ late_refusal e session n hits os = or_else (unless (has_room_for e session os) r
 -- The table has these places, with a row in each.
 pub record HasPlaces (e : Held) (n : ℕ) (hits : List (ℕ × Place)) : Type 0 where
   pub table : Staged
-  pub at : slice_get e.staged n ≡ Some table
+  pub at : slice_get e.rows.staged n ≡ Some table
   pub there : AreThere table hits
 
 -- Nothing but memory stands in the way of these operations.
 pub record CanDo (e : Held) (n : ℕ) (hits : List (ℕ × Place)) (os : List Op) : Type 0 where
   pub table : Staged
-  pub at : slice_get e.staged n ≡ Some table
+  pub at : slice_get e.rows.staged n ≡ Some table
   pub write : CanWrite table hits os
   pub rule : IsTrue (list_all is_op os)
   pub short : ops_len os + 5 ≤ 1073741824
-  pub ids : e.next_id + inserts_of os ≤ 2147483649
+  pub ids : e.counts.next_id + inserts_of os ≤ 2147483649
 
 -- The journal has room for one entry more.
 pub record CanAppend (e : Held) : Type 0 where
-  pub entries : e.entries < 1073741823
-  pub commits : e.commits ≤ e.entries
+  pub entries : e.counts.entries < 1073741823
+  pub commits : e.counts.commits ≤ e.counts.entries
 
 -- Operations were done in the session's transaction, after which the table's stages are these.
 pub record DoneInside (old new : Held) (session : ℕ) (o : Opened) (n : ℕ) (os : List Op) (after : ℕ → Staged → Staged) : Type 0 where
-  pub tables : new.tables ≡ old.tables
-  pub staged : (s : Staged) → slice_get old.staged n ≡ Some s → new.staged ≡ slice_set old.staged n (after o.number s)
-  pub fates : new.fates ≡ old.fates
+  pub rows : (s : Staged) → slice_get old.rows.staged n ≡ Some s → new.rows ≡ record old.rows { staged = slice_set old.rows.staged n (after o.number s) }
   pub bytes : (ps : List Op) → payload_at old.seats session ≡ spelling (Txn ps) → payload_at new.seats session ≡ spelling (Txn (ps ++ os))
   pub seats : SeatSet old.seats new.seats session (Some o) (payload_at new.seats session)
-  pub next_id : new.next_id ≡ old.next_id + inserts_of os
-  pub rows_limit : new.rows_limit ≡ old.rows_limit
-  pub commits : new.commits ≡ old.commits
-  pub merges : new.merges ≡ old.merges
-  pub entries : new.entries ≡ old.entries
-  pub pending : new.pending ≡ old.pending
+  pub counts : new.counts ≡ record old.counts { next_id = old.counts.next_id + inserts_of os }
 
 -- The same as a transaction by themselves, which is committed.
 pub record DoneAlone (old new : Held) (n : ℕ) (os : List Op) (after : ℕ → Staged → Staged) : Type 0 where
-  pub tables : new.tables ≡ old.tables
-  pub staged : (s : Staged) → slice_get old.staged n ≡ Some s → new.staged ≡ slice_set old.staged n (after (length old.fates) s)
-  pub fates : new.fates ≡ slice_set (old.fates ++ Running ∷ []) (length old.fates) (Committed (old.entries + 1))
+  pub rows : (s : Staged) → slice_get old.rows.staged n ≡ Some s
+      → new.rows ≡ record old.rows { staged = slice_set old.rows.staged n (after (length old.rows.fates) s); fates = slice_set (old.rows.fates ++ Running ∷ []) (length old.rows.fates) (Committed (old.counts.entries + 1)) }
   pub seats : SeatsStay old.seats new.seats
-  pub next_id : new.next_id ≡ old.next_id + inserts_of os
-  pub rows_limit : new.rows_limit ≡ old.rows_limit
-  pub commits : new.commits ≡ old.commits + 1
-  pub merges : new.merges ≡ old.merges
-  pub entries : new.entries ≡ old.entries + 1
-  pub pending : new.pending ≡ old.pending
+  pub counts : new.counts ≡ record old.counts { next_id = old.counts.next_id + inserts_of os; commits = old.counts.commits + 1; entries = old.counts.entries + 1 }
   pub frame : new.frame ≡ spelling (Txn os)
 
 -- The store stands for what it stood for.
@@ -121,14 +108,14 @@ pub record Stays (old new : Held) : Type 0 where
 pub record CanLook (e : Held) (session n : ℕ) (preds : List ColumnPred) : Type 0 where
   pub seat : session < 17
   pub table : Staged
-  pub at : slice_get e.staged n ≡ Some table
+  pub at : slice_get e.rows.staged n ≡ Some table
   pub columns : All (λ (p : ColumnPred). p.column < length table.columns) preds
-  pub once : SeenOnce table e.fates (looks_at e session) (own_at e session)
+  pub once : SeenOnce table e.rows.fates (looks_at e session) (own_at e session)
 
 -- The rows of the table at a place that the session sees and that meet each comparison.
 pub record Looked (e : Held) (session n : ℕ) (preds : List Pred) (hits : List (ℕ × Place)) : Type 0 where
   pub table : Staged
-  pub at : slice_get e.staged n ≡ Some table
+  pub at : slice_get e.rows.staged n ≡ Some table
   pub hits_are : Hits e session n (meets table.columns preds) hits
 
 -- ---- statements
@@ -160,7 +147,7 @@ pub record IsUpdate (tables : List Table) (st : Statement) (target : Target) (va
 -- Operations that suit the table at a place, where the rows that they end stand in these places.
 pub record AreReady (e : Held) (n : ℕ) (hits : List (ℕ × Place)) (os : List Op) : Type 0 where
   pub table : Staged
-  pub at : slice_get e.staged n ≡ Some table
+  pub at : slice_get e.rows.staged n ≡ Some table
   pub there : AreThere table hits
   pub enough : ends_of os ≤ length hits
   pub fits : IsTrue (list_all (op_fits table.columns) os)
@@ -176,6 +163,6 @@ pub record IsWork (e : Held) (session : ℕ) (st : Statement) (n : ℕ) (hits : 
   pub some : (op : Op) (rest : List Op) → os ≡ op ∷ rest → 0 < rows
   pub limits : (v : View) → has_room v st ≡ has_ops_room v (made v.tables v.rows v.next_id st)
   pub clash : (p : Plain) → StandsFor e p → conflict (view p session) st ≡ first_taken_of e session n hits
-  pub fits_inside : (o : Opened) (p : Plain) (s : StandsFor e p) → first_taken_of e session n hits ≡ None → opened_at e.seats session ≡ Some o → Fits e.fates o.snapshot o.number e.next_id s.rows.held os
-  pub fits_alone : (p : Plain) (s : StandsFor e p) → first_taken_of e session n hits ≡ None → opened_at e.seats session ≡ None → Fits (e.fates ++ Running ∷ []) e.entries (length e.fates) e.next_id s.rows.held os
-  pub staging : (t : ℕ) (s : Staged) → slice_get e.staged n ≡ Some s → t ≢ dead_number → Staging e.staged (slice_set e.staged n (after t s)) t (is_bulk st) e.next_id os
+  pub fits_inside : (o : Opened) (p : Plain) (s : StandsFor e p) → first_taken_of e session n hits ≡ None → opened_at e.seats session ≡ Some o → Fits e.rows.fates o.snapshot o.number e.counts.next_id s.rows.held os
+  pub fits_alone : (p : Plain) (s : StandsFor e p) → first_taken_of e session n hits ≡ None → opened_at e.seats session ≡ None → Fits (e.rows.fates ++ Running ∷ []) e.counts.entries (length e.rows.fates) e.counts.next_id s.rows.held os
+  pub staging : (t : ℕ) (s : Staged) → slice_get e.rows.staged n ≡ Some s → t ≢ dead_number → Staging e.rows.staged (slice_set e.rows.staged n (after t s)) t (is_bulk st) e.counts.next_id os

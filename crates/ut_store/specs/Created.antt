@@ -8,14 +8,7 @@ use Rattle.ut_store.specs.Held.{Held}
 
 -- The store has one table more, without rows, and the frame spells the entry that says so.
 pub record Created (old : Held) (name : List ℕ) (columns : List Column) (new : Held) : Type 0 where
-  pub tables : new.tables ≡ old.tables ++ record { name = name; columns = columns } ∷ []
-  pub staged : new.staged ≡ old.staged ++ no_rows columns ∷ []
-  pub fates : new.fates ≡ old.fates
+  pub rows : new.rows ≡ record old.rows { tables = old.rows.tables ++ record { name = name; columns = columns } ∷ []; staged = old.rows.staged ++ no_rows columns ∷ [] }
   pub seats : new.seats ≡ old.seats
-  pub next_id : new.next_id ≡ old.next_id
-  pub rows_limit : new.rows_limit ≡ old.rows_limit
-  pub commits : new.commits ≡ old.commits + 1
-  pub merges : new.merges ≡ old.merges
-  pub entries : new.entries ≡ old.entries + 1
-  pub pending : new.pending ≡ old.pending
+  pub counts : new.counts ≡ record old.counts { commits = old.counts.commits + 1; entries = old.counts.entries + 1 }
   pub frame : new.frame ≡ spelling (made.Create name columns)

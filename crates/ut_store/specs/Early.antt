@@ -13,7 +13,7 @@ use Rattle.ut_store.specs.Held.{Held}
 -- names, kinds, whether the session is in a transaction, and whether a merge is pending
 abbrev pub early_refusal : Held → ℕ → Statement → Option Refusal
 early_refusal e session st =
-    or_else (unless (names_known e.tables st) refusals.Name)
-    (or_else (unless (kinds_fit e.tables st) refusals.Kind)
+    or_else (unless (names_known e.rows.tables st) refusals.Name)
+    (or_else (unless (kinds_fit e.rows.tables st) refusals.Kind)
     (or_else (option_map refusals.State (state_why (is_some (opened_at e.seats session)) st))
-    (option_map refusals.State (merge_why e.pending st))))
+    (option_map refusals.State (merge_why e.counts.pending st))))

@@ -12,7 +12,7 @@ use Rattle.ut_store.specs.Held.{Held}
 
 -- that of its table
 abbrev pub pending_job : Held → Option JobValue
-pending_job e = option_and_then (λ (m : PendingMerge). option_and_then tables.pending_job (slice_get e.staged m.table)) e.pending
+pending_job e = option_and_then (λ (m : PendingMerge). option_and_then tables.pending_job (slice_get e.rows.staged m.table)) e.counts.pending
 
 -- The job of a merge is handed out where its begin is to be appended, and it is that of the store behind it.
 abbrev pub HandsOut : Statement → Turn → Option JobValue → Held → Type 0

@@ -9,5 +9,6 @@ pub mod Standing
 pub mod Created
 pub mod Listed
 pub mod Changes
+pub mod Works
 pub mod Merging
 pub mod Jobs

@@ -14,39 +14,36 @@ use Rattle.ut_store.specs.Held.{Held}
 
 -- the merge of the table at a place that would begin next
 abbrev pub next_merge : Held → ℕ → MergeKind → PendingMerge
-next_merge e n kind = record { number = e.merges + 1; table = n; kind = kind }
+next_merge e n kind = record { number = e.counts.merges + 1; table = n; kind = kind }
 
 -- the places of the table that it keeps, by the snapshots that are open
 abbrev pub flags_now : Held → MergeKind → Staged → List (List Bool)
-flags_now e kind s = stamp_flags e.fates (snapshots_of e.seats) kind s
+flags_now e kind s = stamp_flags e.rows.fates (snapshots_of e.seats) kind s
 
 -- A merge of the table at place n, which has these stages, began: its second stage is closed, it is fixed which places are kept, and the frame spells the entry that says so.
 abbrev pub merge_begun : Held → ℕ → MergeKind → Staged → Held
 merge_begun e n kind s = record e {
-  staged = slice_set e.staged n (closed_l2 (next_merge e n kind) (flags_now e kind s) s);
-  merges = e.merges + 1;
-  entries = e.entries + 1;
-  pending = Some (next_merge e n kind);
-  frame = spelling (entries.Begun (e.merges + 1) n kind);
+  rows = record e.rows { staged = slice_set e.rows.staged n (closed_l2 (next_merge e n kind) (flags_now e kind s) s) };
+  counts = record e.counts { merges = e.counts.merges + 1; entries = e.counts.entries + 1; pending = Some (next_merge e n kind) };
+  frame = spelling (entries.Begun (e.counts.merges + 1) n kind);
 }
 
 -- The pending merge of the table with these stages ended: the parts that it rebuilds and the closed stage are one part of the rows that stood in these places.
 abbrev pub merge_ended : Held → PendingMerge → Staged → List Place → Held
 merge_ended e m s olds = record e {
-  staged = slice_set e.staged m.table (switched (staying m.kind (length s.parts)) olds s);
-  entries = e.entries + 1;
-  pending = None;
+  rows = record e.rows { staged = slice_set e.rows.staged m.table (switched (staying m.kind (length s.parts)) olds s) };
+  counts = record e.counts { entries = e.counts.entries + 1; pending = None };
   frame = spelling (entries.Ended m.number);
 }
 
 -- whether the journal, and the main of a table with these stages, have room for a merge
 abbrev pub has_room_to_merge : Held → Staged → MergeKind → Bool
-has_room_to_merge e s kind = nat_lt e.entries 1073741823 && nat_lt (sum_by length s.parts + length s.l2) 2147483648 && has_part_room kind (length s.parts)
+has_room_to_merge e s kind = nat_lt e.counts.entries 1073741823 && nat_lt (sum_by length s.parts + length s.l2) 2147483648 && has_part_room kind (length s.parts)
 
 -- A merge of the table at a place may begin.
 pub record MayMerge (e : Held) (n : ℕ) (kind : MergeKind) : Type 0 where
   pub table : Staged
-  pub at : slice_get e.staged n ≡ Some table
+  pub at : slice_get e.rows.staged n ≡ Some table
   pub idle : table.merge ≡ None
   pub few : sum_by length table.parts + length table.l2 ≤ 2147483647
   pub room : IsTrue (has_part_room kind (length table.parts))

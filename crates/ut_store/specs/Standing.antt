@@ -55,16 +55,16 @@ suits_session (suc session) st = true
 
 -- The store has these tables, their rows, and these counts. Nobody has a transaction: a row was committed before all else, or is nobody's. No merge is pending.
 pub record Restored (tables : List Table) (staged : List Staged) (next_id rows_limit commits merges entries : ℕ) (e : Held) : Type 0 where
-  pub has_tables : e.tables ≡ tables
-  pub has_rows : e.staged ≡ staged
-  pub fates : e.fates ≡ Committed 0 ∷ Aborted ∷ []
+  pub has_tables : e.rows.tables ≡ tables
+  pub has_rows : e.rows.staged ≡ staged
+  pub fates : e.rows.fates ≡ Committed 0 ∷ Aborted ∷ []
   pub seats : AreEmpty 17 e.seats
-  pub has_next : e.next_id ≡ next_id
-  pub has_limit : e.rows_limit ≡ rows_limit
-  pub has_commits : e.commits ≡ commits
-  pub has_merges : e.merges ≡ merges
-  pub has_entries : e.entries ≡ entries
-  pub no_merge : e.pending ≡ None
+  pub has_next : e.counts.next_id ≡ next_id
+  pub has_limit : e.counts.rows_limit ≡ rows_limit
+  pub has_commits : e.counts.commits ≡ commits
+  pub has_merges : e.counts.merges ≡ merges
+  pub has_entries : e.counts.entries ≡ entries
+  pub no_merge : e.counts.pending ≡ None
 
 -- A journal that begins with this state, opened with the stages of an image.
 pub record Reopened (s : State) (stages : Stages) (entries : List Entry) (rows_limit : ℕ) (e : Held) : Type 0 where

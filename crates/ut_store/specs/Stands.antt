@@ -27,13 +27,13 @@ use Rattle.ut_store.specs.Held.{Held}
 -- ---- counts
 
 pub record AreCounts (e : Held) (p : Plain) : Type 0 where
-  pub tables : e.tables ≡ (current p.journal).tables
-  pub commits : e.commits ≡ (current p.journal).commits
-  pub merges : e.merges ≡ (current p.journal).merges
-  pub entries : e.entries ≡ journal_len p.journal
-  pub next_id : e.next_id ≡ p.next_id
-  pub rows_limit : e.rows_limit ≡ p.rows_limit
-  pub pending : e.pending ≡ p.pending
+  pub tables : e.rows.tables ≡ (current p.journal).tables
+  pub commits : e.counts.commits ≡ (current p.journal).commits
+  pub merges : e.counts.merges ≡ (current p.journal).merges
+  pub entries : e.counts.entries ≡ journal_len p.journal
+  pub next_id : e.counts.next_id ≡ p.next_id
+  pub rows_limit : e.counts.rows_limit ≡ p.rows_limit
+  pub pending : e.counts.pending ≡ p.pending
 
 -- ---- sessions
 
@@ -67,19 +67,19 @@ AreMerging pending merges = (n : ℕ) (merge : Option PendingMerge) → slice_ge
 pub record AreRows (e : Held) (p : Plain) : Type 0 where
   -- the row of each id
   pub held : ℕ → Option Stamped
-  pub places : AreHeld (place_at e.staged) (IsGone e.fates p.sessions) held
+  pub places : AreHeld (place_at e.rows.staged) (IsGone e.rows.fates p.sessions) held
   -- what a pending merge gives up is nobody's or gone
-  pub dropped : AreDropped p.stages (IsGone e.fates p.sessions) held
-  pub free : AreFree held e.next_id
-  pub exact : IsExact e.fates held p.journal p.opening
-  pub transactions : AreOpen e.fates held p.sessions (number_at e.seats) p.journal p.opening
+  pub dropped : AreDropped p.stages (IsGone e.rows.fates p.sessions) held
+  pub free : AreFree held e.counts.next_id
+  pub exact : IsExact e.rows.fates held p.journal p.opening
+  pub transactions : AreOpen e.rows.fates held p.sessions (number_at e.seats) p.journal p.opening
   -- the transaction of the places that are nobody's never commits
-  pub dead : fate_at e.fates dead_number ≡ Aborted
-  pub started : dead_number < length e.fates
-  pub stages : p.stages ≡ map stages_of e.staged
+  pub dead : fate_at e.rows.fates dead_number ≡ Aborted
+  pub started : dead_number < length e.rows.fates
+  pub stages : p.stages ≡ map stages_of e.rows.staged
   -- each table's stages have its columns
-  pub columns : map (λ (s : Staged). s.columns) e.staged ≡ map (λ (t : Table). t.columns) e.tables
-  pub merging : AreMerging e.pending (map (λ (s : Staged). s.merge) e.staged)
+  pub columns : map (λ (s : Staged). s.columns) e.rows.staged ≡ map (λ (t : Table). t.columns) e.rows.tables
+  pub merging : AreMerging e.counts.pending (map (λ (s : Staged). s.merge) e.rows.staged)
 
 -- ---- all of it
 

@@ -6,6 +6,7 @@ ghost use Rattle.ut_store.specs.Standing.{Stands, suits_session};
 ghost use Rattle.ut_store.specs.Changes.{IsDelete, MayChange};
 
 use crate::finish::no_memory;
+use crate::work::Work;
 use crate::{Store, Turn};
 use std::alloc::Global;
 use ut_change::delete_ops;
@@ -29,7 +30,7 @@ impl Store {
         requires is { st.now ≡ Statement.Delete table.now preds.now }
         ensures { Answers self.old session st.now result self.new }
     {
-        match selection(alloc, &self.tables, table.as_slice(), preds.as_slice()) {
+        match selection(alloc, &self.rows.tables, table.as_slice(), preds.as_slice()) {
             Ok(rows) => self.delete_rows(alloc, session, st, &rows),
             Err(why) => Turn::Answered(Reply::Refused(why)),
         }
@@ -37,16 +38,22 @@ impl Store {
 
     fn delete_rows(&mut self, alloc: Global, session: u8, st: &Statement, rows: &Selection) -> Turn
         requires may { MayChange self.old session st.now }
-        requires is { IsDelete self.old.tables st.now rows.now }
+        requires is { IsDelete self.old.rows.tables st.now rows.now }
         ensures { Answers self.old session st.now result self.new }
     {
-        let Ok(hits) = self.hits(alloc, session, rows.table, rows.preds.as_slice()) else {
+        let Ok(hits) = self.selected(alloc, session, rows) else {
             return no_memory();
         };
         let Ok(ops) = delete_ops(alloc, rows.table as u16, &hits) else {
             return no_memory();
         };
-        let count = hits.len() as u32;
-        self.finish(alloc, session, st, rows.table, &hits, ops, count)
+        let work = Work {
+            place: rows.table,
+            hits: &hits,
+            ops,
+            rows: hits.len() as u32,
+            is_bulk: false,
+        };
+        self.finish(alloc, session, st, work)
     }
 }

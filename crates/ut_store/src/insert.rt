@@ -5,6 +5,7 @@ ghost use Rattle.ut_store.specs.Changes.{MayChange};
 
 use crate::change::place_in;
 use crate::finish::no_memory;
+use crate::work::Work;
 use crate::{Store, Turn};
 use std::alloc::Global;
 use ut_change::insert_ops;
@@ -24,10 +25,17 @@ impl Store {
         requires is { st.now ≡ Statement.Insert table.now values.now }
         ensures { Answers self.old session st.now result self.new }
     {
-        let place = place_in(&self.tables, table.as_slice());
-        match insert_ops(alloc, place as u16, self.next_id, values) {
-            Ok(ops) => self.finish(alloc, session, st, place, &[], ops, 1),
-            Err(_) => no_memory(),
-        }
+        let place = place_in(&self.rows.tables, table.as_slice());
+        let Ok(ops) = insert_ops(alloc, place as u16, self.counts.next_id, values) else {
+            return no_memory();
+        };
+        let work = Work {
+            place,
+            hits: &[],
+            ops,
+            rows: 1,
+            is_bulk: false,
+        };
+        self.finish(alloc, session, st, work)
     }
 }

@@ -3,6 +3,7 @@
 
 mod bulk;
 mod change;
+mod counts;
 mod delete;
 mod finish;
 mod hits;
@@ -13,6 +14,7 @@ mod look;
 mod merges;
 mod pending;
 mod readers;
+mod rows;
 mod statement;
 mod store;
 mod tables;
@@ -20,6 +22,7 @@ mod transactions;
 mod turn;
 mod update;
 mod work;
+mod write;
 
 pub use store::Store;
 pub use turn::{Outcome, Turn};

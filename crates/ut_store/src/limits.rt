@@ -49,7 +49,9 @@ impl Store {
     pub(crate) fn has_ids_for(&self, rows: usize) -> bool
         ensures { result ≡ has_ids_for self.now rows }
     {
-        let free = (u64::from(self.rows_limit) + 1).saturating_sub(u64::from(self.next_id));
+        let free = (u64::from(self.counts.rows_limit) + 1).saturating_sub(u64::from(
+            self.counts.next_id,
+        ));
         rows == 0 || rows as u64 <= free
     }
 
@@ -72,7 +74,7 @@ impl Store {
         }
         let ids = self.has_ids_for(inserts_of(ops));
         let bytes = self.has_bytes_for(session, ops);
-        let journal = self.sessions.opened(session).is_some() || self.entries < MOST_ENTRIES;
+        let journal = self.sessions.opened(session).is_some() || self.counts.entries < MOST_ENTRIES;
         ids && bytes && journal
     }
 
@@ -82,9 +84,15 @@ impl Store {
         ensures { result ≡ first_taken_of self.now session place (hits_of hits.now) }
     {
         let opened = self.sessions.opened(session);
-        let snapshot = looks_at(opened, self.entries);
+        let snapshot = looks_at(opened, self.counts.entries);
         let own = own_number(opened);
-        first_taken_in(&self.stages[place], &self.fates, snapshot, own, hits)
+        first_taken_in(
+            &self.rows.stages[place],
+            &self.rows.fates,
+            snapshot,
+            own,
+            hits,
+        )
     }
 }
 

@@ -35,10 +35,10 @@ impl Store {
         let bytes = bytes_of(&ops);
         let rows = rows_copied(alloc, &ops)?;
         self.sessions.room(session, bytes)?;
-        let table = &mut self.stages[place];
+        let table = &mut self.rows.stages[place];
         table.load(&rows, opened.number)?;
         note_all(&mut self.sessions, session, &ops);
-        self.next_id += inserts;
+        self.counts.next_id += inserts;
         Ok(())
     }
 
@@ -58,16 +58,16 @@ impl Store {
         let inserts = inserts_of(&ops) as u32;
         let frame = framed(alloc, &ops)?;
         let rows = into_rows(alloc, ops)?;
-        let number = self.fates.start()?;
-        let table = &mut self.stages[place];
+        let number = self.rows.fates.start()?;
+        let table = &mut self.rows.stages[place];
         if let Err(error) = table.load(&rows, number) {
-            self.fates.abort(number);
+            self.rows.fates.abort(number);
             return Err(error);
         }
-        self.fates.commit(number, self.entries + 1);
-        self.next_id += inserts;
-        self.commits += 1;
-        self.entries += 1;
+        self.rows.fates.commit(number, self.counts.entries + 1);
+        self.counts.next_id += inserts;
+        self.counts.commits += 1;
+        self.counts.entries += 1;
         self.frame = frame;
         Ok(())
     }

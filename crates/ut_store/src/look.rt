@@ -15,10 +15,10 @@ impl Store {
     {
         let opened = self.sessions.opened(session);
         Look {
-            tables: self.tables.as_slice(),
-            stages: self.stages.as_slice(),
-            fates: &self.fates,
-            snapshot: looks_at(opened, self.entries),
+            tables: self.rows.tables.as_slice(),
+            stages: self.rows.stages.as_slice(),
+            fates: &self.rows.fates,
+            snapshot: looks_at(opened, self.counts.entries),
             own: own_number(opened),
         }
     }

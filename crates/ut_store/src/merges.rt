@@ -65,14 +65,14 @@ impl Store {
         ensures answers { Answers self.old session (statements.MergeBegin table.now kind) result.turn self.new }
         ensures job { HandsOut (statements.MergeBegin table.now kind) result.turn result.job self.new }
     {
-        let place = place_of(&self.tables, table.as_slice()).unwrap();
+        let place = place_of(&self.rows.tables, table.as_slice()).unwrap();
         if !self.has_merge_room(place, kind) {
             return without_job(Turn::Answered(Reply::Refused(Refusal::Full)));
         }
         match self.close_table(alloc, place, kind) {
             Err(_) => without_job(no_memory()),
             Ok(job) => Outcome {
-                turn: Turn::Append(Reply::Merge(self.merges)),
+                turn: Turn::Append(Reply::Merge(self.counts.merges)),
                 job: Some(job),
             },
         }
@@ -80,11 +80,11 @@ impl Store {
 
     // Whether the journal, the table at a place and its main have room for a merge.
     fn has_merge_room(&self, place: usize, kind: MergeKind) -> bool
-        requires { place < length self.now.staged }
-        ensures { (s : Staged) → slice_get self.now.staged place ≡ Some s → result ≡ has_room_to_merge self.now s kind }
+        requires { place < length self.now.rows.staged }
+        ensures { (s : Staged) → slice_get self.now.rows.staged place ≡ Some s → result ≡ has_room_to_merge self.now s kind }
     {
-        let stages = &self.stages[place];
-        self.entries < ENTRIES_LIMIT
+        let stages = &self.rows.stages[place];
+        self.counts.entries < ENTRIES_LIMIT
             && stages.places() < PLACES_LIMIT
             && has_part_room(kind, stages.part_count())
     }
@@ -98,26 +98,26 @@ impl Store {
     ) -> Result<Job, AllocError>
         requires may { MayMerge self.old place kind }
         requires place { place < 65536 }
-        requires entries { self.old.entries < ENTRIES_LIMIT }
-        requires merges { self.old.merges < ENTRIES_LIMIT }
-        ensures ok { OnOk result ((s : Staged) → slice_get self.old.staged place ≡ Some s → self.new ≡ merge_begun self.old place kind s) }
+        requires entries { self.old.counts.entries < ENTRIES_LIMIT }
+        requires merges { self.old.counts.merges < ENTRIES_LIMIT }
+        ensures ok { OnOk result ((s : Staged) → slice_get self.old.rows.staged place ≡ Some s → self.new ≡ merge_begun self.old place kind s) }
         ensures job { IfOk result (λ job. pending_job self.new ≡ Some job) }
         ensures err { OnErr result (Same self.old self.new) }
     {
         let head = PendingMerge {
-            number: self.merges + 1,
+            number: self.counts.merges + 1,
             table: place as u16,
             kind,
         };
         let begun = begun_frame(alloc, head)?;
         let pending = Pending::new(alloc, head)?;
         let snapshots = self.sessions.snapshots(alloc)?;
-        let stages = &mut self.stages[place];
-        let keep = stages.keep(alloc, kind, &self.fates, &snapshots)?;
+        let stages = &mut self.rows.stages[place];
+        let keep = stages.keep(alloc, kind, &self.rows.fates, &snapshots)?;
         let job = stages.close_l2(alloc, head, keep)?;
-        self.pending = Some(pending);
-        self.merges += 1;
-        self.entries += 1;
+        self.counts.pending = Some(pending);
+        self.counts.merges += 1;
+        self.counts.entries += 1;
         self.frame = begun;
         Ok(job)
     }
@@ -127,9 +127,9 @@ impl Store {
         requires { Stands self.now }
         ensures { IfOk result (λ job. job ≡ pending_job self.now) }
     {
-        match &self.pending {
+        match &self.counts.pending {
             None => Ok(None),
-            Some(pending) => self.stages[usize::from(pending.head().table)].job_again(alloc),
+            Some(pending) => self.rows.stages[usize::from(pending.head().table)].job_again(alloc),
         }
     }
 
@@ -140,26 +140,26 @@ impl Store {
         requires built { pending_job self.old ≡ Some built }
         ensures { Answers self.old session statements.MergeEnd result self.new }
     {
-        let pending = self.pending.take().unwrap();
+        let pending = self.counts.pending.take().unwrap();
         let head = pending.head();
-        self.stages[usize::from(head.table)].switch(built);
-        self.entries += 1;
+        self.rows.stages[usize::from(head.table)].switch(built);
+        self.counts.entries += 1;
         self.frame = pending.into_frame();
         Turn::Append(Reply::Merge(head.number))
     }
 
     /// How many merges were begun.
     pub fn merges(&self) -> u32
-        ensures { result ≡ self.now.merges }
+        ensures { result ≡ self.now.counts.merges }
     {
-        self.merges
+        self.counts.merges
     }
 
     /// The merge that was begun and has not ended.
     pub fn pending(&self) -> Option<PendingMerge>
-        ensures { result ≡ self.now.pending }
+        ensures { result ≡ self.now.counts.pending }
     {
-        match &self.pending {
+        match &self.counts.pending {
             Some(pending) => Some(pending.head()),
             None => None,
         }

@@ -22,11 +22,11 @@ impl Store {
         requires { Stands self.now }
         ensures { IfOk result (Lists self.now name.now) }
     {
-        match place_of(&self.tables, name) {
+        match place_of(&self.rows.tables, name) {
             None => Ok(None),
             Some(place) => {
                 let found = self.hits(alloc, NOBODY, place, &[])?;
-                let rows = rows_found(alloc, &self.stages[place], &found)?;
+                let rows = rows_found(alloc, &self.rows.stages[place], &found)?;
                 Ok(Some(rows))
             }
         }
@@ -34,37 +34,37 @@ impl Store {
 
     /// How many tables there are.
     pub fn table_count(&self) -> usize
-        ensures { result ≡ length self.now.tables }
+        ensures { result ≡ length self.now.rows.tables }
     {
-        self.tables.len()
+        self.rows.tables.len()
     }
 
     /// The name and the columns of each table, in order of creation.
     pub fn tables(&self) -> &[Table]
-        ensures { result.now ≡ self.now.tables }
+        ensures { result.now ≡ self.now.rows.tables }
     {
-        self.tables.as_slice()
+        self.rows.tables.as_slice()
     }
 
     /// The stages of each table, in the same order.
     pub fn stages(&self) -> &[Stages]
-        ensures { map (λ (t : TableValue). t.stages) result.now ≡ self.now.staged }
+        ensures { map (λ (t : TableValue). t.stages) result.now ≡ self.now.rows.staged }
     {
-        self.stages.as_slice()
+        self.rows.stages.as_slice()
     }
 
     /// What became of each transaction.
     pub fn fates(&self) -> &Fates
-        ensures { result.now ≡ self.now.fates }
+        ensures { result.now ≡ self.now.rows.fates }
     {
-        &self.fates
+        &self.rows.fates
     }
 
     /// The name of the table at a place in order of creation.
     pub fn table_name(&self, place: usize) -> Option<&Name>
-        ensures { option_map (λ name. name.now) result ≡ option_map (λ table. table.name) (slice_get self.now.tables place) }
+        ensures { option_map (λ name. name.now) result ≡ option_map (λ table. table.name) (slice_get self.now.rows.tables place) }
     {
-        match self.tables.get(place) {
+        match self.rows.tables.get(place) {
             Some(table) => Some(&table.name),
             None => None,
         }
@@ -72,9 +72,9 @@ impl Store {
 
     /// How many rows stand in the first stage of the table at a place, those that nobody sees included.
     pub fn l1_len(&self, place: usize) -> Option<u32>
-        ensures { result ≡ option_map (λ staged. length staged.l1) (slice_get self.now.staged place) }
+        ensures { result ≡ option_map (λ staged. length staged.l1) (slice_get self.now.rows.staged place) }
     {
-        match self.stages.get(place) {
+        match self.rows.stages.get(place) {
             Some(table) => Some(table.l1_len()),
             None => None,
         }
@@ -82,9 +82,9 @@ impl Store {
 
     /// How many rows stand in its second stage.
     pub fn l2_len(&self, place: usize) -> Option<u32>
-        ensures { result ≡ option_map (λ staged. length staged.l2) (slice_get self.now.staged place) }
+        ensures { result ≡ option_map (λ staged. length staged.l2) (slice_get self.now.rows.staged place) }
     {
-        match self.stages.get(place) {
+        match self.rows.stages.get(place) {
             Some(table) => Some(table.l2_len()),
             None => None,
         }

@@ -106,10 +106,10 @@ impl Store {
         requires { session < 17 }
         ensures { result ≡ early_refusal self.now session st.now }
     {
-        if !names_known(&self.tables, st) {
+        if !names_known(&self.rows.tables, st) {
             return Some(Refusal::Name);
         }
-        if !kinds_fit(&self.tables, st) {
+        if !kinds_fit(&self.rows.tables, st) {
             return Some(Refusal::Kind);
         }
         match self.state_refusal(session, st) {
@@ -120,7 +120,7 @@ impl Store {
 
     // The refusal of a statement that the pending merge, or the lack of one, gives.
     fn merge_refusal(&self, st: &Statement) -> Option<Refusal>
-        ensures { result ≡ option_map Refusal.State (merge_why self.now.pending st.now) }
+        ensures { result ≡ option_map Refusal.State (merge_why self.now.counts.pending st.now) }
     {
         match merge_why(self.pending(), st) {
             Some(why) => Some(Refusal::State(why)),

@@ -5,7 +5,8 @@ ghost use Rattle.ut_plain.specs.Plain.{new_store, no_image};
 ghost use Rattle.ut_store.specs.Stands.{StandsFor};
 ghost use Rattle.ut_store.specs.Standing.{Restored};
 
-use crate::pending::Pending;
+use crate::counts::Counts;
+use crate::rows::Rows;
 use std::alloc::{AllocError, Global};
 use std::marker::Model;
 use ut_plain::Table;
@@ -20,17 +21,9 @@ const FIRST_ID: u32 = 1;
 /// A store in memory. Sessions 1 to 16 have transactions; session 0 has the statements of the store.
 #[derive(Drop)]
 pub struct Store {
-    /// The name and the columns of each table, and in the same order its stages.
-    pub(crate) tables: Vec<Table>,
-    pub(crate) stages: Vec<Stages>,
-    pub(crate) fates: Fates,
+    pub(crate) rows: Rows,
     pub(crate) sessions: Sessions,
-    pub(crate) next_id: u32,
-    pub(crate) rows_limit: u32,
-    pub(crate) commits: u32,
-    pub(crate) merges: u32,
-    pub(crate) entries: u32,
-    pub(crate) pending: Option<Pending>,
+    pub(crate) counts: Counts,
     pub(crate) frame: Frame,
 }
 
@@ -42,16 +35,9 @@ impl Model for Store {
     ghost Value = { Held };
 
     ghost view = { λ s. record {
-      tables = s.tables.items;
-      staged = map (λ (t : TableValue). t.stages) s.stages.items;
-      fates = s.fates;
+      rows = record { tables = s.rows.tables.items; staged = map (λ (t : TableValue). t.stages) s.rows.stages.items; fates = s.rows.fates };
       seats = s.sessions;
-      next_id = s.next_id;
-      rows_limit = s.rows_limit;
-      commits = s.commits;
-      merges = s.merges;
-      entries = s.entries;
-      pending = s.pending;
+      counts = s.counts;
       frame = s.frame.payload;
     } };
 }
@@ -92,17 +78,23 @@ impl Store {
         fates.abort(nobody);
         let sessions = Sessions::new(alloc)?;
         let frame = Frame::txn(alloc)?;
-        Ok(Store {
+        let rows = Rows {
             tables,
             stages,
             fates,
-            sessions,
+        };
+        let counts = Counts {
             next_id,
             rows_limit,
             commits,
             merges,
             entries,
             pending: None,
+        };
+        Ok(Store {
+            rows,
+            sessions,
+            counts,
             frame,
         })
     }
@@ -116,22 +108,22 @@ impl Store {
 
     /// How many tables were made and transactions committed.
     pub fn commits(&self) -> u32
-        ensures { result ≡ self.now.commits }
+        ensures { result ≡ self.now.counts.commits }
     {
-        self.commits
+        self.counts.commits
     }
 
     /// How many entries the journal has.
     pub fn entries(&self) -> u32
-        ensures { result ≡ self.now.entries }
+        ensures { result ≡ self.now.counts.entries }
     {
-        self.entries
+        self.counts.entries
     }
 
     /// The id of the next row.
     pub fn next_id(&self) -> u32
-        ensures { result ≡ self.now.next_id }
+        ensures { result ≡ self.now.counts.next_id }
     {
-        self.next_id
+        self.counts.next_id
     }
 }

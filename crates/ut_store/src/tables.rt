@@ -45,12 +45,12 @@ impl Store {
         requires early { early_refusal self.old session (statements.Create table.now columns.now) ≡ None }
         ensures { Answers self.old session (statements.Create table.now columns.now) result self.new }
     {
-        if self.tables.len() >= TABLES_LIMIT || self.entries >= ENTRIES_LIMIT {
+        if self.rows.tables.len() >= TABLES_LIMIT || self.counts.entries >= ENTRIES_LIMIT {
             return Turn::Answered(Reply::Refused(Refusal::Full));
         }
         match self.add_table(alloc, table, columns) {
             Err(_) => Turn::Answered(Reply::Refused(Refusal::Memory)),
-            Ok(()) => Turn::Append(Reply::Committed(self.commits)),
+            Ok(()) => Turn::Append(Reply::Committed(self.counts.commits)),
         }
     }
 
@@ -63,23 +63,23 @@ impl Store {
     ) -> Result<(), AllocError>
         requires spelled { IsTrue (has_spelling (entries.Create table.now columns.now)) }
         requires few { length columns.now ≤ 64 }
-        requires entries { self.old.entries < ENTRIES_LIMIT }
-        requires commits { self.old.commits < ENTRIES_LIMIT }
+        requires entries { self.old.counts.entries < ENTRIES_LIMIT }
+        requires commits { self.old.counts.commits < ENTRIES_LIMIT }
         ensures ok { OnOk result (Created self.old table.now columns.now self.new) }
         ensures err { OnErr result (Same self.old self.new) }
     {
-        self.tables.reserve(1)?;
-        self.stages.reserve(1)?;
+        self.rows.tables.reserve(1)?;
+        self.rows.stages.reserve(1)?;
         let NewTable {
             table,
             stages,
             frame,
         } = new_table(alloc, table, columns)?;
-        self.tables.push_reserved(table);
-        self.stages.push_reserved(stages);
+        self.rows.tables.push_reserved(table);
+        self.rows.stages.push_reserved(stages);
         self.frame = frame;
-        self.entries += 1;
-        self.commits += 1;
+        self.counts.entries += 1;
+        self.counts.commits += 1;
         Ok(())
     }
 
@@ -91,8 +91,8 @@ impl Store {
         requires early { early_refusal self.old session (statements.MergeL1 table.now n) ≡ None }
         ensures { Answers self.old session (statements.MergeL1 table.now n) result self.new }
     {
-        let place = place_of(&self.tables, table.as_slice()).unwrap();
-        match self.stages[place].merge_l1(n) {
+        let place = place_of(&self.rows.tables, table.as_slice()).unwrap();
+        match self.rows.stages[place].merge_l1(n) {
             Err(_) => Turn::Answered(Reply::Refused(Refusal::Memory)),
             Ok(moved) => Turn::Answered(Reply::Moved(moved)),
         }
@@ -106,8 +106,8 @@ impl Store {
         requires early { early_refusal self.now session (statements.Shape table.now) ≡ None }
         ensures { Answers self.now session (statements.Shape table.now) result self.now }
     {
-        let place = place_of(&self.tables, table.as_slice()).unwrap();
-        match self.stages[place].shape(alloc) {
+        let place = place_of(&self.rows.tables, table.as_slice()).unwrap();
+        match self.rows.stages[place].shape(alloc) {
             Err(_) => Turn::Answered(Reply::Refused(Refusal::Memory)),
             Ok(shape) => Turn::Answered(Reply::Shape(shape)),
         }

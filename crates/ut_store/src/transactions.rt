@@ -22,8 +22,8 @@ impl Store {
         requires early { early_refusal self.old session Begin ≡ None }
         ensures { Answers self.old session Begin result self.new }
     {
-        let snapshot = self.entries;
-        match self.fates.start() {
+        let snapshot = self.counts.entries;
+        match self.rows.fates.start() {
             Err(_) => Turn::Answered(Reply::Refused(Refusal::Memory)),
             Ok(number) => {
                 self.sessions.begin(session, Opened { snapshot, number });
@@ -41,7 +41,7 @@ impl Store {
         ensures { Answers self.old session Abort result self.new }
     {
         let given_up = self.sessions.opened(session).unwrap();
-        self.fates.abort(given_up.number);
+        self.rows.fates.abort(given_up.number);
         self.sessions.close(session);
         Turn::Answered(Reply::Done)
     }
@@ -57,7 +57,7 @@ impl Store {
         if !self.sessions.has_own(session) {
             return self.commit_nothing(session);
         }
-        if self.entries >= ENTRIES_LIMIT {
+        if self.counts.entries >= ENTRIES_LIMIT {
             return Turn::Answered(Reply::Refused(Refusal::Full));
         }
         self.commit_something(session)
@@ -73,7 +73,7 @@ impl Store {
         ensures { Answers self.old session Commit result self.new }
     {
         let opened = self.sessions.opened(session).unwrap();
-        self.fates.abort(opened.number);
+        self.rows.fates.abort(opened.number);
         self.sessions.close(session);
         Turn::Answered(Reply::Done)
     }
@@ -85,14 +85,14 @@ impl Store {
         requires stands { Stands self.old }
         requires early { early_refusal self.old session Commit ≡ None }
         requires something { nat_lt 5 (length (payload_at self.old.seats session)) ≡ true }
-        requires room { self.old.entries < ENTRIES_LIMIT }
+        requires room { self.old.counts.entries < ENTRIES_LIMIT }
         ensures { Answers self.old session Commit result self.new }
     {
         let opened = self.sessions.opened(session).unwrap();
-        self.entries += 1;
-        self.commits += 1;
-        self.fates.commit(opened.number, self.entries);
+        self.counts.entries += 1;
+        self.counts.commits += 1;
+        self.rows.fates.commit(opened.number, self.counts.entries);
         self.sessions.take_frame(session, &mut self.frame);
-        Turn::Append(Reply::Committed(self.commits))
+        Turn::Append(Reply::Committed(self.counts.commits))
     }
 }

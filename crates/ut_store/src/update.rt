@@ -6,6 +6,7 @@ ghost use Rattle.ut_store.specs.Changes.{IsUpdate, MayChange};
 ghost use Rattle.ut_store.specs.Standing.{Stands, suits_session};
 
 use crate::finish::no_memory;
+use crate::work::Work;
 use crate::{Store, Turn};
 use std::alloc::Global;
 use ut_change::{Change, update_ops};
@@ -33,7 +34,7 @@ impl Store {
     {
         let target = target(
             alloc,
-            &self.tables,
+            &self.rows.tables,
             table.as_slice(),
             column.as_slice(),
             value,
@@ -54,11 +55,11 @@ impl Store {
         value: &Value,
     ) -> Turn
         requires may { MayChange self.old session st.now }
-        requires is { IsUpdate self.old.tables st.now target.now value.now }
+        requires is { IsUpdate self.old.rows.tables st.now target.now value.now }
         ensures { Answers self.old session st.now result self.new }
     {
         let place = target.rows.table;
-        let Ok(hits) = self.hits(alloc, session, place, target.rows.preds.as_slice()) else {
+        let Ok(hits) = self.selected(alloc, session, &target.rows) else {
             return no_memory();
         };
         if !self.has_ids_for(hits.len()) {
@@ -68,11 +69,17 @@ impl Store {
             table: place as u16,
             column: target.column,
         };
-        let stages = &self.stages[place];
-        let Ok(ops) = update_ops(alloc, stages, change, self.next_id, value, &hits) else {
+        let stages = &self.rows.stages[place];
+        let Ok(ops) = update_ops(alloc, stages, change, self.counts.next_id, value, &hits) else {
             return no_memory();
         };
-        let rows = hits.len() as u32;
-        self.finish(alloc, session, st, place, &hits, ops, rows)
+        let work = Work {
+            place,
+            hits: &hits,
+            ops,
+            rows: hits.len() as u32,
+            is_bulk: false,
+        };
+        self.finish(alloc, session, st, work)
     }
 }

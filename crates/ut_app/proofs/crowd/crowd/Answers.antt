@@ -40,7 +40,7 @@ returns-in-Ok-answer_all g c =
     let script = c.in-Ok-read_all.lines.items in
     let tells = subst (λ (book : List Turn). TellsEnd over.stopped over.engine.store.down book c.len-count.result (sink_of before) after.disk.moment (sink_of after) r.status r.lines r.acks.items) c.deref.ensures.value c.tell-report.ensures.told in
     let tells_all = subst (λ (n : ℕ). TellsEnd over.stopped over.engine.store.down over.book.items n (sink_of before) after.disk.moment (sink_of after) r.status r.lines r.acks.items) (c.len-count.ensures ∙ c.in-Ok-read_all.lines.ok.0) tells in
-    let journal = subst (λ (book : List Turn). r.journal ≡ last_length over.engine.store.down over.engine.store.store.entries book) c.deref.ensures.value c.tell-report.ensures.journal in
+    let journal = subst (λ (book : List Turn). r.journal ≡ last_length over.engine.store.down over.engine.store.store.counts.entries book) c.deref.ensures.value c.tell-report.ensures.journal in
     let back = c.disk-in-Ok-answer_all-1.given.1 (sym (c.release-disk-in-Ok-answer_all.ensures.loan ∙ (c.in-Ok-answer_all.ensures.loan ∙ c.in-Ok.ensures.loan))) ∙ c.release-disk-in-Ok-answer_all.ensures.disk in
     subst (λ (d : g.row.D.Denot). CrowdRun c.args.plan.now before (record { source = after.source; asks = after.asks; reads = after.reads; sink = after.sink; marks = after.marks; writes = after.writes; disk = g.D.Disk.view d }) r.status r.lines r.acks.items r.journal) (sym back)
     (crowd_late c.args.plan.now before after (g.D.Disk.view c.in-Ok.engine.disk) r.status script over.book.items over.all over.stopped c.in-Ok.engine.store over.engine.store r.lines r.acks.items r.journal

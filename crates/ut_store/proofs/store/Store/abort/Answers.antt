@@ -15,6 +15,6 @@ abort-requires c = runs (the_view c.self.inside) c.args.session c.unwrap-given_u
 
 pub returns : goal.returns
 returns c =
-    subst (λ (e : Held). Answers e c.args.session Abort (Answered Done) (record (the_view c.self.inside) { fates = c.abort.new.self; seats = c.close.new.self })) c.self.view_is
+    subst (λ (e : Held). Answers e c.args.session Abort (Answered Done) (record (the_view c.self.inside) { rows = record (the_view c.self.inside).rows { fates = c.abort.new.self }; seats = c.close.new.self })) c.self.view_is
     (gave_up_now (the_view c.self.inside) c.abort.new.self c.close.new.self c.args.session c.unwrap-given_up.result c.requires.inside c.requires.seat
     (subst (λ (e : Held). early_refusal e c.args.session Abort ≡ None) (sym c.self.view_is) c.requires.early) (sym c.opened.ensures ∙ c.unwrap-given_up.ensures) c.abort.ensures c.close.ensures)

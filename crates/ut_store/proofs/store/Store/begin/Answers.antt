@@ -13,12 +13,12 @@ use Rattle.ut_store.proofs.store.Store.begin.Goals as goal
 
 pub returns-in-Err : goal.returns-in-Err
 returns-in-Err c =
-    let new = record (the_view c.self.inside) { fates = c.start.new.self } in
+    let new = record (the_view c.self.inside) { rows = record (the_view c.self.inside).rows { fates = c.start.new.self } } in
     subst (λ (e : Held). Answers e c.args.session Begin (Answered (Refused Memory)) new) c.self.view_is
     (no_memory (the_view c.self.inside) new c.args.session Begin refl (same_fates (the_view c.self.inside) c.start.new.self c.in-Err.ensures.err))
 
 pub returns-in-Ok : goal.returns-in-Ok
 returns-in-Ok c =
-    subst (λ (e : Held). Answers e c.args.session Begin (Answered Done) (record (the_view c.self.inside) { fates = c.start.new.self; seats = c.begin.new.self })) c.self.view_is
+    subst (λ (e : Held). Answers e c.args.session Begin (Answered Done) (record (the_view c.self.inside) { rows = record (the_view c.self.inside).rows { fates = c.start.new.self }; seats = c.begin.new.self })) c.self.view_is
     (began_now (the_view c.self.inside) c.start.new.self c.begin.new.self c.args.session c.in-Ok.number c.requires.inside c.requires.seat
     (subst (λ (e : Held). early_refusal e c.args.session Begin ≡ None) (sym c.self.view_is) c.requires.early) c.in-Ok.ensures.ok c.in-Ok.ensures.number c.begin.ensures)

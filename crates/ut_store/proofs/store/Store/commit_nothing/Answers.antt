@@ -16,7 +16,7 @@ abort-requires c = runs (the_view c.self.inside) c.args.session c.unwrap-opened.
 
 pub returns : goal.returns
 returns c =
-    subst (λ (e : Held). Answers e c.args.session Commit (Answered Done) (record (the_view c.self.inside) { fates = c.abort.new.self; seats = c.close.new.self })) c.self.view_is
+    subst (λ (e : Held). Answers e c.args.session Commit (Answered Done) (record (the_view c.self.inside) { rows = record (the_view c.self.inside).rows { fates = c.abort.new.self }; seats = c.close.new.self })) c.self.view_is
     (committed_nothing_now (the_view c.self.inside) c.abort.new.self c.close.new.self c.args.session c.unwrap-opened.result c.requires.inside c.requires.seat
     (subst Stands (sym c.self.view_is) c.requires.stands)
     (subst (λ (e : Held). early_refusal e c.args.session Commit ≡ None) (sym c.self.view_is) c.requires.early)

@@ -25,9 +25,9 @@ commit-requires c = runs (the_view c.self.inside) c.args.session c.unwrap-opened
 pub returns : goal.returns
 returns c =
     let e = the_view c.self.inside in
-    subst (λ (x : Held). Answers x c.args.session Commit (Append (Committed (e.commits + 1))) (record e { fates = c.commit.new.self; seats = c.take_frame.new.self; commits = e.commits + 1; entries = e.entries + 1; frame = c.take_frame.new.out.payload })) c.self.view_is
+    subst (λ (x : Held). Answers x c.args.session Commit (Append (Committed (e.counts.commits + 1))) (record e { rows = record e.rows { fates = c.commit.new.self }; seats = c.take_frame.new.self; counts = record e.counts { commits = e.counts.commits + 1; entries = e.counts.entries + 1 }; frame = c.take_frame.new.out.payload })) c.self.view_is
     (committed_something_now e c.commit.new.self c.take_frame.new.self c.take_frame.new.out.payload c.args.session c.unwrap-opened.result c.requires.inside c.requires.seat
     (subst (λ (x : Held). early_refusal x c.args.session Commit ≡ None) (sym c.self.view_is) c.requires.early)
     (subst (λ (x : Held). nat_lt 5 (length (payload_at x.seats c.args.session)) ≡ true) (sym c.self.view_is) c.requires.something)
-    (subst (λ (x : Held). x.entries < 1073741823) (sym c.self.view_is) c.requires.room)
+    (subst (λ (x : Held). x.counts.entries < 1073741823) (sym c.self.view_is) c.requires.room)
     (sym c.opened.ensures ∙ c.unwrap-opened.ensures) c.commit.ensures c.take_frame.ensures.out c.take_frame.ensures.set)

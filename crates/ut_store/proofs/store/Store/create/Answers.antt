@@ -17,10 +17,10 @@ returns-then-len-ge-TABLES_LIMIT c =
     elim c.then-len-ge-TABLES_LIMIT.branch [
       | then-len-ge-TABLES_LIMIT-via-then-len-ge-TABLES_LIMIT w ↦
           create_full c.args.self.now c.args.session c.args.table.now c.args.columns.now c.requires.seat c.requires.early
-          (inl (subst (λ (e : Held). 256 ≤ length e.tables) c.self.view_is (omega (arith, c.len.ensures, w.if-len-ge-TABLES_LIMIT.true))))
+          (inl (subst (λ (e : Held). 256 ≤ length e.rows.tables) c.self.view_is (omega (arith, c.len.ensures, w.if-len-ge-TABLES_LIMIT.true))))
       | then-len-ge-TABLES_LIMIT-via-else-len-ge-TABLES_LIMIT+then-self-ge-ENTRIES_LIMIT w ↦
           create_full c.args.self.now c.args.session c.args.table.now c.args.columns.now c.requires.seat c.requires.early
-          (inr (subst (λ (e : Held). 1073741823 ≤ e.entries) c.self.view_is w.if-self-ge-ENTRIES_LIMIT.true))
+          (inr (subst (λ (e : Held). 1073741823 ≤ e.counts.entries) c.self.view_is w.if-self-ge-ENTRIES_LIMIT.true))
     ]
 
 pub add_table-requires-clause-spelled : goal.add_table-requires-clause-spelled
@@ -33,23 +33,23 @@ pub add_table-requires-clause-commits : goal.add_table-requires-clause-commits
 add_table-requires-clause-commits c =
     let small = are_small c.args.self.now c.requires.stands in
     let fewer = small.commits in
-    let short = subst (λ (e : Held). e.entries < 1073741823) c.self.view_is c.if-self-ge-ENTRIES_LIMIT.false in
+    let short = subst (λ (e : Held). e.counts.entries < 1073741823) c.self.view_is c.if-self-ge-ENTRIES_LIMIT.false in
     omega (arith, fewer, short)
 
-few_tables : (e now : Held) (n : ℕ) → e ≡ now → n ≡ length e.tables → n < 256 → length now.tables < 256
-few_tables e now n same count few = omega (arith, ap (λ (x : Held). length x.tables) same)
+few_tables : (e now : Held) (n : ℕ) → e ≡ now → n ≡ length e.rows.tables → n < 256 → length now.rows.tables < 256
+few_tables e now n same count few = omega (arith, ap (λ (x : Held). length x.rows.tables) same)
 
 pub returns : goal.returns
 returns c =
-    let count : c.len.result ≡ length (the_view c.self.inside).tables = omega (arith, c.len.ensures) in
-    let few : length c.args.self.now.tables < 256 = few_tables (the_view c.self.inside) c.args.self.now c.len.result c.self.view_is count c.if-len-ge-TABLES_LIMIT.false in
-    let short = subst (λ (e : Held). e.entries < 1073741823) c.self.view_is c.if-self-ge-ENTRIES_LIMIT.false in
+    let count : c.len.result ≡ length (the_view c.self.inside).rows.tables = omega (arith, c.len.ensures) in
+    let few : length c.args.self.now.rows.tables < 256 = few_tables (the_view c.self.inside) c.args.self.now c.len.result c.self.view_is count c.if-len-ge-TABLES_LIMIT.false in
+    let short = subst (λ (e : Held). e.counts.entries < 1073741823) c.self.view_is c.if-self-ge-ENTRIES_LIMIT.false in
     elim c.match-add_table.branch [
       | in-Err w ↦
           subst (λ (turn : Turn). Answers c.args.self.now c.args.session (Create c.args.table.now c.args.columns.now) turn c.add_table.new.self) (sym w.result-is)
           (no_memory c.args.self.now c.add_table.new.self c.args.session (Create c.args.table.now c.args.columns.now) refl w.in-Err.ensures.err)
       | in-Ok w ↦
           subst (λ (turn : Turn). Answers c.args.self.now c.args.session (Create c.args.table.now c.args.columns.now) turn c.add_table.new.self)
-          (sym (w.result-is ∙ ap (λ (e : Held). Append (Committed e.commits)) c.self-2.view_is))
+          (sym (w.result-is ∙ ap (λ (e : Held). Append (Committed e.counts.commits)) c.self-2.view_is))
           (created_now c.args.self.now c.add_table.new.self c.args.session c.args.table.now c.args.columns.now c.requires.seat c.requires.spelled c.requires.early few short w.in-Ok.ensures.ok)
     ]

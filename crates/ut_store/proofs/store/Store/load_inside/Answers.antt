@@ -1,75 +1,39 @@
-use Rattle.std.proofs.Common.{◌≡◌, ◌+◌, ◌++◌, ◌∙◌, All, List, Some, length, map, slice_get, refl, sym, ap, subst, arith, IsTrue}
-use Rattle.std.specs.List.{list_all}
-use Rattle.ut_value.specs.declared.value.Row.{Row}
-use Rattle.ut_plain.specs.Tables.{fits_columns}
+use Rattle.std.proofs.Common.{◌≡◌, ◌+◌, ◌++◌, ◌∙◌, Some, map, refl, ap}
 use Rattle.ut_value.specs.declared.entry.Entry.TheVariants.{Txn}
 use Rattle.ut_value.specs.Spelling.{spelling}
 use Rattle.ut_plain.specs.Rows.{inserts_of}
-use Rattle.ut_staged.specs.Staged.{Staged, begun_row, entered_l2, count_of}
+use Rattle.ut_staged.specs.Staged.{begun_row, entered_l2}
 use Rattle.ut_txn.specs.Seats.{opened_at}
-use Rattle.ut_store.specs.Held.{Held}
-use Rattle.ut_change.specs.Writes.{op_fits}
 use Rattle.ut_change.specs.Loads.{inserted}
-use Rattle.ut_store.proofs.IndexLemmas.{on_err, stages_in, stages_at_place, stages_same, stages_put, seat_set_behind, same_by, inside_by}
-use Rattle.ut_change.proofs.LoadLemmas.{rows-fit, inserts-all}
+use Rattle.ut_store.specs.Held.{Held}
+use Rattle.ut_store.specs.contracts.store.Store.{the_view}
+use Rattle.ut_store.proofs.IndexLemmas.{on_err, stages_here, seat_set_behind, same_room, done_inside}
+use Rattle.ut_store.proofs.LoadLemmas.{load_fit, load_few}
 use Rattle.ut_store.proofs.store.Store.load_inside.Goals as goal
 
 pub load-requires-clause-fit : goal.load-requires-clause-fit
 load-requires-clause-fit c =
-    let items = c.self.inside.stages.items in
-    let at : slice_get (stages_in items) c.args.place ≡ Some c.requires.can.table = ap (λ (h : Held). slice_get h.staged c.args.place) c.self.view_is ∙ c.requires.can.at in
-    let here = stages_at_place items c.args.place c.index_mut-table.result.now c.requires.can.table at c.index_mut-table.ensures.value in
+    let here = stages_here (the_view c.self.inside) _ c.self.inside.rows.stages.items c.args.place c.index_mut-table.result.now c.requires.can.table c.self.view_is refl c.requires.can.at c.index_mut-table.ensures.value in
     let all : c.deref-4.result.now ≡ inserted c.args.ops.items = c.deref-4.ensures.value ∙ c.in_ok-rows.ensures ∙ ap inserted c.deref-3.ensures.value in
-    subst (λ (s : Staged). All (λ (r : Row). IsTrue (fits_columns s.columns r.values)) c.deref-4.result.now) (sym here)
-    (subst (λ (rows : List Row). All (λ (r : Row). IsTrue (fits_columns c.requires.can.table.columns r.values)) rows) (sym all)
-    (rows-fit c.requires.can.table.columns c.args.place (inserted c.args.ops.items) (subst (λ os. IsTrue (list_all (op_fits c.requires.can.table.columns) os)) c.requires.rows c.requires.can.write.fits)))
+    load_fit _ _ _ c.requires.can c.requires.rows _ _ here all
 
 pub load-requires-clause-few : goal.load-requires-clause-few
 load-requires-clause-few c =
-    let items = c.self.inside.stages.items in
-    let at : slice_get (stages_in items) c.args.place ≡ Some c.requires.can.table = ap (λ (h : Held). slice_get h.staged c.args.place) c.self.view_is ∙ c.requires.can.at in
-    let here = stages_at_place items c.args.place c.index_mut-table.result.now c.requires.can.table at c.index_mut-table.ensures.value in
-    let count = ap count_of here in
-    let few = c.requires.can.write.few in
+    let here = stages_here (the_view c.self.inside) _ c.self.inside.rows.stages.items c.args.place c.index_mut-table.result.now c.requires.can.table c.self.view_is refl c.requires.can.at c.index_mut-table.ensures.value in
     let all : c.deref-4.result.now ≡ inserted c.args.ops.items = c.deref-4.ensures.value ∙ c.in_ok-rows.ensures ∙ ap inserted c.deref-3.ensures.value in
-    let rows = ap inserts_of c.requires.rows ∙ inserts-all c.args.place (inserted c.args.ops.items) ∙ sym (ap length all) in
-    omega (arith, count, few, rows)
+    load_few _ _ _ c.requires.can c.requires.rows _ _ here all
 
 pub returns-in_err-load-clause-err : goal.returns-in_err-load-clause-err
 returns-in_err-load-clause-err c =
-    let items = c.self.inside.stages.items in
-    let at : slice_get (stages_in items) c.args.place ≡ Some c.requires.can.table = ap (λ (h : Held). slice_get h.staged c.args.place) c.self.view_is ∙ c.requires.can.at in
-    let here = stages_at_place items c.args.place c.index_mut-table.result.now c.requires.can.table at c.index_mut-table.ensures.value in
-    on_err _ _ (same_by _ _ _ c.self.view_is (record {
-      tables = refl;
-      staged = stages_same items c.args.place c.load.new.self c.requires.can.table at (c.in_err-load.ensures.err ∙ here);
-      fates = refl;
-      seats = c.in_ok-room.ensures.stay;
-      next_id = refl;
-      rows_limit = refl;
-      commits = refl;
-      merges = refl;
-      entries = refl;
-      pending = refl;
-    }))
+    let here = stages_here (the_view c.self.inside) _ c.self.inside.rows.stages.items c.args.place c.index_mut-table.result.now c.requires.can.table c.self.view_is refl c.requires.can.at c.index_mut-table.ensures.value in
+    on_err _ _ (same_room (the_view c.self.inside) _ c.self.inside.rows.stages.items c.args.place c.load.new.self c.requires.can.table _ _ c.self.view_is refl c.requires.can.at (c.in_err-load.ensures.err ∙ here) refl c.in_ok-room.ensures.stay)
 
 pub returns-clause-ok : goal.returns-clause-ok
 returns-clause-ok c =
-    let items = c.self.inside.stages.items in
-    let at : slice_get (stages_in items) c.args.place ≡ Some c.requires.can.table = ap (λ (h : Held). slice_get h.staged c.args.place) c.self.view_is ∙ c.requires.can.at in
-    let here = stages_at_place items c.args.place c.index_mut-table.result.now c.requires.can.table at c.index_mut-table.ensures.value in
+    let here = stages_here (the_view c.self.inside) _ c.self.inside.rows.stages.items c.args.place c.index_mut-table.result.now c.requires.can.table c.self.view_is refl c.requires.can.at c.index_mut-table.ensures.value in
     let all : c.deref-4.result.now ≡ inserted c.args.ops.items = c.deref-4.ensures.value ∙ c.in_ok-rows.ensures ∙ ap inserted c.deref-3.ensures.value in
-    let f : Staged → Staged = λ s. entered_l2 (map (begun_row c.args.opened.number) (inserted c.args.ops.items)) s in
-    inside_by _ _ _ _ _ _ _ _ c.self.view_is (record {
-      tables = refl;
-      staged = λ s is. stages_put items c.args.place c.load.new.self c.requires.can.table s f at is (c.in_ok-load.ensures.ok ∙ (λ i. entered_l2 (map (begun_row c.args.opened.number) (all i)) (here i)));
-      fates = refl;
-      bytes = λ ps is. c.note_all.ensures.grown ps (c.in_ok-room.ensures.stay.payloads c.args.session ∙ is) ∙ ap (λ os. spelling (Txn (ps ++ os))) c.deref-5.ensures.value;
-      seats = seat_set_behind _ _ _ c.args.session (Some c.args.opened) _ c.in_ok-room.ensures.stay (ap (λ (h : Held). opened_at h.seats c.args.session) c.self.view_is ∙ c.requires.opened) c.note_all.ensures.set;
-      next_id = ap (λ n. c.self.inside.next_id + n) (c.inserts_of-inserts.ensures ∙ ap inserts_of c.deref.ensures.value);
-      rows_limit = refl;
-      commits = refl;
-      merges = refl;
-      entries = refl;
-      pending = refl;
-    })
+    done_inside (the_view c.self.inside) _ c.self.inside.rows.stages.items c.args.place c.load.new.self c.requires.can.table _ _ _ _ _ _ c.self.view_is refl c.requires.can.at
+    (c.in_ok-load.ensures.ok ∙ (λ i. entered_l2 (map (begun_row c.args.opened.number) (all i)) (here i)))
+    (ap (λ n. c.self.inside.counts.next_id + n) (c.inserts_of-inserts.ensures ∙ ap inserts_of c.deref.ensures.value))
+    (λ ps is. c.note_all.ensures.grown ps (c.in_ok-room.ensures.stay.payloads c.args.session ∙ is) ∙ ap (λ os. spelling (Txn (ps ++ os))) c.deref-5.ensures.value)
+    (seat_set_behind _ _ _ c.args.session (Some c.args.opened) _ c.in_ok-room.ensures.stay (ap (λ (h : Held). opened_at h.seats c.args.session) c.self.view_is ∙ c.requires.opened) c.note_all.ensures.set)

@@ -19,7 +19,7 @@ pub returns-then-not-has_merge_room-clause-answers : goal.returns-then-not-has_m
 returns-then-not-has_merge_room-clause-answers c =
     let e = c.args.self.now in
     let place = c.unwrap-place.result in
-    let at : place_of e.tables c.args.table.now ≡ Some place =
+    let at : place_of e.rows.tables c.args.table.now ≡ Some place =
     looked_up (the_view c.self.inside) e c.deref.result.now c.args.table.now c.place_of.result place c.self.view_is c.deref.ensures.value (c.place_of.ensures ∙ ap (place_of c.deref.result.now) c.as_slice.ensures.bytes) c.unwrap-place.ensures in
     let t = named_table e c.args.table.now place c.requires.stands at in
     subst (λ (turn : Turn). Answers e c.args.session (MergeBegin c.args.table.now c.args.kind) turn e) (sym c.without_job.ensures.turn)
@@ -29,7 +29,7 @@ pub close_table-requires-clause-may : goal.close_table-requires-clause-may
 close_table-requires-clause-may c =
     let e = c.args.self.now in
     let place = c.unwrap-place.result in
-    let at : place_of e.tables c.args.table.now ≡ Some place =
+    let at : place_of e.rows.tables c.args.table.now ≡ Some place =
     looked_up (the_view c.self.inside) e c.deref.result.now c.args.table.now c.place_of.result place c.self.view_is c.deref.ensures.value (c.place_of.ensures ∙ ap (place_of c.deref.result.now) c.as_slice.ensures.bytes) c.unwrap-place.ensures in
     let t = named_table e c.args.table.now place c.requires.stands at in
     may_merge e place t.0 c.args.kind c.requires.stands (not_busy e c.args.session c.args.table.now c.args.kind c.requires.early) t.1 (sym (c.has_merge_room.ensures t.0 t.1) ∙ c.if-not-has_merge_room.false)
@@ -38,7 +38,7 @@ pub close_table-requires-clause-place : goal.close_table-requires-clause-place
 close_table-requires-clause-place c =
     let e = c.args.self.now in
     let place = c.unwrap-place.result in
-    let at : place_of e.tables c.args.table.now ≡ Some place =
+    let at : place_of e.rows.tables c.args.table.now ≡ Some place =
     looked_up (the_view c.self.inside) e c.deref.result.now c.args.table.now c.place_of.result place c.self.view_is c.deref.ensures.value (c.place_of.ensures ∙ ap (place_of c.deref.result.now) c.as_slice.ensures.bytes) c.unwrap-place.ensures in
     let t = named_table e c.args.table.now place c.requires.stands at in
     (merge_small e place t.0 c.args.kind c.requires.stands t.1 (sym (c.has_merge_room.ensures t.0 t.1) ∙ c.if-not-has_merge_room.false)).0
@@ -47,7 +47,7 @@ pub close_table-requires-clause-entries : goal.close_table-requires-clause-entri
 close_table-requires-clause-entries c =
     let e = c.args.self.now in
     let place = c.unwrap-place.result in
-    let at : place_of e.tables c.args.table.now ≡ Some place =
+    let at : place_of e.rows.tables c.args.table.now ≡ Some place =
     looked_up (the_view c.self.inside) e c.deref.result.now c.args.table.now c.place_of.result place c.self.view_is c.deref.ensures.value (c.place_of.ensures ∙ ap (place_of c.deref.result.now) c.as_slice.ensures.bytes) c.unwrap-place.ensures in
     let t = named_table e c.args.table.now place c.requires.stands at in
     (merge_small e place t.0 c.args.kind c.requires.stands t.1 (sym (c.has_merge_room.ensures t.0 t.1) ∙ c.if-not-has_merge_room.false)).1
@@ -56,7 +56,7 @@ pub close_table-requires-clause-merges : goal.close_table-requires-clause-merges
 close_table-requires-clause-merges c =
     let e = c.args.self.now in
     let place = c.unwrap-place.result in
-    let at : place_of e.tables c.args.table.now ≡ Some place =
+    let at : place_of e.rows.tables c.args.table.now ≡ Some place =
     looked_up (the_view c.self.inside) e c.deref.result.now c.args.table.now c.place_of.result place c.self.view_is c.deref.ensures.value (c.place_of.ensures ∙ ap (place_of c.deref.result.now) c.as_slice.ensures.bytes) c.unwrap-place.ensures in
     let t = named_table e c.args.table.now place c.requires.stands at in
     (merge_small e place t.0 c.args.kind c.requires.stands t.1 (sym (c.has_merge_room.ensures t.0 t.1) ∙ c.if-not-has_merge_room.false)).2
@@ -65,7 +65,7 @@ pub returns-clause-answers : goal.returns-clause-answers
 returns-clause-answers c =
     let e = c.args.self.now in
     let place = c.unwrap-place.result in
-    let at : place_of e.tables c.args.table.now ≡ Some place =
+    let at : place_of e.rows.tables c.args.table.now ≡ Some place =
     looked_up (the_view c.self.inside) e c.deref.result.now c.args.table.now c.place_of.result place c.self.view_is c.deref.ensures.value (c.place_of.ensures ∙ ap (place_of c.deref.result.now) c.as_slice.ensures.bytes) c.unwrap-place.ensures in
     let t = named_table e c.args.table.now place c.requires.stands at in
     elim c.match-close_table.branch [
@@ -75,7 +75,7 @@ returns-clause-answers c =
           (no_memory e c.close_table.new.self c.args.session (MergeBegin c.args.table.now c.args.kind) refl w.in-Err.ensures.err)
       | in-Ok w ↦
           subst (λ (turn : Turn). Answers e c.args.session (MergeBegin c.args.table.now c.args.kind) turn c.close_table.new.self)
-          (sym (ap (λ (o : Outcome). o.turn) w.result-is ∙ ap (λ (h : Held). Append (Merge h.merges)) c.self-2.view_is))
+          (sym (ap (λ (o : Outcome). o.turn) w.result-is ∙ ap (λ (h : Held). Append (Merge h.counts.merges)) c.self-2.view_is))
           (merge_begun_now e c.close_table.new.self c.args.session c.args.table.now c.args.kind place t.0 c.requires.seat c.requires.spelled c.requires.early
           (not_busy e c.args.session c.args.table.now c.args.kind c.requires.early) at t.1 (sym (c.has_merge_room.ensures t.0 t.1) ∙ c.if-not-has_merge_room.false) (w.in-Ok.ensures.ok t.0 t.1))
     ]

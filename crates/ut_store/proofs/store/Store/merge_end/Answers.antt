@@ -21,9 +21,9 @@ use Rattle.ut_store.proofs.store.Store.merge_end.Goals as goal
 pub switch-requires : goal.switch-requires
 switch-requires c =
     let e = the_view c.self.inside in
-    let items = c.self.inside.stages.items in
+    let items = c.self.inside.rows.stages.items in
     let m = c.head-head.result in
-    let is : e.pending ≡ Some m = sym c.take.ensures.value ∙ c.unwrap-pending.ensures ∙ ap Some (sym c.head-head.ensures) in
+    let is : e.counts.pending ≡ Some m = sym c.take.ensures.value ∙ c.unwrap-pending.ensures ∙ ap Some (sym c.head-head.ensures) in
     let t = merged_table e m c.args.built (subst Stands (sym c.self.view_is) c.requires.stands) is (subst (λ (x : Held). pending_job x ≡ Some c.args.built) (sym c.self.view_is) c.requires.built) in
     let at : slice_get (stages_in items) c.from.result ≡ Some t.table = ap (slice_get (stages_in items)) c.from.ensures ∙ t.at in
     ap tables.pending_job (stages_at_place items c.from.result c.index_mut.result.now t.table at c.index_mut.ensures.value) ∙ t.has
@@ -31,19 +31,19 @@ switch-requires c =
 pub returns : goal.returns
 returns c =
     let e = the_view c.self.inside in
-    let items = c.self.inside.stages.items in
+    let items = c.self.inside.rows.stages.items in
     let m = c.head-head.result in
     let stands = subst Stands (sym c.self.view_is) c.requires.stands in
-    let is : e.pending ≡ Some m = sym c.take.ensures.value ∙ c.unwrap-pending.ensures ∙ ap Some (sym c.head-head.ensures) in
+    let is : e.counts.pending ≡ Some m = sym c.take.ensures.value ∙ c.unwrap-pending.ensures ∙ ap Some (sym c.head-head.ensures) in
     let t = merged_table e m c.args.built stands is (subst (λ (x : Held). pending_job x ≡ Some c.args.built) (sym c.self.view_is) c.requires.built) in
     let place : c.from.result ≡ m.table = c.from.ensures in
     let there = merged_within e m stands is in
     let within : c.from.result < length items = omega (arith, there, place, length-map items (λ (x : TableValue). x.stages)) in
     let at : slice_get items m.table ≡ Some c.index_mut.result.now = ap (slice_get items) (sym place) ∙ slice_get_read items (length items) c.from.result c.index_mut.result.now refl within c.index_mut.ensures.value in
     let new : List TableValue = slice_set items c.from.result c.switch.new.self in
-    subst (λ (x : Held). Answers x c.args.session MergeEnd (Append (replies.Merge m.number)) (record e { staged = stages_in new; entries = e.entries + 1; pending = c.take.new.self; frame = c.into_frame.result.payload })) c.self.view_is
-    (subst (λ (o : Option PendingMerge). Answers e c.args.session MergeEnd (Append (replies.Merge m.number)) (record e { staged = stages_in new; entries = e.entries + 1; pending = o; frame = c.into_frame.result.payload })) (sym c.take.ensures.after)
-    (subst (λ (n : ℕ). Answers e c.args.session MergeEnd (Append (replies.Merge m.number)) (record e { staged = stages_in (slice_set items n c.switch.new.self); entries = e.entries + 1; pending = None; frame = c.into_frame.result.payload })) (sym place)
+    subst (λ (x : Held). Answers x c.args.session MergeEnd (Append (replies.Merge m.number)) (record e { rows = record e.rows { staged = stages_in new }; counts = record e.counts { entries = e.counts.entries + 1; pending = c.take.new.self }; frame = c.into_frame.result.payload })) c.self.view_is
+    (subst (λ (o : Option PendingMerge). Answers e c.args.session MergeEnd (Append (replies.Merge m.number)) (record e { rows = record e.rows { staged = stages_in new }; counts = record e.counts { entries = e.counts.entries + 1; pending = o }; frame = c.into_frame.result.payload })) (sym c.take.ensures.after)
+    (subst (λ (n : ℕ). Answers e c.args.session MergeEnd (Append (replies.Merge m.number)) (record e { rows = record e.rows { staged = stages_in (slice_set items n c.switch.new.self) }; counts = record e.counts { entries = e.counts.entries + 1; pending = None }; frame = c.into_frame.result.payload })) (sym place)
     (merge_ended_now e items m c.index_mut.result.now c.switch.new.self c.args.session c.into_frame.result.payload c.requires.seat is refl at
     (subst (λ (h : PendingMerge). Switches h c.index_mut.result.now.stages c.switch.new.self.stages) t.head c.switch.ensures)
     (c.into_frame.ensures ∙ ap (λ (h : PendingMerge). spelling (entries.Ended h.number)) (sym c.head-head.ensures)))))

@@ -19,18 +19,18 @@ use Rattle.ut_store.proofs.store.Store.merge_l1.Goals.{in-Err, in-Ok}
 pub index_mut-requires : goal.index_mut-requires
 index_mut-requires c =
     let e = the_view c.self.inside in
-    let at : place_of e.tables c.args.table.now ≡ Some c.unwrap-place.result = (λ i. place_of (sym c.deref.ensures.value i) (sym c.as_slice.ensures.bytes i)) ∙ sym c.place_of.ensures ∙ c.unwrap-place.ensures in
-    let within = place_within e c.self.inside.stages.items c.args.table.now c.unwrap-place.result (subst Stands (sym c.self.view_is) c.requires.stands) refl at in
+    let at : place_of e.rows.tables c.args.table.now ≡ Some c.unwrap-place.result = (λ i. place_of (sym c.deref.ensures.value i) (sym c.as_slice.ensures.bytes i)) ∙ sym c.place_of.ensures ∙ c.unwrap-place.ensures in
+    let within = place_within e c.self.inside.rows.stages.items c.args.table.now c.unwrap-place.result (subst Stands (sym c.self.view_is) c.requires.stands) refl at in
     omega (arith, within)
 
 pub returns : goal.returns
 returns c =
     let e = the_view c.self.inside in
-    let items = c.self.inside.stages.items in
+    let items = c.self.inside.rows.stages.items in
     let place = c.unwrap-place.result in
-    let at : place_of e.tables c.args.table.now ≡ Some place = (λ i. place_of (sym c.deref.ensures.value i) (sym c.as_slice.ensures.bytes i)) ∙ sym c.place_of.ensures ∙ c.unwrap-place.ensures in
+    let at : place_of e.rows.tables c.args.table.now ≡ Some place = (λ i. place_of (sym c.deref.ensures.value i) (sym c.as_slice.ensures.bytes i)) ∙ sym c.place_of.ensures ∙ c.unwrap-place.ensures in
     let is : slice_get items place ≡ Some c.index_mut.result.now = table_read e items c.args.table.now place c.index_mut.result.now (subst Stands (sym c.self.view_is) c.requires.stands) refl at c.index_mut.ensures.value in
-    let new : Held = record e { staged = map (λ (t : TableValue). t.stages) (slice_set items place c.merge_l1.new.self) } in
+    let new : Held = record e { rows = record e.rows { staged = map (λ (t : TableValue). t.stages) (slice_set items place c.merge_l1.new.self) } } in
     elim c.match-merge_l1.branch [
       | in-Err w ↦
           subst (λ (turn : Turn). Answers c.args.self.now c.args.session (MergeL1 c.args.table.now c.args.n) turn new) (sym w.result-is)

@@ -16,8 +16,8 @@ use Rattle.ut_store.proofs.store.Store.shape.Goals as goal
 pub index-requires : goal.index-requires
 index-requires c =
     let e = the_view c.self.inside in
-    let at : place_of e.tables c.args.table.now ≡ Some c.unwrap-place.result = (λ i. place_of (sym c.deref.ensures.value i) (sym c.as_slice.ensures.bytes i)) ∙ sym c.place_of.ensures ∙ c.unwrap-place.ensures in
-    let within = place_within e c.self.inside.stages.items c.args.table.now c.unwrap-place.result (subst Stands (sym c.self.view_is) c.requires.stands) refl at in
+    let at : place_of e.rows.tables c.args.table.now ≡ Some c.unwrap-place.result = (λ i. place_of (sym c.deref.ensures.value i) (sym c.as_slice.ensures.bytes i)) ∙ sym c.place_of.ensures ∙ c.unwrap-place.ensures in
+    let within = place_within e c.self.inside.rows.stages.items c.args.table.now c.unwrap-place.result (subst Stands (sym c.self.view_is) c.requires.stands) refl at in
     omega (arith, within)
 
 pub returns-in-Err : goal.returns-in-Err
@@ -26,9 +26,9 @@ returns-in-Err c = no_memory c.args.self.now c.args.self.now c.args.session (Sha
 pub returns-in-Ok : goal.returns-in-Ok
 returns-in-Ok c =
     let e = the_view c.self.inside in
-    let items = c.self.inside.stages.items in
+    let items = c.self.inside.rows.stages.items in
     let place = c.unwrap-place.result in
-    let at : place_of e.tables c.args.table.now ≡ Some place = (λ i. place_of (sym c.deref.ensures.value i) (sym c.as_slice.ensures.bytes i)) ∙ sym c.place_of.ensures ∙ c.unwrap-place.ensures in
+    let at : place_of e.rows.tables c.args.table.now ≡ Some place = (λ i. place_of (sym c.deref.ensures.value i) (sym c.as_slice.ensures.bytes i)) ∙ sym c.place_of.ensures ∙ c.unwrap-place.ensures in
     let t = c.index.result.now in
     let is : slice_get items place ≡ Some t = table_read e items c.args.table.now place t (subst Stands (sym c.self.view_is) c.requires.stands) refl at c.index.ensures in
     subst (λ (x : Held). Answers x c.args.session (Shape c.args.table.now) (Answered (replies.Shape c.in-Ok.shape)) x) c.self.view_is

@@ -5,7 +5,7 @@ use Rattle.ut_plain.specs.Kinds.{query_fits}
 use Rattle.ut_plain.specs.Names.{query_known}
 use Rattle.ut_names.specs.Resolved.{Hinders}
 use Rattle.ut_query.specs.Look.{CanLook, Sight}
-use Rattle.ut_query.specs.Tells.{IsTold}
+use Rattle.ut_query.specs.Tells.{IsAnswer}
 use Rattle.ut_store.proofs.AskLemmas.{kept_back, told_now}
 use Rattle.ut_store.proofs.LookLemmas.{can_ask}
 use Rattle.ut_store.proofs.store.Store.tell.Goals as goal
@@ -16,7 +16,7 @@ ask-requires c = subst (λ (l : Sight). CanLook l) (sym c.look-look.ensures) (ca
 pub returns-in-Ok : goal.returns-in-Ok
 returns-in-Ok c =
     told_now c.args.self.now c.args.session c.args.query.now c.in-Ok.reply c.requires.seat c.requires.spelled
-    (subst (λ (l : Sight). IsTold l c.args.query.now c.in-Ok.reply) c.look-look.ensures c.in-Ok.ensures.ok)
+    (subst (λ (l : Sight). IsAnswer l c.args.query.now c.in-Ok.reply) c.look-look.ensures c.in-Ok.ensures.ok)
 
 pub returns-in-Err : goal.returns-in-Err
 returns-in-Err c =

@@ -1,9 +1,0 @@
-use Rattle.std.proofs.Common.{◌∙◌, [], sym, ap}
-use Rattle.ut_store.specs.Changes.{late_refusal}
-use Rattle.ut_store.proofs.FinishLemmas.{answers_refused}
-use Rattle.ut_store.proofs.store.Store.finish_bulk.Goals as goal
-
-pub returns-in-Some : goal.returns-in-Some
-returns-in-Some c =
-    answers_refused _ _ _ _ _ _ _ _ c.in-Some.why c.requires.may c.requires.work
-    (ap (late_refusal c.args.self.now c.args.session c.args.place []) (sym c.deref.ensures.value) ∙ sym c.in-Some.ensures)
