@@ -6,7 +6,7 @@ use std::alloc::{AllocError, Global};
 
 /// How codes follow one another.
 #[derive(Clone, Copy)]
-pub enum Pattern {
+pub(crate) enum Pattern {
     /// Each is drawn.
     Mixed,
     /// Each is drawn, and stands a hundred times.
@@ -17,7 +17,7 @@ pub enum Pattern {
     Ascending,
 }
 
-/// A number whose bits all depend on those of `x`.
+// A number whose bits all depend on those of `x`.
 fn scattered(x: u64) -> u64 {
     let y = (x ^ (x >> 31)).wrapping_mul(0x9e37_79b9_7f4a_7c15);
     let z = (y ^ (y >> 29)).wrapping_mul(0xbf58_476d_1ce4_e5b9);
@@ -50,7 +50,7 @@ fn code_at(pattern: Pattern, i: u32, reach: u32) -> u32
 }
 
 /// Codes below `reach`.
-pub fn codes(
+pub(crate) fn codes(
     alloc: Global,
     pattern: Pattern,
     count: u32,

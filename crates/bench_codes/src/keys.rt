@@ -3,7 +3,7 @@ use std::alloc::{AllocError, Global};
 use ut_key::KeyList;
 
 /// The keys of numbers, three apart.
-pub fn int_keys(alloc: Global, count: u32) -> Result<KeyList, AllocError> {
+pub(crate) fn int_keys(alloc: Global, count: u32) -> Result<KeyList, AllocError> {
     let mut keys = KeyList::with_capacity(alloc, count as usize, 8 * count as usize)?;
     for i in 0..count {
         let number = (1u64 << 63) + 3 * u64::from(i);
@@ -12,7 +12,7 @@ pub fn int_keys(alloc: Global, count: u32) -> Result<KeyList, AllocError> {
     Ok(keys)
 }
 
-/// The decimal digit of a number at the place whose worth is `unit`.
+// The decimal digit of a number at the place whose worth is `unit`.
 fn digit(number: u32, unit: u32) -> u8 {
     match unit {
         0 => b'0',
@@ -21,7 +21,7 @@ fn digit(number: u32, unit: u32) -> u8 {
 }
 
 /// The keys of texts: a word and nine digits.
-pub fn text_keys(alloc: Global, count: u32) -> Result<KeyList, AllocError> {
+pub(crate) fn text_keys(alloc: Global, count: u32) -> Result<KeyList, AllocError> {
     let mut keys = KeyList::with_capacity(alloc, count as usize, 18 * count as usize)?;
     for i in 0..count {
         let mut text = *b"Customer#000000000";

@@ -11,7 +11,7 @@ use std::time::Instant;
 use ut_key::{KeyList, Steps, is_ascending};
 use ut_prefix::PrefixDict;
 
-/// The sum of the codes of all keys, which are looked up in another order than theirs.
+// The sum of the codes of all keys, which are looked up in another order than theirs.
 fn sum<L: Ledger>(dict: &PrefixDict, keys: &KeyList, steps: &mut Steps<L>) -> u64 {
     let mut sum = 0u64;
     let count = keys.len() as u64;
@@ -25,7 +25,7 @@ fn sum<L: Ledger>(dict: &PrefixDict, keys: &KeyList, steps: &mut Steps<L>) -> u6
     sum
 }
 
-/// Times making a dictionary and looking up its keys.
+// Times making a dictionary and looking up its keys.
 fn time_calls<R: Print + Eprint + Clock, L: Ledger>(
     rt: &R,
     alloc: Global,
@@ -45,7 +45,7 @@ fn time_calls<R: Print + Eprint + Clock, L: Ledger>(
 }
 
 /// Times the calls at so many keys of numbers, and of texts.
-pub fn time_all<R: Print + Eprint + Clock, L: Ledger>(
+pub(crate) fn time_all<R: Print + Eprint + Clock, L: Ledger>(
     rt: &R,
     alloc: Global,
     count: u32,

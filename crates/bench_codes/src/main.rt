@@ -33,7 +33,7 @@ const FEW: Sizes = Sizes {
 
 const MOST: u32 = 100_000_000;
 
-/// The number that an argument gives, where it is there and not too great.
+// The number that an argument gives, where it is there and not too great.
 fn number(argument: Option<String>, else_this: u32) -> Result<u32>
     requires { else_this ≤ MOST }
     ensures { IfOk result (λ number. number ≤ MOST) }

@@ -12,7 +12,7 @@ use ut_codes::{CodeVec, width_of};
 use ut_mask::Mask;
 use ut_packed::Packed;
 
-/// The sum of all codes, read in order.
+// The sum of all codes, read in order.
 fn sum(vector: &CodeVec) -> u64 {
     let mut sum = 0u64;
     for i in 0..vector.len() {
@@ -39,7 +39,7 @@ fn time_reading<R: Print + Eprint + Clock>(
     say(rt, subject, "from_bytes", start, size as u64)
 }
 
-/// Times the packed form alone, which the choice of a form is no part of.
+// Times the packed form alone, which the choice of a form is no part of.
 fn time_packing<R: Print + Eprint + Clock>(
     rt: &R,
     alloc: Global,
@@ -56,7 +56,7 @@ fn time_packing<R: Print + Eprint + Clock>(
     say(rt, subject, "pack", start, u64::from(packed.len()))
 }
 
-/// Times the scans that list places; the second range holds the code 0.
+// Times the scans that list places; the second range holds the code 0.
 fn time_places<R: Print + Eprint + Clock>(
     rt: &R,
     alloc: Global,
@@ -74,7 +74,7 @@ fn time_places<R: Print + Eprint + Clock>(
     say(rt, subject, "places_in_low", start, low.len() as u64)
 }
 
-/// Times the scans that narrow a mask, by one range and by two.
+// Times the scans that narrow a mask, by one range and by two.
 fn time_masks<R: Print + Eprint + Clock>(
     rt: &R,
     alloc: Global,
@@ -93,7 +93,7 @@ fn time_masks<R: Print + Eprint + Clock>(
     say(rt, subject, "keep_in_but", start, u64::from(but.count()))
 }
 
-/// Times the scan that narrows a mask by a range of one code.
+// Times the scan that narrows a mask by a range of one code.
 fn time_point<R: Print + Eprint + Clock>(
     rt: &R,
     alloc: Global,
@@ -136,7 +136,7 @@ fn time_calls<R: Print + Eprint + Clock>(
 }
 
 /// Times the calls at so many codes of a pattern.
-pub fn time_all<R: Print + Eprint + Clock>(
+pub(crate) fn time_all<R: Print + Eprint + Clock>(
     rt: &R,
     alloc: Global,
     subject: &str,

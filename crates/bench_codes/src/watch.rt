@@ -4,7 +4,7 @@ use std::rt::Clock;
 use std::time::Instant;
 
 /// Says a call's answer on standard output, and the nanoseconds since `start` on standard error.
-pub fn say(
+pub(crate) fn say(
     rt: &(impl Print + Eprint + Clock),
     subject: &str,
     call: &str,

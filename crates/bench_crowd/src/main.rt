@@ -30,7 +30,7 @@ fn main(rt: HostRuntime) -> Result<ExitCode> {
     })
 }
 
-/// A run with the words of the process, and what the hook saw.
+// A run with the words of the process, and what the hook saw.
 fn run<S: Source<K>, K: Sink<D>, D: Disk + Send>(
     rt: &(impl AllocGlobal + Eprint + Env + Clock + Threads + Wait + Sync),
     alloc: Global,
@@ -46,7 +46,7 @@ fn run<S: Source<K>, K: Sink<D>, D: Disk + Send>(
     Ok(report.status)
 }
 
-/// The words that the process was called with, the program's name first.
+// The words that the process was called with, the program's name first.
 fn words_of(rt: &(impl AllocGlobal + Env), alloc: Global) -> Result<Vec<String>> {
     let mut words = Vec::new(alloc);
     for word in env::args(rt)? {
@@ -55,7 +55,7 @@ fn words_of(rt: &(impl AllocGlobal + Env), alloc: Global) -> Result<Vec<String>>
     Ok(words)
 }
 
-/// The words as texts.
+// The words as texts.
 fn texts_of(alloc: Global, words: &[String]) -> Result<Vec<&str>, AllocError> {
     let mut texts = Vec::new(alloc);
     for word in words {

@@ -48,7 +48,7 @@ impl<'a, R: Clock> Watch<'a, R> {
         })
     }
 
-    /// The time since the watch began, and never 0.
+    // The time since the watch began, and never 0.
     fn now(&self) -> u64 {
         match self.start.elapsed(self.rt) {
             Ok(time) => u64::try_from(time.as_nanos()).unwrap_or(u64::MAX).max(1),
@@ -56,7 +56,7 @@ impl<'a, R: Clock> Watch<'a, R> {
         }
     }
 
-    /// The gap that ends now in the build that is under way, if one is.
+    // The gap that ends now in the build that is under way, if one is.
     fn end_gap(&self, answered: u64, now: u64) {
         let began = self.began.load(SeqCst);
         if began == 0 {

@@ -10,14 +10,14 @@ use ut_mask::Mask;
 use ut_rle::Runs;
 use ut_sparse::most_frequent;
 
-/// Whether every code is below a limit.
+// Whether every code is below a limit.
 fn are_below(codes: &[u32], limit: u32) -> bool
     ensures { result ≡ list_all (λ c. nat_lt c limit) codes.now }
 {
     codes.iter().all(|code| *code < limit)
 }
 
-/// The sizes in bits of the packed form, of runs and of the sparse form.
+// The sizes in bits of the packed form, of runs and of the sparse form.
 fn sizes(rt: &impl Abort, alloc: Global, codes: &[u32], reach: u32) -> Result<[u64; 3], Fail> {
     assert!(rt; codes.len() <= 1000);
     assert!(rt; are_below(codes, reach));
@@ -30,7 +30,7 @@ fn sizes(rt: &impl Abort, alloc: Global, codes: &[u32], reach: u32) -> Result<[u
     Ok([rows * width, runs, rows + (rows - frequent) * width])
 }
 
-/// A vector of the codes, which has this form.
+// A vector of the codes, which has this form.
 fn vector_of(
     rt: &impl Abort,
     alloc: Global,
@@ -51,7 +51,7 @@ fn bytes_of(alloc: Global, vector: &CodeVec) -> Result<Vec<u8>, AllocError> {
     Ok(bytes)
 }
 
-/// The vector that all the bytes are.
+// The vector that all the bytes are.
 fn vector_from(
     rt: &impl Abort,
     alloc: Global,
@@ -73,7 +73,7 @@ fn has_codes(rt: &impl Abort, vector: &CodeVec, codes: &[u32]) {
     }
 }
 
-/// The bytes are those of the vector again.
+// The bytes are those of the vector again.
 fn is_read_back(
     rt: &impl Abort,
     alloc: Global,
@@ -88,7 +88,7 @@ fn is_read_back(
     Ok(())
 }
 
-/// A vector of the codes, which is written and read back.
+// A vector of the codes, which is written and read back.
 fn written(
     rt: &impl Abort,
     alloc: Global,
@@ -145,7 +145,7 @@ fn vectors_have_their_bytes(rt: HostRuntime) -> Result<(), Fail> {
     Ok(())
 }
 
-/// A thousand codes: so many zeros, then ones.
+// A thousand codes: so many zeros, then ones.
 fn zeros_and_ones(alloc: Global, zeros: usize) -> Result<Vec<u32>, AllocError> {
     let mut codes = Vec::new(alloc);
     codes.resize(zeros, 0)?;
@@ -183,7 +183,7 @@ fn two_runs_are_kept_as_runs(rt: HostRuntime) -> Result<(), Fail> {
     has_bytes(&rt, alloc, &case)
 }
 
-/// A hundred codes: zeros, and in each tenth place another one.
+// A hundred codes: zeros, and in each tenth place another one.
 fn tenths(alloc: Global) -> Result<Vec<u32>, AllocError> {
     let mut codes = Vec::new(alloc);
     for i in 0..100u32 {
@@ -203,7 +203,7 @@ fn few_exceptions_are_sparse(rt: HostRuntime) -> Result<(), Fail> {
     Ok(())
 }
 
-/// How many places a mask keeps of a vector of the codes.
+// How many places a mask keeps of a vector of the codes.
 fn kept(
     rt: &impl Abort,
     alloc: Global,

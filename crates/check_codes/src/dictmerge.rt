@@ -54,7 +54,7 @@ struct Side {
     used: Vec<bool>,
 }
 
-/// The multiples of a number, up to the last key.
+// The multiples of a number, up to the last key.
 fn multiples(rt: &impl Abort, alloc: Global, of: usize) -> Result<Side, AllocError> {
     assert!(rt; of != 0);
     let mut keys = KeyList::new(alloc);
@@ -66,7 +66,7 @@ fn multiples(rt: &impl Abort, alloc: Global, of: usize) -> Result<Side, AllocErr
     Ok(Side { keys, used })
 }
 
-/// Ends the test where these are no lists to be merged.
+// Ends the test where these are no lists to be merged.
 fn merged<R: Threads + Sync + Abort>(
     rt: &R,
     alloc: Global,
@@ -95,17 +95,17 @@ fn merged<R: Threads + Sync + Abort>(
     merge(rt, alloc, &a.keys, &a.used, &b.keys, &b.used, 2)
 }
 
-/// Whether a key of four bytes stands there.
+// Whether a key of four bytes stands there.
 fn has_key(keys: &KeyList, place: u32, number: u32) -> bool {
     (place as usize) < keys.len() && keys.key(place as usize) == number.to_be_bytes().as_slice()
 }
 
-/// Whether a key of a list went there.
+// Whether a key of a list went there.
 fn went_to(from: &[Option<u32>], key: u32, place: u32) -> bool {
     from.get(key as usize) == Some(&Some(place))
 }
 
-/// The keys of the merge one by one: each multiple of two or of three.
+// The keys of the merge one by one: each multiple of two or of three.
 fn check_each(rt: &impl Abort, merged: &Merged) {
     let mut place = 0;
     for number in 0..=LAST {

@@ -3,7 +3,7 @@ use std::process::Abort;
 use std::test::Fail;
 use ut_mask::Mask;
 
-/// The places of a mask that stand, found one by one.
+// The places of a mask that stand, found one by one.
 fn assert_places(rt: &impl Abort, mask: &Mask, places: &[u32]) {
     let mut from = 0;
     for place in places {
@@ -15,7 +15,7 @@ fn assert_places(rt: &impl Abort, mask: &Mask, places: &[u32]) {
     assert_eq!(rt; mask.count() as usize, places.len());
 }
 
-/// Clears a range that the mask has, unless it stays.
+// Clears a range that the mask has, unless it stays.
 fn keep(rt: &impl Abort, mask: &mut Mask, from: u32, to: u32, stays: bool) {
     assert!(rt; from <= to);
     assert!(rt; to <= mask.len());

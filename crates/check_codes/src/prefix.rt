@@ -10,7 +10,7 @@ use std::test::Fail;
 use ut_key::{Cmp, KeyList, Steps, is_ascending};
 use ut_prefix::{DictChain, PrefixDict};
 
-/// The dictionary of a few keys that ascend.
+// The dictionary of a few keys that ascend.
 fn dictionary(rt: &impl Abort, alloc: Global, keys: &[&[u8]]) -> Result<PrefixDict, AllocError> {
     let mut list = KeyList::with_capacity(alloc, keys.len(), 8 * keys.len())?;
     for key in keys {
@@ -22,7 +22,7 @@ fn dictionary(rt: &impl Abort, alloc: Global, keys: &[&[u8]]) -> Result<PrefixDi
     PrefixDict::from_sorted(alloc, &list)
 }
 
-/// Forty keys stand in three blocks, and three has two binary digits.
+// Forty keys stand in three blocks, and three has two binary digits.
 fn find_in_forty<L: Ledger>(dict: &PrefixDict, key: &[u8], steps: &mut Steps<L>) -> Option<u32>
     requires { length dict.now ≡ 40 }
     ensures { steps.new ≤ steps.old + 18 }
@@ -68,7 +68,7 @@ fn look_up<L: Ledger>(rt: &impl Abort, alloc: Global, blank: Blank) -> Result<()
     Ok(())
 }
 
-/// Adds a dictionary of few keys that the chain lacks.
+// Adds a dictionary of few keys that the chain lacks.
 fn push_small<L: Ledger>(
     rt: &impl Abort,
     chain: &mut DictChain,

@@ -28,7 +28,7 @@ fn codes_have_their_entries(rt: HostRuntime) -> Result<(), Fail> {
     Ok(())
 }
 
-/// Those seven codes, again and again.
+// Those seven codes, again and again.
 fn repeated(rt: &impl Abort, alloc: Global) -> Result<Vec<u32>, AllocError>
     ensures { IfOk result (λ codes. AllBelow 3 codes.items) }
 {

@@ -15,7 +15,7 @@ fn add(rt: &impl Abort, dict: &mut UnsortedDict, key: &[u8]) -> Result<(), Alloc
     Ok(())
 }
 
-/// The codes of keys that are interned one after the other, in the order of the keys.
+// The codes of keys that are interned one after the other, in the order of the keys.
 fn order_of(rt: &impl Abort, alloc: Global, keys: &[&[u8]]) -> Result<Vec<u32>, AllocError> {
     assert!(rt; keys.len() < 100);
     let mut dict = UnsortedDict::new(alloc);

@@ -70,7 +70,7 @@ fn flip(alloc: Global, disk: &mut MemDisk, files: &mut Durable) -> Result<(), Fa
     Ok(())
 }
 
-/// The length of the log behind a frame.
+// The length of the log behind a frame.
 fn len_appended(alloc: Global) -> Result<usize, Fail> {
     let frame = Frame::txn(alloc)?;
     let (mut disk, mut files) = made(alloc)?;
@@ -78,7 +78,7 @@ fn len_appended(alloc: Global) -> Result<usize, Fail> {
     Ok(disk.bytes(Which::Redo).len())
 }
 
-/// The length of the log's other file behind a switch.
+// The length of the log's other file behind a switch.
 fn len_switched(alloc: Global) -> Result<usize, Fail> {
     let (mut disk, mut files) = made(alloc)?;
     switch(&mut disk, &mut files)?;
@@ -93,7 +93,7 @@ fn a_frame_is_appended_and_the_log_moves(rt: HostRuntime) -> Result<(), Fail> {
     Ok(())
 }
 
-/// The length of the page file behind a page.
+// The length of the page file behind a page.
 fn len_put(alloc: Global) -> Result<usize, Fail> {
     let (mut disk, mut files) = made(alloc)?;
     put_page(&mut disk, &mut files)?;

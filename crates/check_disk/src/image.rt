@@ -48,7 +48,7 @@ fn written(alloc: Global, tables: &[Drawn]) -> Result<Vec<u8>, Fail> {
     Ok(out)
 }
 
-/// That table with so many parts of no rows.
+// That table with so many parts of no rows.
 fn with_parts(alloc: Global, count: u8) -> Result<Vec<u8>, Fail> {
     let (front, behind) = EMPTY_TABLE.split_at(PARTS_AT);
     let mut bytes = Vec::from_slice(alloc, front)?;

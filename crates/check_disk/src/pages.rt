@@ -41,7 +41,7 @@ fn a_root_of_the_first_version_names_the_first_file(rt: HostRuntime) -> Result<(
     Ok(())
 }
 
-/// A file that was just made over another one, and what it selects.
+// A file that was just made over another one, and what it selects.
 fn made(alloc: Global) -> Result<(MemDisk, Pages), Fail>
     ensures { IfOk result (λ r. IsHeld r.1.slot r.1.reached (mem_view r.0)) }
 {

@@ -37,7 +37,7 @@ fn pages_are_written_in_order_of_their_chains(rt: HostRuntime) -> Result<(), Fai
     Ok(())
 }
 
-/// The files of a store that was just made.
+// The files of a store that was just made.
 fn made(alloc: Global) -> Result<Durable, Fail> {
     let mut disk = MemDisk::of(alloc, &[], &[], &[])?;
     let redo = Redo::make(&mut disk)?;
@@ -49,7 +49,7 @@ fn made(alloc: Global) -> Result<Durable, Fail> {
     Ok(Durable::new(redo, pages))
 }
 
-/// A table of one column, without rows.
+// A table of one column, without rows.
 fn captured(alloc: Global) -> Result<CapturedTable, Fail> {
     let column = Column {
         name: Name::of(Vec::from_slice(alloc, b"k")?),

@@ -9,13 +9,13 @@ use ut_gate::{Act, Gate, Held, Pass, PassList};
 
 /// An act that a thread repeats until it answers false, and the thread's pass.
 #[derive(Drop)]
-pub struct Job<E: Held, A: Drop> {
+pub(crate) struct Job<E: Held, A: Drop> {
     pub act: A,
     pub pass: Pass<E>,
 }
 
 /// The pass that comes back is of this gate.
-pub struct OfGate<'a, E: Held>(pub &'a Gate<E>);
+pub(crate) struct OfGate<'a, E: Held>(pub &'a Gate<E>);
 
 impl<'a, E: Held> Drop for OfGate<'a, E> {
     fn drop(self) {
@@ -28,7 +28,7 @@ impl<'a, E: Held, A: Drop> Promise<Job<E, A>> for OfGate<'a, E> {
 }
 
 /// A job for each act, as far as the passes go.
-pub fn jobs_of<E: Held, A: Drop>(
+pub(crate) fn jobs_of<E: Held, A: Drop>(
     alloc: Global,
     gate: &Gate<E>,
     mut passes: PassList<E>,
@@ -48,7 +48,7 @@ pub fn jobs_of<E: Held, A: Drop>(
 }
 
 /// Runs each job in a thread. They come back into `done`, which has room for them.
-pub fn each<E: Held, A: Act<E, Answer = bool> + Send + Drop, R: Threads + Wait + Sync>(
+pub(crate) fn each<E: Held, A: Act<E, Answer = bool> + Send + Drop, R: Threads + Wait + Sync>(
     rt: &R,
     alloc: Global,
     gate: &Gate<E>,
@@ -162,7 +162,7 @@ fn join_each<'a, E: Held, A: Drop, R: Threads>(
 }
 
 /// The acts that the jobs did, and the passes with one more before them.
-pub fn parted<E: Held, A: Drop>(
+pub(crate) fn parted<E: Held, A: Drop>(
     alloc: Global,
     gate: &Gate<E>,
     first: Pass<E>,

@@ -4,7 +4,7 @@ ghost use Rattle.std.specs.Prelude.{◌≡◌, ℕ, ◌≤◌, length, None};
 use std::marker::{Brand, PhantomData};
 use ut_gate::{Act, Held, Slip};
 
-pub trait Disk {
+pub(crate) trait Disk {
     ghost faults: { Self → ℕ };
 
     fn put(&mut self, n: u64) -> bool
@@ -12,7 +12,7 @@ pub trait Disk {
 }
 
 /// Names the ground of one run. It has no calls, and its types have no bytes.
-pub trait Opening {
+pub(crate) trait Opening {
     ghost use Rattle.check_gate.specs.Ground.{Ground};
 
     ghost ground: { Ground };
@@ -25,7 +25,7 @@ impl Opening for Brand {
 }
 
 #[derive(Drop)]
-pub struct Hall<'d, D: Disk, O: Opening> {
+pub(crate) struct Hall<'d, D: Disk, O: Opening> {
     pub disk: &'d mut D,
     pub lines: Vec<u64>,
     pub book: Vec<u64>,
@@ -52,7 +52,7 @@ impl<'d, D: Disk + Send, O: Opening + Send> Held for Hall<'d, D, O> {
 
 /// Answers the next line, and is false where there is none or no memory.
 #[derive(Drop)]
-pub struct Advance;
+pub(crate) struct Advance;
 
 impl<'d, D: Disk + Send, O: Opening + Send> Act<Hall<'d, D, O>> for Advance {
     type Answer = bool;

@@ -11,8 +11,8 @@ use std::sync::Wait;
 use std::thread::Threads;
 use ut_gate::{Act, Gate, Held};
 
-/// Runs each act in a thread until it answers false. The value comes back, with the acts.
-pub fn share<E: Held, A: Act<E, Answer = bool> + Send + Drop, R: Threads + Wait + Sync>(
+// Runs each act in a thread until it answers false. The value comes back, with the acts.
+fn share<E: Held, A: Act<E, Answer = bool> + Send + Drop, R: Threads + Wait + Sync>(
     rt: &R,
     alloc: Global,
     value: E,
@@ -43,7 +43,7 @@ pub fn share<E: Held, A: Act<E, Answer = bool> + Send + Drop, R: Threads + Wait 
 }
 
 /// Some threads draw from a counter.
-pub fn draw<R: Threads + Wait + Sync>(
+pub(crate) fn draw<R: Threads + Wait + Sync>(
     rt: &R,
     alloc: Global,
     acts: Vec<Draw>,
@@ -87,7 +87,7 @@ fn on_ground<D: Disk + Send, O: Opening + Send, R: Threads + Wait + Sync>(
 }
 
 /// Some threads answer the lines. The book has no more entries than there are lines.
-pub fn answer<D: Disk + Send, R: Threads + Wait + Sync>(
+pub(crate) fn answer<D: Disk + Send, R: Threads + Wait + Sync>(
     rt: &R,
     alloc: Global,
     disk: &mut D,

@@ -17,7 +17,7 @@ fn numbers(alloc: Global, numbers: &[i64]) -> Result<Vec<Value>, AllocError>
     Ok(values)
 }
 
-/// A column whose first and third row have the value 8, and the second 7.
+// A column whose first and third row have the value 8, and the second 7.
 fn column(alloc: Global) -> Result<Cells, AllocError> {
     let values = numbers(alloc, &[7, 8])?;
     let places = Vec::from_slice(alloc, &[1, 0, 1])?;

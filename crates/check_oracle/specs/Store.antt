@@ -35,12 +35,15 @@ pub record Selected : Type 0 where
   pub length : ℕ
   pub directory : Directory
 
+-- no image: an opening without one begins with no entry and no table
 abbrev pub no_image : Selected
 no_image = record { length = 0; directory = record { tables = []; stages = [] } }
 
+-- the directory of an image in memory
 abbrev pub directory_of : Image → Directory
 directory_of i = record { tables = i.tables; stages = i.stages }
 
+-- an image in memory as one that an opening begins with
 abbrev pub selected_of : Image → Selected
 selected_of i = record { length = i.length; directory = directory_of i }
 
@@ -59,6 +62,7 @@ pub record Kept : Type 0 where
   pub root_pages : ℕ
   pub stages : Stages
 
+-- what a store in memory keeps, whose opening began with this image
 abbrev pub kept_of : Held → Image → Kept
 kept_of h image = record {
   first = h.first.items;
@@ -162,13 +166,21 @@ refuses p why = record { reply = replies.Refused why; plain = p }
 
 -- the state with these operations made by a session
 abbrev pub changed_by : Plain → ℕ → Bool → List Op → Plain
-changed_by p session bulk os = record (with_made p session (open_at p.sessions session) os) { next_id = p.next_id + inserts_of os; stages = with_inserts bulk p.stages os }
+changed_by p session bulk os = record (with_made p session (open_at p.sessions session) os) {
+  next_id = p.next_id + inserts_of os;
+  stages = with_inserts bulk p.stages os;
+}
 
 -- a change of rows that nothing stands against, or its refusal
 abbrev pub change_by : Option Refusal → Plain → ℕ → Bool → List Op → ℕ → Stepped
 change_by (Some why) p session bulk os rows = refuses p why
-change_by None p session bulk os rows = record { reply = said_changed (open_at p.sessions session) (current p.journal).commits rows; plain = changed_by p session bulk os }
+change_by None p session bulk os rows = record {
+  reply = said_changed (open_at p.sessions session) (current p.journal).commits rows;
+  plain = changed_by p session bulk os;
+}
 
 -- what becomes of a change of so many rows by these operations, where this row was taken
 abbrev pub change_step : Plain → ℕ → Bool → List Op → ℕ → Option ℕ → Stepped
-change_step p session bulk os rows taken = change_by (or_else (unless (has_ops_room (view p session) os) refusals.Full) (option_map refusals.Conflict taken)) p session bulk os rows
+change_step p session bulk os rows taken =
+    change_by (or_else (unless (has_ops_room (view p session) os) refusals.Full) (option_map refusals.Conflict taken))
+    p session bulk os rows

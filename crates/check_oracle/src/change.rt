@@ -21,7 +21,7 @@ use ut_value::{Duplicate, Entry, Op, Seq};
 
 /// A change that a statement comes to: its operations, how many rows it changes, and the first of them that was taken.
 #[derive(Drop)]
-pub struct Change {
+pub(crate) struct Change {
     pub bulk: bool,
     pub ops: Seq<Op>,
     pub rows: u32,
@@ -29,7 +29,7 @@ pub struct Change {
 }
 
 /// Makes a change, or refuses it.
-pub fn make(
+pub(crate) fn make(
     alloc: Global,
     held: &Held,
     commits: u32,
@@ -95,7 +95,7 @@ fn next_after(held: &Held, session: u8, ops: &[Op]) -> u32
     held.next_id + inserts_of(ops) as u32
 }
 
-/// The answer to a change of rows.
+// The answer to a change of rows.
 fn said_changed(own: &Option<OpenTransaction>, commits: u32, rows: u32) -> Reply
     requires { commits ≤ 1073741824 }
     ensures { result ≡ said_changed own.now commits rows }
@@ -114,7 +114,7 @@ fn said_alone(commits: u32, rows: u32) -> Reply
     Reply::Changed { rows, commit }
 }
 
-/// What is held once operations joined the session's own, or were a transaction by themselves.
+// What is held once operations joined the session's own, or were a transaction by themselves.
 fn with_made(alloc: Global, held: &Held, session: u8, ops: Seq<Op>) -> Result<Held, AllocError>
     requires { session < length held.now.sessions.items }
     ensures { IfOk result (λ next. plain_of next ≡ with_made (plain_of held.now) session (open_at held.now.sessions.items session) ops) }

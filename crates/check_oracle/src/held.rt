@@ -9,10 +9,7 @@ use crate::image::Image;
 use check_stages::stages_copied;
 use std::alloc::{AllocError, Global};
 use ut_plain::{OpenTransaction, PendingMerge, Progress, TableStages};
-use ut_value::{Duplicate, Entry};
-
-/// Sixteen sessions, and a first place that is nobody's.
-const PLACES: usize = 17;
+use ut_value::{Duplicate, Entry, SEATS};
 
 /// The entries of the journal, the transaction of each session, the merge that is pending, the savepoint that is under way, and the
 /// stages of each table.
@@ -124,18 +121,18 @@ impl Held {
 }
 
 /// No open transactions.
-pub fn nobody(alloc: Global) -> Result<Vec<Option<OpenTransaction>>, AllocError>
+pub(crate) fn nobody(alloc: Global) -> Result<Vec<Option<OpenTransaction>>, AllocError>
     ensures { IfOk result (λ sessions. sessions.items ≡ no_sessions) }
 {
     let mut sessions = Vec::new(alloc);
-    for i in 0..PLACES {
+    for i in 0..SEATS {
         sessions.push(None)?;
     }
     Ok(sessions)
 }
 
 /// A copy of the entries.
-pub fn entries_copied(alloc: Global, entries: &[Entry]) -> Result<Vec<Entry>, AllocError>
+pub(crate) fn entries_copied(alloc: Global, entries: &[Entry]) -> Result<Vec<Entry>, AllocError>
     ensures { IfOk result (λ copy. copy.items ≡ entries.now) }
 {
     let mut copies = Vec::new(alloc);

@@ -19,7 +19,7 @@ use ut_plain::{PendingMerge, Refusal, Reply, Statement, TableStages};
 use ut_value::{Entry, MergeKind, Name};
 
 /// `merge begin`
-pub fn merge_begin(
+pub(crate) fn merge_begin(
     alloc: Global,
     held: &Held,
     sight: &Known,
@@ -39,7 +39,7 @@ pub fn merge_begin(
     begun(alloc, held, sight.merges, place, kind)
 }
 
-/// Whether a merge of a table may begin.
+// Whether a merge of a table may begin.
 fn has_merge_room(held: &Held, stages: &TableStages, kind: MergeKind) -> bool
     requires { IsPlain (plain_of held.now) }
     ensures { result ≡ (nat_lt (journal_len (plain_of held.now).journal) 1073741823 && has_places stages.now && has_part_room kind (length stages.now.parts)) }
@@ -47,7 +47,7 @@ fn has_merge_room(held: &Held, stages: &TableStages, kind: MergeKind) -> bool
     has_journal_room(held) && has_places(stages) && has_part_room(kind, stages.parts.len())
 }
 
-/// The stages of a table whose merge begins.
+// The stages of a table whose merge begins.
 fn closed(
     alloc: Global,
     held: &Held,
@@ -109,7 +109,7 @@ fn begun(
 }
 
 /// `merge end`
-pub fn merge_end(
+pub(crate) fn merge_end(
     alloc: Global,
     held: &Held,
     sight: &Known,

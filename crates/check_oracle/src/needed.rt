@@ -14,7 +14,7 @@ use std::alloc::{AllocError, Global};
 use ut_plain::{OpenTransaction, Stored};
 
 /// Adds the ids of rows.
-pub fn add_ids(ids: &mut Vec<u32>, rows: &[(u32, Stored)]) -> Result<(), AllocError>
+pub(crate) fn add_ids(ids: &mut Vec<u32>, rows: &[(u32, Stored)]) -> Result<(), AllocError>
     ensures { OnOk result (ids.new.items ≡ ids.old.items ++ map (λ e. e.0) rows.now) }
 {
     for row in rows {
@@ -23,7 +23,7 @@ pub fn add_ids(ids: &mut Vec<u32>, rows: &[(u32, Stored)]) -> Result<(), AllocEr
     Ok(())
 }
 
-/// Adds the rows that an open transaction looks at, and those that it has as its own.
+// Adds the rows that an open transaction looks at, and those that it has as its own.
 fn add_needed(
     alloc: Global,
     ids: &mut Vec<u32>,
@@ -44,7 +44,7 @@ fn add_needed(
 }
 
 /// The ids of the rows that somebody needs.
-pub fn needed(alloc: Global, held: &Held) -> Result<Vec<u32>, AllocError>
+pub(crate) fn needed(alloc: Global, held: &Held) -> Result<Vec<u32>, AllocError>
     requires { IsPlain (plain_of held.now) }
     ensures { IfOk result (λ ids. AreNeeded ids.items (plain_of held.now).journal (plain_of held.now).sessions) }
 {

@@ -101,7 +101,7 @@ impl Oracle {
     }
 }
 
-/// How many parts tables of few parts have.
+// How many parts tables of few parts have.
 fn parts_of(stages: &[TableStages]) -> usize
     requires { sum_by (λ (t : TableStages). length t.parts) stages.now ≤ 2048 }
     ensures { result ≡ sum_by (λ (t : TableStages). length t.parts) stages.now }
@@ -113,7 +113,7 @@ fn parts_of(stages: &[TableStages]) -> usize
     parts
 }
 
-/// The image that is selected behind a reply.
+// The image that is selected behind a reply.
 fn selected_behind(
     alloc: Global,
     selected: &Image,

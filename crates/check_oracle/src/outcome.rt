@@ -8,13 +8,13 @@ use ut_plain::{Refusal, Reply};
 
 /// A reply, and what the store holds then.
 #[derive(Drop)]
-pub struct Outcome {
+pub(crate) struct Outcome {
     pub reply: Reply,
     pub held: Held,
 }
 
 /// A reply, and nothing changes.
-pub fn stays(alloc: Global, held: &Held, reply: Reply) -> Result<Outcome, AllocError>
+pub(crate) fn stays(alloc: Global, held: &Held, reply: Reply) -> Result<Outcome, AllocError>
     ensures { IfOk result (λ out. Gives (record { reply = reply; plain = plain_of held.now }) out.reply (plain_of out.held)) }
 {
     let held = held.copy(alloc)?;
@@ -22,7 +22,7 @@ pub fn stays(alloc: Global, held: &Held, reply: Reply) -> Result<Outcome, AllocE
 }
 
 /// A refusal.
-pub fn refused(alloc: Global, held: &Held, why: Refusal) -> Result<Outcome, AllocError>
+pub(crate) fn refused(alloc: Global, held: &Held, why: Refusal) -> Result<Outcome, AllocError>
     ensures { IfOk result (λ out. Gives (refuses (plain_of held.now) why) out.reply (plain_of out.held)) }
 {
     stays(alloc, held, Reply::Refused(why))

@@ -18,7 +18,7 @@ use ut_value::Entry;
 
 /// What is held once the entries behind an image are opened with it. No image has more rows outside main than its state: one that had
 /// would be out of memory.
-pub fn reopened(
+pub(crate) fn reopened(
     alloc: Global,
     held: &Held,
     image: &Image,
@@ -47,7 +47,7 @@ pub fn reopened(
     Ok(next)
 }
 
-/// What is held with an image of the first entries, whose state has so many rows, and with those behind them.
+// What is held with an image of the first entries, whose state has so many rows, and with those behind them.
 fn opened(
     alloc: Global,
     first: Vec<Entry>,

@@ -13,19 +13,19 @@ ghost use Rattle.check_oracle.specs.Store.{plain_of};
 use crate::held::Held;
 use check_rows::inserts_of;
 use ut_plain::OpenTransaction;
-use ut_value::{Op, Value};
+use ut_value::{ENTRIES_LIMIT, ENTRY_LIMIT, Op, Value};
 
 /// The most entries, but for the last end of a merge.
-const MAX_ENTRIES: usize = 1073741823;
+const MAX_ENTRIES: usize = ENTRIES_LIMIT as usize;
 
 /// The most pages.
 const MAX_PAGES: u64 = 4294967295;
 
-/// The most bytes of the operations of one entry.
-const MAX_OPS_LEN: u32 = 1073741819;
+/// The most bytes of the operations of one entry, which stand behind five others.
+const MAX_OPS_LEN: u32 = ENTRY_LIMIT - 5;
 
 /// Whether the journal may have one more entry.
-pub fn has_journal_room(held: &Held) -> bool
+pub(crate) fn has_journal_room(held: &Held) -> bool
     requires { IsPlain (plain_of held.now) }
     ensures { result ≡ nat_lt (journal_len (plain_of held.now).journal) 1073741823 }
 {
@@ -33,7 +33,7 @@ pub fn has_journal_room(held: &Held) -> bool
 }
 
 /// Whether the pages that are told have numbers, with the first three and those that the selected root reaches.
-pub fn has_page_room(held: &Held) -> bool
+pub(crate) fn has_page_room(held: &Held) -> bool
     ensures { result ≡ nat_le (3 + held.now.told + held.now.root_pages) 4294967295 }
 {
     let told = held.told;
@@ -42,7 +42,7 @@ pub fn has_page_room(held: &Held) -> bool
 }
 
 /// Whether there are ids for so many rows.
-pub fn has_ids(held: &Held, rows: usize) -> bool
+pub(crate) fn has_ids(held: &Held, rows: usize) -> bool
     ensures { result ≡ (nat_eq rows 0 || nat_le (held.now.next_id + rows) (held.now.rows_limit + 1)) }
 {
     let end = u64::from(held.rows_limit) + 1;
@@ -60,7 +60,7 @@ fn value_len(value: &Value) -> u32
     }
 }
 
-/// What is left of a room behind values, none where they need more.
+// What is left of a room behind values, none where they need more.
 fn left_by_values(room: u32, values: &[Value]) -> Option<u32>
     ensures left { IfSome result (λ left. left + sum_by value_len values.now ≡ room) }
     ensures more { IfNone result (room < sum_by value_len values.now) }
@@ -96,7 +96,7 @@ fn left_by_op(room: u32, op: &Op) -> Option<u32>
     }
 }
 
-/// What is left of a room behind operations, none where they need more.
+// What is left of a room behind operations, none where they need more.
 fn left_by_ops(room: u32, ops: &[Op]) -> Option<u32>
     ensures left { IfSome result (λ left. left + ops_len ops.now ≡ room) }
     ensures more { IfNone result (room < ops_len ops.now) }
@@ -111,7 +111,7 @@ fn left_by_ops(room: u32, ops: &[Op]) -> Option<u32>
     Some(left)
 }
 
-/// Whether own operations and these have the bytes of one entry.
+// Whether own operations and these have the bytes of one entry.
 fn has_bytes(own: &[Op], ops: &[Op]) -> bool
     ensures { result ≡ nat_le (entry_len (Txn (own.now ++ ops.now))) 1073741824 }
 {
@@ -131,7 +131,7 @@ fn has_entry_room(own: &Option<OpenTransaction>, ops: &[Op]) -> bool
 }
 
 /// Whether operations keep to the limits.
-pub fn has_ops_room(held: &Held, session: u8, ops: &[Op]) -> bool
+pub(crate) fn has_ops_room(held: &Held, session: u8, ops: &[Op]) -> bool
     requires plain { IsPlain (plain_of held.now) }
     requires seat { session < length held.now.sessions.items }
     ensures { result ≡ has_ops_room (view (plain_of held.now) session) ops.now }

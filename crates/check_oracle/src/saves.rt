@@ -18,7 +18,7 @@ use ut_plain::{Progress, Refusal, Reply, Statement};
 use ut_value::Seq;
 
 /// `save begin`
-pub fn save_begin(
+pub(crate) fn save_begin(
     alloc: Global,
     held: &Held,
     sight: &Known,
@@ -54,7 +54,7 @@ fn begun(alloc: Global, held: &Held) -> Result<Outcome, AllocError>
     })
 }
 
-/// What a savepoint captures now.
+// What a savepoint captures now.
 fn image_now(alloc: Global, held: &Held) -> Result<Image, AllocError>
     requires { IsPlain (plain_of held.now) }
     ensures length { IfOk result (λ image. image.length ≡ journal_len (plain_of held.now).journal) }
@@ -72,7 +72,7 @@ fn image_now(alloc: Global, held: &Held) -> Result<Image, AllocError>
 }
 
 /// `save step`
-pub fn save_step(
+pub(crate) fn save_step(
     alloc: Global,
     held: &Held,
     sight: &Known,
@@ -108,7 +108,7 @@ fn written(alloc: Global, held: &Held, n: u32) -> Result<Outcome, AllocError>
     })
 }
 
-/// How many pages are written once so many more are, or those that are left.
+// How many pages are written once so many more are, or those that are left.
 fn done_by(done: u32, pages: u32, n: u32) -> u32
     ensures { result ≡ min pages (done + n) }
 {
@@ -116,7 +116,7 @@ fn done_by(done: u32, pages: u32, n: u32) -> u32
 }
 
 /// `save seal`
-pub fn save_seal(
+pub(crate) fn save_seal(
     alloc: Global,
     held: &Held,
     sight: &Known,
@@ -145,7 +145,7 @@ fn sealed(alloc: Global, held: &Held) -> Result<Outcome, AllocError>
 }
 
 /// `save flip`
-pub fn save_flip(
+pub(crate) fn save_flip(
     alloc: Global,
     held: &Held,
     sight: &Known,
@@ -175,7 +175,7 @@ fn flipped(alloc: Global, held: &Held) -> Result<Outcome, AllocError>
 }
 
 /// `save drop`
-pub fn save_drop(
+pub(crate) fn save_drop(
     alloc: Global,
     held: &Held,
     sight: &Known,

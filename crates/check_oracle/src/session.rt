@@ -11,13 +11,13 @@ use check_rows::Known;
 use check_stages::no_stages;
 use std::alloc::{AllocError, Global};
 use ut_plain::{OpenTransaction, Refusal, Reply, Statement};
-use ut_value::{Column, Duplicate, Entry, Name, Op, Seq};
+use ut_value::{Column, Duplicate, Entry, Name, Op, Seq, TABLES_LIMIT};
 
 /// The most tables.
-const MAX_TABLES: usize = 256;
+const MAX_TABLES: usize = TABLES_LIMIT as usize;
 
 /// `create`
-pub fn create(
+pub(crate) fn create(
     alloc: Global,
     held: &Held,
     sight: &Known,
@@ -56,7 +56,12 @@ fn created(
 }
 
 /// `begin`
-pub fn begin(alloc: Global, held: &Held, sight: &Known, session: u8) -> Result<Outcome, AllocError>
+pub(crate) fn begin(
+    alloc: Global,
+    held: &Held,
+    sight: &Known,
+    session: u8,
+) -> Result<Outcome, AllocError>
     requires { Allowed (plain_of held.now) sight.now session Statement.Begin }
     ensures { IfOk result (λ out. Gives (step (plain_of held.now) session Statement.Begin) out.reply (plain_of out.held)) }
 {
@@ -73,7 +78,12 @@ pub fn begin(alloc: Global, held: &Held, sight: &Known, session: u8) -> Result<O
 }
 
 /// `abort`
-pub fn abort(alloc: Global, held: &Held, sight: &Known, session: u8) -> Result<Outcome, AllocError>
+pub(crate) fn abort(
+    alloc: Global,
+    held: &Held,
+    sight: &Known,
+    session: u8,
+) -> Result<Outcome, AllocError>
     requires { Allowed (plain_of held.now) sight.now session Statement.Abort }
     ensures { IfOk result (λ out. Gives (step (plain_of held.now) session Statement.Abort) out.reply (plain_of out.held)) }
 {
@@ -86,7 +96,12 @@ pub fn abort(alloc: Global, held: &Held, sight: &Known, session: u8) -> Result<O
 }
 
 /// `commit`
-pub fn commit(alloc: Global, held: &Held, sight: &Known, session: u8) -> Result<Outcome, AllocError>
+pub(crate) fn commit(
+    alloc: Global,
+    held: &Held,
+    sight: &Known,
+    session: u8,
+) -> Result<Outcome, AllocError>
     requires { Allowed (plain_of held.now) sight.now session Statement.Commit }
     ensures { IfOk result (λ out. Gives (step (plain_of held.now) session Statement.Commit) out.reply (plain_of out.held)) }
 {

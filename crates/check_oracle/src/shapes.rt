@@ -13,7 +13,7 @@ use ut_plain::{Reply, Statement};
 use ut_value::Name;
 
 /// `merge l1`
-pub fn merge_l1(
+pub(crate) fn merge_l1(
     alloc: Global,
     held: &Held,
     sight: &Known,
@@ -37,7 +37,7 @@ pub fn merge_l1(
 }
 
 /// `shape`
-pub fn shape(
+pub(crate) fn shape(
     alloc: Global,
     held: &Held,
     sight: &Known,

@@ -13,7 +13,7 @@ use std::alloc::{AllocError, Global};
 use ut_plain::OpenTransaction;
 
 /// The state behind the first entries, so many.
-pub fn state_at(alloc: Global, held: &Held, count: u32) -> Result<Known, AllocError>
+pub(crate) fn state_at(alloc: Global, held: &Held, count: u32) -> Result<Known, AllocError>
     requires plain { IsPlain (plain_of held.now) }
     requires since { (plain_of held.now).journal.base.length ≤ count }
     requires until { count ≤ journal_len (plain_of held.now).journal }
@@ -25,7 +25,7 @@ pub fn state_at(alloc: Global, held: &Held, count: u32) -> Result<Known, AllocEr
 }
 
 /// The tables, commits and merges of the journal, and the rows that a session sees.
-pub fn sight_of(alloc: Global, held: &Held, session: u8) -> Result<Known, AllocError>
+pub(crate) fn sight_of(alloc: Global, held: &Held, session: u8) -> Result<Known, AllocError>
     requires plain { IsPlain (plain_of held.now) }
     requires seat { session < 17 }
     ensures { IfOk result (λ sight. IsSight sight (plain_of held.now) session) }

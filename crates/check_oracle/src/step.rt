@@ -22,7 +22,7 @@ use ut_plain::{
 };
 
 /// What a statement of a session comes to.
-pub fn stepped(
+pub(crate) fn stepped(
     alloc: Global,
     held: &Held,
     session: u8,
@@ -49,7 +49,7 @@ pub fn stepped(
     }
 }
 
-/// The refusal that no limit and no conflict is asked for.
+// The refusal that no limit and no conflict is asked for.
 fn early(
     tables: &[Table],
     is_open: bool,

@@ -43,7 +43,7 @@ fn deleted_from(entries: &[Entry], id: u32) -> bool
     entries.iter().any(|entry| entry_deletes(entry, id))
 }
 
-/// Whether one of the entries from a place on deletes a row.
+// Whether one of the entries from a place on deletes a row.
 fn deleted_after(entries: &[Entry], from: usize, id: u32) -> bool
     ensures { result ≡ list_any (entry_deletes id) (drop from entries.now) }
 {
@@ -70,7 +70,7 @@ fn any_deletes(sessions: &[Option<OpenTransaction>], id: u32) -> bool
         .any(|transaction| open_deletes(transaction, id))
 }
 
-/// Whether a session but this one deletes a row.
+// Whether a session but this one deletes a row.
 fn others_delete(sessions: &[Option<OpenTransaction>], session: usize, id: u32) -> bool
     requires { session < length sessions.now }
     ensures { result ≡ list_any (open_deletes id) (others sessions.now session) }
@@ -80,7 +80,7 @@ fn others_delete(sessions: &[Option<OpenTransaction>], session: usize, id: u32) 
     before || behind
 }
 
-/// How many entries behind the base a session looks at.
+// How many entries behind the base a session looks at.
 fn looks_at(held: &Held, session: u8) -> usize
     requires { session < length held.now.sessions.items }
     ensures { result ≡ looks_at (plain_of held.now).journal (open_at held.now.sessions.items session) - (plain_of held.now).journal.base.length }
@@ -91,7 +91,7 @@ fn looks_at(held: &Held, session: u8) -> usize
     }
 }
 
-/// Whether a row was deleted by an entry behind a session's snapshot, or by another session.
+// Whether a row was deleted by an entry behind a session's snapshot, or by another session.
 fn is_taken(held: &Held, session: u8, id: u32) -> bool
     requires { session < length held.now.sessions.items }
     ensures { result ≡ is_taken (plain_of held.now) session id }
@@ -103,7 +103,7 @@ fn is_taken(held: &Held, session: u8, id: u32) -> bool
 }
 
 /// The first of these rows that was taken.
-pub fn first_taken(held: &Held, session: u8, rows: &[(u32, Stored)]) -> Option<u32>
+pub(crate) fn first_taken(held: &Held, session: u8, rows: &[(u32, Stored)]) -> Option<u32>
     requires { session < length held.now.sessions.items }
     ensures { result ≡ first_taken (is_taken (plain_of held.now) session) rows.now }
 {

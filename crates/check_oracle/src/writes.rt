@@ -15,7 +15,7 @@ use ut_plain::{Pred, Refusal, Statement, Table, columns_in, place_of};
 use ut_value::{Name, Seq, Value};
 
 /// The place of a table that is there.
-pub fn place_in(tables: &[Table], name: &[u8]) -> u16
+pub(crate) fn place_in(tables: &[Table], name: &[u8]) -> u16
     requires { length tables.now ≤ 256 }
     ensures { result ≡ place_in tables.now name.now }
 {
@@ -26,7 +26,7 @@ pub fn place_in(tables: &[Table], name: &[u8]) -> u16
 }
 
 /// `insert`
-pub fn insert(
+pub(crate) fn insert(
     alloc: Global,
     held: &Held,
     sight: &Known,
@@ -50,7 +50,7 @@ pub fn insert(
 }
 
 /// `bulk`
-pub fn bulk(
+pub(crate) fn bulk(
     alloc: Global,
     held: &Held,
     sight: &Known,
@@ -80,7 +80,7 @@ pub fn bulk(
 }
 
 /// `update`
-pub fn update(
+pub(crate) fn update(
     alloc: Global,
     held: &Held,
     sight: &Known,
@@ -128,7 +128,7 @@ pub fn update(
 }
 
 /// `delete`
-pub fn delete(
+pub(crate) fn delete(
     alloc: Global,
     held: &Held,
     sight: &Known,

@@ -8,14 +8,18 @@ use ut_app::Status;
 
 /// A line of a script, and the first lines of the two outputs that differ.
 #[derive(Drop)]
-pub struct Apart {
+pub(crate) struct Apart {
     pub line: String,
     pub wanted: String,
     pub told: String,
 }
 
 /// Where a run's output parts from what the slow store answers, if it does, or if the run didn't end well.
-pub fn apart_from(alloc: Global, script: &Script, ran: &Ran) -> Result<Option<Apart>, AllocError>
+pub(crate) fn apart_from(
+    alloc: Global,
+    script: &Script,
+    ran: &Ran,
+) -> Result<Option<Apart>, AllocError>
     ensures same { IfOk result (λ apart. IsNone apart ↔ (ran.now.status ≡ Status.Done) × (ran.now.told.items ≡ script.now.replies.items)) }
 {
     if ran.status == Status::Done && ran.told.as_slice() == script.replies.as_slice() {
@@ -43,7 +47,7 @@ fn place_of(alloc: Global, script: &Script, ran: &Ran) -> Result<Apart, AllocErr
     })
 }
 
-/// So many bytes are the same.
+// So many bytes are the same.
 fn alike(one: &[u8], other: &[u8]) -> usize {
     one.iter().zip(other).take_while(|(x, y)| x == y).count()
 }
@@ -55,7 +59,7 @@ fn nth_line(lines: &[u8], number: usize) -> &[u8] {
         .unwrap_or(b"")
 }
 
-/// The line that a place stands in.
+// The line that a place stands in.
 fn line_at(bytes: &[u8], place: usize) -> &[u8] {
     let before = &bytes[..place.min(bytes.len())];
     let start = before.iter().filter(|byte| **byte == b'\n').count();

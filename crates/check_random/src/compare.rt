@@ -11,7 +11,7 @@ use std::thread::Threads;
 use ut_outside::{Ack, MemDisk};
 
 /// Ids enough for any script.
-pub const AMPLE: u32 = 1_000_000;
+pub(crate) const AMPLE: u32 = 1_000_000;
 
 /// Asks for all that is there of the tables of the scripts.
 const QUESTIONS: [&str; 6] = [
@@ -25,15 +25,15 @@ const QUESTIONS: [&str; 6] = [
 
 /// The script of a seed, and behind how many of its lines the store is opened again.
 #[derive(Clone, Copy)]
-pub struct Halves {
+pub(crate) struct Halves {
     pub seed: u64,
     pub of_store: StoreLines,
     pub cut: u32,
 }
 
-/// Of every second script the store is opened again in its middle, behind one of its lines. A script has merges into main of
-/// all kinds, and two of four scripts have savepoints besides.
-pub fn halves_of(seed: u64) -> Halves {
+// Of every second script the store is opened again in its middle, behind one of its lines. A script has merges into main of
+// all kinds, and two of four scripts have savepoints besides.
+fn halves_of(seed: u64) -> Halves {
     Halves {
         seed,
         of_store: match seed % 4 {
@@ -49,7 +49,7 @@ pub fn halves_of(seed: u64) -> Halves {
 
 /// The first line of the script of a seed, or of the questions behind it, that the two answer otherwise. The store is opened
 /// again before the questions, in the middle of some scripts, and behind a crash.
-pub fn first_apart(
+pub(crate) fn first_apart(
     rt: &(impl Threads + Wait + Sync),
     alloc: Global,
     seed: u64,
@@ -85,7 +85,7 @@ impl Both {
         })
     }
 
-    /// Where the two answer those lines of a script otherwise. The slow store is opened again behind them.
+    // Where the two answer those lines of a script otherwise. The slow store is opened again behind them.
     fn run(
         &mut self,
         rt: &(impl Threads + Wait + Sync),
@@ -104,7 +104,7 @@ impl Both {
 }
 
 /// Where a store that is opened now answers the questions otherwise.
-pub fn apart_in_questions(
+pub(crate) fn apart_in_questions(
     rt: &(impl Threads + Wait + Sync),
     alloc: Global,
     store: &mut Oracle,

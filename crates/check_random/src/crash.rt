@@ -10,7 +10,7 @@ use std::thread::Threads;
 use ut_app::Status;
 use ut_outside::{Ack, Disk, MemDisk, Tear};
 
-/// What a crash makes of bytes that aren't synced, for the last digit of a draw.
+// What a crash makes of bytes that aren't synced, for the last digit of a draw.
 fn tear_of(drawn: u64) -> Tear {
     match drawn % 5 {
         0 => Tear::Old,
@@ -21,14 +21,14 @@ fn tear_of(drawn: u64) -> Tear {
     }
 }
 
-/// A number that a seed draws: the upper bits of one step of a linear congruence.
+// A number that a seed draws: the upper bits of one step of a linear congruence.
 fn drawn(seed: u64) -> u64 {
     seed.wrapping_mul(6_364_136_223_846_793_005)
         .wrapping_add(1_442_695_040_888_963_407)
         >> 20
 }
 
-/// How many replies were acknowledged by that moment.
+// How many replies were acknowledged by that moment.
 fn told_by(acks: &[Ack], moment: u64) -> u32 {
     let mut told: u32 = 0;
     for ack in acks {
@@ -41,7 +41,7 @@ fn told_by(acks: &[Ack], moment: u64) -> u32 {
 
 /// Where the store that a crash leaves of a script answers the questions as it may not. The crash comes at a drawn moment of the
 /// script's runs; what is opened then has the lines that were told, and perhaps the next one.
-pub fn crash_apart(
+pub(crate) fn crash_apart(
     rt: &(impl Threads + Wait + Sync),
     alloc: Global,
     halves: Halves,
@@ -65,7 +65,7 @@ pub fn crash_apart(
     told_of(alloc, apart, moment, told)
 }
 
-/// Where a store that is opened now answers the questions otherwise than the slow one behind so many lines of a script.
+// Where a store that is opened now answers the questions otherwise than the slow one behind so many lines of a script.
 fn apart_behind(
     rt: &(impl Threads + Wait + Sync),
     alloc: Global,
@@ -77,7 +77,7 @@ fn apart_behind(
     apart_in_questions(rt, alloc, &mut store, disk)
 }
 
-/// The slow store, opened again behind so many lines of a script.
+// The slow store, opened again behind so many lines of a script.
 fn store_behind(alloc: Global, halves: Halves, count: u32) -> Result<Oracle, AllocError> {
     let mut store = Oracle::new(alloc, AMPLE)?;
     let mut replies = Vec::new(alloc);
@@ -92,7 +92,7 @@ fn store_behind(alloc: Global, halves: Halves, count: u32) -> Result<Oracle, All
     store.reopened(alloc, AMPLE)
 }
 
-/// A difference, with the crash that showed it.
+// A difference, with the crash that showed it.
 fn told_of(
     alloc: Global,
     apart: Option<Apart>,

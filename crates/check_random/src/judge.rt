@@ -15,7 +15,7 @@ use ut_outside::MemDisk;
 
 /// What may be wrong with a run.
 #[derive(Clone, Copy, Debug, PartialEq, Eq)]
-pub enum Wrong {
+pub(crate) enum Wrong {
     /// The last line that was answered should have another reply.
     Reply,
     /// It shouldn't have ended so.
@@ -26,7 +26,7 @@ pub enum Wrong {
 
 /// What a run came to.
 #[derive(Clone, Copy)]
-pub struct Verdict {
+pub(crate) struct Verdict {
     status: Status,
     answered: usize,
     refused: usize,
@@ -79,7 +79,7 @@ impl<'a> Follower<'a> {
         })
     }
 
-    /// Whether a line was answered as it may be. A run that has told all that it told answered no further line.
+    // Whether a line was answered as it may be. A run that has told all that it told answered no further line.
     fn follow(&mut self, alloc: Global, line: &str) -> Result<bool, AllocError> {
         if self.before.is_some() {
             return Ok(false);
@@ -109,14 +109,14 @@ impl<'a> Follower<'a> {
         Ok(reply)
     }
 
-    /// The run ended at a line whose commit may be there or not.
+    // The run ended at a line whose commit may be there or not.
     fn leave_open(&mut self, alloc: Global, line: &str) -> Result<(), AllocError> {
         self.before = Some(self.store.reopened(alloc, AMPLE)?);
         let _reply = self.reply_to(alloc, line)?;
         Ok(())
     }
 
-    /// What is wrong with a run of these lines that ended so, if anything is.
+    // What is wrong with a run of these lines that ended so, if anything is.
     fn wrong_in(
         &mut self,
         rt: &(impl Threads + Wait + Sync),
@@ -143,7 +143,7 @@ impl<'a> Follower<'a> {
         Ok(if is_left { None } else { Some(Wrong::Left) })
     }
 
-    /// Whether a run of so many lines may have ended so.
+    // Whether a run of so many lines may have ended so.
     fn may_end(&self, status: Status, lines: usize) -> bool {
         let is_told = self.rest.is_empty();
         match status {
@@ -155,7 +155,7 @@ impl<'a> Follower<'a> {
         }
     }
 
-    /// Whether the disk has what was told, and no more than that and an open commit.
+    // Whether the disk has what was told, and no more than that and an open commit.
     fn is_left(
         &self,
         rt: &(impl Threads + Wait + Sync),
@@ -175,7 +175,7 @@ impl<'a> Follower<'a> {
     }
 }
 
-/// Whether a disk has the rows of a slow store. It is asked twice, since what lacked memory once has it then.
+// Whether a disk has the rows of a slow store. It is asked twice, since what lacked memory once has it then.
 fn has_rows_of(
     rt: &(impl Threads + Wait + Sync),
     alloc: Global,
@@ -191,7 +191,7 @@ fn has_rows_of(
     Ok(false)
 }
 
-/// What stands behind the reply of a text to a line, where that reply comes first.
+// What stands behind the reply of a text to a line, where that reply comes first.
 fn behind<'a>(
     alloc: Global,
     told: &'a [u8],
@@ -203,7 +203,7 @@ fn behind<'a>(
     Ok(told.strip_prefix(reply.as_bytes()))
 }
 
-/// What ends a transaction takes no memory, and no statement of a savepoint but its begin.
+// What ends a transaction takes no memory, and no statement of a savepoint but its begin.
 fn may_lack_memory(line: &str) -> bool {
     let mut words = line.split(' ').skip(1);
     match words.next() {
@@ -214,7 +214,7 @@ fn may_lack_memory(line: &str) -> bool {
 }
 
 /// The verdict on a run of the worked script of that number over a new store.
-pub fn verdict_on(
+pub(crate) fn verdict_on(
     rt: &(impl Threads + Wait + Sync),
     alloc: Global,
     number: usize,
@@ -235,7 +235,7 @@ fn script_of(alloc: Global, lines: &[&str]) -> Result<Vec<u8>, AllocError> {
     Ok(script)
 }
 
-/// The verdict on what a run of those lines told and left on its disk.
+// The verdict on what a run of those lines told and left on its disk.
 fn judged(
     rt: &(impl Threads + Wait + Sync),
     alloc: Global,

@@ -70,7 +70,7 @@ fn task_of(rt: &HostRuntime) -> Result<Task> {
     })
 }
 
-/// Compares so many scripts, or those up to the first that is answered otherwise, and says which.
+// Compares so many scripts, or those up to the first that is answered otherwise, and says which.
 fn compare_all(
     rt: &(impl Print + Threads + Wait + Sync),
     alloc: Global,
@@ -90,7 +90,7 @@ fn compare_all(
     Ok(true)
 }
 
-/// Judges each worked script.
+// Judges each worked script.
 fn judge_all(rt: &(impl Print + Threads + Wait + Sync), alloc: Global) -> Result<bool> {
     for number in 0..worked::COUNT {
         if !judge_one(rt, alloc, number)? {
@@ -100,7 +100,7 @@ fn judge_all(rt: &(impl Print + Threads + Wait + Sync), alloc: Global) -> Result
     Ok(true)
 }
 
-/// Judges a run of a worked script, and says what it came to.
+// Judges a run of a worked script, and says what it came to.
 fn judge_one(
     rt: &(impl Print + Threads + Wait + Sync),
     alloc: Global,
@@ -112,7 +112,7 @@ fn judge_one(
     Ok(verdict.is_right())
 }
 
-/// Judges a crowd, and says what it came to.
+// Judges a crowd, and says what it came to.
 fn judge_crowd(rt: &(impl Print + Threads + Wait + Sync), alloc: Global) -> Result<bool> {
     let verdict = check_books::judge::verdict_on(rt, alloc)?;
     println!(rt; "crowd: {verdict}")?;

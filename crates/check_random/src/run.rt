@@ -6,22 +6,22 @@ use ut_app::{Status, top};
 use ut_outside::{AckList, MemDisk, MemSink, MemSource, NoHook};
 
 /// The words that open a store, and those that make one.
-pub const RUN: &[&str] = &["ut", "run"];
+pub(crate) const RUN: &[&str] = &["ut", "run"];
 
-pub const RUN_NEW: &[&str] = &["ut", "run", "--new"];
+pub(crate) const RUN_NEW: &[&str] = &["ut", "run", "--new"];
 
 /// The bytes that a source gives in one call.
 const PIECE: usize = 4096;
 
 /// How a run ended, what it wrote, and what it acknowledged.
 #[derive(Drop)]
-pub struct Ran {
+pub(crate) struct Ran {
     pub status: Status,
     pub told: Vec<u8>,
     pub acks: AckList,
 }
 
-pub fn run_on(
+pub(crate) fn run_on(
     rt: &(impl Threads + Wait + Sync),
     alloc: Global,
     words: &[&str],

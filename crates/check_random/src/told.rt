@@ -5,7 +5,7 @@ use std::alloc::{AllocError, Global};
 
 /// A script, and the slow store's replies to it.
 #[derive(Drop)]
-pub struct Script {
+pub(crate) struct Script {
     pub lines: Vec<u8>,
     pub replies: Vec<u8>,
     /// Where in the replies those to each line end.

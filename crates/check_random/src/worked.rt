@@ -4,7 +4,7 @@ use check_scripts::{merge_rows, save_rows};
 use std::alloc::{AllocError, Global};
 
 /// A script whose replies aren't worked out: the slow store says them.
-pub type Lines = &'static [&'static str];
+pub(crate) type Lines = &'static [&'static str];
 
 /// Rows that are refused for their names and kinds.
 const REFUSED_ROWS: Lines = &[
@@ -49,7 +49,7 @@ const A_MERGE_ENDED_TWICE: Lines = &[
 ];
 
 /// So many scripts there are.
-pub const COUNT: usize = 16;
+pub(crate) const COUNT: usize = 16;
 
 /// The tables of rows that are run, and then the scripts without replies.
 const TABLES: [&[Row]; 13] = [
@@ -69,7 +69,7 @@ const TABLES: [&[Row]; 13] = [
 ];
 
 /// The lines of the script of a number.
-pub fn lines_of(alloc: Global, number: usize) -> Result<Vec<&'static str>, AllocError> {
+pub(crate) fn lines_of(alloc: Global, number: usize) -> Result<Vec<&'static str>, AllocError> {
     let mut lines = Vec::new(alloc);
     match number {
         0 => lines.extend_from_slice(REFUSED_ROWS)?,

@@ -49,7 +49,7 @@ fn those_of(
 }
 
 /// The values of a column.
-pub fn column_values(
+pub(crate) fn column_values(
     alloc: Global,
     columns: &[Column],
     name: &[u8],
@@ -102,7 +102,7 @@ fn picked_by(
 }
 
 /// The columns that are named, or all, of each row.
-pub fn select(
+pub(crate) fn select(
     alloc: Global,
     columns: &[Column],
     names: &Option<Seq<Name>>,
@@ -163,7 +163,7 @@ fn sum_for(
 }
 
 /// For each key that occurs, ascending, the sum over the rows that have it.
-pub fn groups(
+pub(crate) fn groups(
     alloc: Global,
     columns: &[Column],
     key_column: &[u8],

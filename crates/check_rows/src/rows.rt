@@ -9,8 +9,8 @@ use std::alloc::{AllocError, Global};
 use ut_plain::Stored;
 use ut_value::{Duplicate, Op};
 
-/// Puts a row in its place. A row that stands under its id is replaced.
-pub fn put(rows: &mut Vec<(u32, Stored)>, id: u32, row: Stored) -> Result<(), AllocError>
+// Puts a row in its place. A row that stands under its id is replaced.
+fn put(rows: &mut Vec<(u32, Stored)>, id: u32, row: Stored) -> Result<(), AllocError>
     ensures { OnOk result (rows.new.items ≡ put nat_cmp id row rows.old.items) }
 {
     let place = place_for(rows.as_slice(), id);
@@ -22,7 +22,7 @@ pub fn put(rows: &mut Vec<(u32, Stored)>, id: u32, row: Stored) -> Result<(), Al
     Ok(())
 }
 
-/// How many rows stand before an id.
+// How many rows stand before an id.
 fn place_for(rows: &[(u32, Stored)], id: u32) -> usize
     ensures within { result ≤ length rows.now }
     ensures before { (v : Stored) → put nat_cmp id v rows.now ≡ take result rows.now ++ put nat_cmp id v (drop result rows.now) }
@@ -36,8 +36,8 @@ fn place_for(rows: &[(u32, Stored)], id: u32) -> usize
     rows.len()
 }
 
-/// The rows after an operation.
-pub fn apply(alloc: Global, rows: &mut Vec<(u32, Stored)>, op: &Op) -> Result<(), AllocError>
+// The rows after an operation.
+fn apply(alloc: Global, rows: &mut Vec<(u32, Stored)>, op: &Op) -> Result<(), AllocError>
     ensures { OnOk result (rows.new.items ≡ listed rows.old.items op.now) }
 {
     match op {

@@ -19,7 +19,7 @@ fn number_of(value: &Value) -> i64
 }
 
 /// The sum of the numbers among values.
-pub fn total(values: &[Value]) -> i128
+pub(crate) fn total(values: &[Value]) -> i128
     ensures { result ≡ total values.now }
 {
     let mut sum: i128 = 0;
@@ -30,7 +30,7 @@ pub fn total(values: &[Value]) -> i128
 }
 
 /// The least value, the first one on a tie.
-pub fn least(alloc: Global, values: &[Value]) -> Result<Option<Value>, AllocError>
+pub(crate) fn least(alloc: Global, values: &[Value]) -> Result<Option<Value>, AllocError>
     ensures { IfOk result (λ value. value ≡ best is_lt values.now) }
 {
     let [first, rest @ ..] = values else {
@@ -46,7 +46,7 @@ pub fn least(alloc: Global, values: &[Value]) -> Result<Option<Value>, AllocErro
 }
 
 /// The greatest value, the first one on a tie.
-pub fn greatest(alloc: Global, values: &[Value]) -> Result<Option<Value>, AllocError>
+pub(crate) fn greatest(alloc: Global, values: &[Value]) -> Result<Option<Value>, AllocError>
     ensures { IfOk result (λ value. value ≡ best is_gt values.now) }
 {
     let [first, rest @ ..] = values else {
@@ -62,7 +62,7 @@ pub fn greatest(alloc: Global, values: &[Value]) -> Result<Option<Value>, AllocE
 }
 
 /// The values that occur, ascending, each once.
-pub fn distinct(alloc: Global, values: &[Value]) -> Result<Vec<Value>, AllocError>
+pub(crate) fn distinct(alloc: Global, values: &[Value]) -> Result<Vec<Value>, AllocError>
     ensures { IfOk result (λ keys. keys.items ≡ distinct values.now) }
 {
     let mut keys = Vec::new(alloc);
@@ -85,7 +85,7 @@ fn add_key(keys: &mut Vec<Value>, key: Value) -> Result<(), AllocError>
     }
 }
 
-/// Where a key belongs among ascending ones, None where it stands there.
+// Where a key belongs among ascending ones, None where it stands there.
 fn place_of_key(keys: &[Value], key: &Value) -> Option<usize>
     ensures within { IfSome result (λ place. place ≤ length keys.now) }
     ensures new { IfSome result (λ place. with_key key.now keys.now ≡ insert keys.now place key.now) }

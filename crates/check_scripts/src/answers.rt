@@ -6,9 +6,7 @@ use std::alloc::{AllocError, Global};
 use ut_plain::{Parsed, Refusal, Reply, Statement};
 use ut_reply::put_reply;
 use ut_script::parse_line;
-
-/// The number of the last session.
-const LAST_SESSION: u8 = 16;
+use ut_value::LAST_SESSION;
 
 /// A store that answers lines.
 pub trait Answers {
@@ -25,7 +23,7 @@ impl Answers for Oracle {
 
 // The calls from here on promise nothing and hold one value each, so that the proofs of what calls them are short.
 
-/// What a line says.
+// What a line says.
 fn read(alloc: Global, line: &[u8]) -> Result<Parsed, AllocError> {
     match parse_line(alloc, line, false) {
         Ok(parsed) => Ok(parsed),
@@ -33,7 +31,7 @@ fn read(alloc: Global, line: &[u8]) -> Result<Parsed, AllocError> {
     }
 }
 
-/// Puts the answer to what a line says at the end.
+// Puts the answer to what a line says at the end.
 fn answer_parsed(
     store: &mut Oracle,
     alloc: Global,
@@ -63,12 +61,12 @@ fn answer_good(
     put(out, Some(session), &reply)
 }
 
-/// Puts the text of a reply at the end.
+// Puts the text of a reply at the end.
 fn put(out: &mut Vec<u8>, session: Option<u8>, reply: &Reply) -> Result<(), AllocError> {
     put_reply(out, session, reply)
 }
 
-/// The reply to a statement. A statement that no line can spell doesn't come, and would be refused.
+// The reply to a statement. A statement that no line can spell doesn't come, and would be refused.
 fn reply_to(
     store: &mut Oracle,
     alloc: Global,
@@ -81,7 +79,7 @@ fn reply_to(
     store.statement(alloc, session, st, pages_of(store))
 }
 
-/// So many pages has what a savepoint captures now, where it is small: a part takes one, and so does the directory.
+// So many pages has what a savepoint captures now, where it is small: a part takes one, and so does the directory.
 fn pages_of(store: &Oracle) -> u32 {
     let parts = u32::try_from(store.parts()).unwrap_or(u32::MAX);
     parts.saturating_add(1)

@@ -133,7 +133,7 @@ const WANTED: [Wanted; 3] = [
     },
 ];
 
-/// The line of a number of the script of a seed.
+// The line of a number of the script of a seed.
 fn line_of(
     alloc: Global,
     of_store: StoreLines,
@@ -168,7 +168,7 @@ fn counted(texts: &[Vec<u8>], word: &str) -> usize {
         .count()
 }
 
-/// Whether texts have each word so often.
+// Whether texts have each word so often.
 fn check_counts(rt: &impl Abort, of_store: StoreLines, texts: &[Vec<u8>], words: &[(&str, usize)]) {
     for (word, least) in words {
         let count = counted(texts, word);
@@ -176,7 +176,7 @@ fn check_counts(rt: &impl Abort, of_store: StoreLines, texts: &[Vec<u8>], words:
     }
 }
 
-/// Whether a line is of the grammar.
+// Whether a line is of the grammar.
 fn is_good(alloc: Global, line: &[u8]) -> bool {
     matches!(parse_line(alloc, line, false), Ok(Parsed::Good(_, _)))
 }
@@ -223,7 +223,7 @@ fn alike_stores_answer_alike(rt: HostRuntime) -> Result<(), Fail> {
     Ok(())
 }
 
-/// All lines of the scripts but the first ones.
+// All lines of the scripts but the first ones.
 fn all_lines(alloc: Global, of_store: StoreLines) -> Result<Vec<Vec<u8>>, AllocError> {
     let mut all = Vec::new(alloc);
     for seed in 0..SCRIPTS {
@@ -303,7 +303,7 @@ fn scripts_meet_conflicts_snapshots_merges_and_savepoints(rt: HostRuntime) -> Re
     Ok(())
 }
 
-/// The same line of a session that is in no transaction.
+// The same line of a session that is in no transaction.
 fn as_outside(alloc: Global, line: &[u8]) -> Result<Vec<u8>, AllocError> {
     let mut other = Vec::new(alloc);
     other.push(b'9')?;
@@ -311,7 +311,7 @@ fn as_outside(alloc: Global, line: &[u8]) -> Result<Vec<u8>, AllocError> {
     Ok(other)
 }
 
-/// Whether a line is a question whose session sees other rows than one outside a transaction.
+// Whether a line is a question whose session sees other rows than one outside a transaction.
 fn is_seen_apart(alloc: Global, store: &mut Oracle, line: &[u8]) -> Result<bool, AllocError> {
     let is_question = has(line, " select") || has(line, " join") || has(line, " group");
     if !is_question {

@@ -34,7 +34,7 @@ struct Dice {
 }
 
 impl Dice {
-    /// The dice of one line.
+    // The dice of one line.
     fn new(seed: u64, line: u32) -> Dice {
         let mixed = seed.wrapping_mul(6364136223846793005)
             ^ u64::from(line).wrapping_mul(1442695040888963407);
@@ -51,7 +51,7 @@ impl Dice {
         self.state ^= self.state << 17;
     }
 
-    /// A digit below `sides`.
+    // A digit below `sides`.
     fn digit(&mut self, sides: u8) -> u8
         requires { 0 < sides }
         ensures { result < sides }
@@ -60,7 +60,7 @@ impl Dice {
         (self.state % u64::from(sides)) as u8
     }
 
-    /// True once in so many times.
+    // True once in so many times.
     fn is_once_in(&mut self, sides: u8) -> bool
         requires { 0 < sides }
     {
@@ -129,7 +129,7 @@ fn any_table(dice: &mut Dice) -> Table {
     }
 }
 
-/// The name of a table, now and then of one that isn't there.
+// The name of a table, now and then of one that isn't there.
 fn put_table(dice: &mut Dice, table: Table, out: &mut Vec<u8>) -> Result<(), AllocError> {
     if dice.is_once_in(32) {
         return put(out, " X");
@@ -140,7 +140,7 @@ fn put_table(dice: &mut Dice, table: Table, out: &mut Vec<u8>) -> Result<(), All
     }
 }
 
-/// A value of the second column, now and then of the wrong kind.
+// A value of the second column, now and then of the wrong kind.
 fn put_value(dice: &mut Dice, table: Table, out: &mut Vec<u8>) -> Result<(), AllocError> {
     let is_right = !dice.is_once_in(32);
     let is_text = match table {
@@ -178,7 +178,7 @@ fn put_comparison(dice: &mut Dice, table: Table, out: &mut Vec<u8>) -> Result<()
     }
 }
 
-/// A condition of one comparison or two, or once in so many times none.
+// A condition of one comparison or two, or once in so many times none.
 fn put_condition(
     dice: &mut Dice,
     table: Table,
@@ -199,7 +199,7 @@ fn put_condition(
     Ok(())
 }
 
-/// A merge of the first stage, or a shape.
+// A merge of the first stage, or a shape.
 fn put_delta(dice: &mut Dice, out: &mut Vec<u8>) -> Result<(), AllocError> {
     let table = any_table(dice);
     if dice.is_once_in(2) {
@@ -212,7 +212,7 @@ fn put_delta(dice: &mut Dice, out: &mut Vec<u8>) -> Result<(), AllocError> {
     put_digit(out, 1 + dice.digit(3))
 }
 
-/// The begin of a merge into main or its end, and now and then another line. Sessions go on between the two.
+// The begin of a merge into main or its end, and now and then another line. Sessions go on between the two.
 fn put_main(dice: &mut Dice, out: &mut Vec<u8>) -> Result<(), AllocError> {
     match dice.digit(8) {
         0 => put_delta(dice, out),
@@ -224,7 +224,7 @@ fn put_main(dice: &mut Dice, out: &mut Vec<u8>) -> Result<(), AllocError> {
     }
 }
 
-/// A statement of a savepoint, or now and then one of main.
+// A statement of a savepoint, or now and then one of main.
 fn put_save_or_main(dice: &mut Dice, number: u32, out: &mut Vec<u8>) -> Result<(), AllocError> {
     if dice.is_once_in(4) {
         return put_main(dice, out);
@@ -236,7 +236,7 @@ fn put_save_or_main(dice: &mut Dice, number: u32, out: &mut Vec<u8>) -> Result<(
     put_next_save(number, out)
 }
 
-/// Four lines of a script begin a savepoint, the next four write its pages, and so on.
+// Four lines of a script begin a savepoint, the next four write its pages, and so on.
 fn put_next_save(number: u32, out: &mut Vec<u8>) -> Result<(), AllocError> {
     match number / 4 % 4 {
         0 => put(out, "begin"),
@@ -246,7 +246,7 @@ fn put_next_save(number: u32, out: &mut Vec<u8>) -> Result<(), AllocError> {
     }
 }
 
-/// A statement of a savepoint, whatever its phase.
+// A statement of a savepoint, whatever its phase.
 fn put_any_save(dice: &mut Dice, out: &mut Vec<u8>) -> Result<(), AllocError> {
     match dice.digit(8) {
         0 => put(out, "drop"),
@@ -259,7 +259,7 @@ fn put_any_save(dice: &mut Dice, out: &mut Vec<u8>) -> Result<(), AllocError> {
     }
 }
 
-/// A merge mostly of one table and of a kind that leaves parts as they are, so that there are several.
+// A merge mostly of one table and of a kind that leaves parts as they are, so that there are several.
 fn put_merge(dice: &mut Dice, out: &mut Vec<u8>) -> Result<(), AllocError> {
     let table = if dice.is_once_in(4) {
         Table::U
@@ -312,7 +312,7 @@ fn put_best(dice: &mut Dice, out: &mut Vec<u8>) -> Result<(), AllocError> {
     put_condition(dice, table, 2, out)
 }
 
-/// A sum or sums by group, now and then of texts.
+// A sum or sums by group, now and then of texts.
 fn put_sums(dice: &mut Dice, out: &mut Vec<u8>) -> Result<(), AllocError> {
     match dice.digit(8) {
         0 => put(out, " sum U v"),
@@ -359,7 +359,7 @@ fn put_change(dice: &mut Dice, out: &mut Vec<u8>) -> Result<(), AllocError> {
     }
 }
 
-/// One row is inserted, more are loaded.
+// One row is inserted, more are loaded.
 fn put_rows(dice: &mut Dice, table: Table, rows: u8, out: &mut Vec<u8>) -> Result<(), AllocError> {
     put(out, if rows == 1 { " insert" } else { " bulk" })?;
     put_table(dice, table, out)?;

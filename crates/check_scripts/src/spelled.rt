@@ -7,16 +7,13 @@ ghost use Rattle.ut_value.specs.Text.{is_name};
 ghost use Rattle.ut_plain.specs.Spelled.{are_some_values, are_preds, are_names, is_query, is_spelled};
 
 use ut_plain::{Pred, Query, Statement};
-use ut_value::{Column, Name, Seq, Value, value_keeps_rule};
+use ut_value::{COLUMNS_LIMIT, COUNT_LIMIT, Column, Name, Seq, Value, value_keeps_rule};
 
 /// The most columns of a table.
-const MAX_COLUMNS: usize = 64;
-
-/// The most that a statement of the operator counts.
-const MAX_COUNT: u32 = 1048576;
+const MAX_COLUMNS: usize = COLUMNS_LIMIT as usize;
 
 /// Whether a line can spell a statement.
-pub fn is_spelled(st: &Statement) -> bool
+pub(crate) fn is_spelled(st: &Statement) -> bool
     ensures { result ≡ is_spelled st.now }
 {
     match st {
@@ -49,7 +46,7 @@ fn is_name(name: &Name) -> bool
 fn is_count(n: u32) -> bool
     ensures { result ≡ is_count 1048576 n }
 {
-    1 <= n && n <= MAX_COUNT
+    1 <= n && n <= COUNT_LIMIT
 }
 
 fn is_value(value: &Value) -> bool

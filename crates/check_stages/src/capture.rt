@@ -20,7 +20,7 @@ fn is_live(ids: &[u32], place: &Placed) -> bool
     has(ids, place.id)
 }
 
-/// The live ones of these places.
+// The live ones of these places.
 fn rows_of(alloc: Global, ids: &[u32], places: &[Placed]) -> Result<Seq<Placed>, AllocError>
     ensures { IfOk result (λ rows. rows ≡ filter (is_live_by ids.now) places.now) }
 {
@@ -42,7 +42,7 @@ fn place_of(alloc: Global, ids: &[u32], place: &Placed) -> Result<Placed, AllocE
     Ok(copy)
 }
 
-/// A part, in which each place that isn't live is dead.
+// A part, in which each place that isn't live is dead.
 fn part_of(alloc: Global, ids: &[u32], part: &[Placed]) -> Result<Seq<Placed>, AllocError>
     ensures { IfOk result (λ copy. copy ≡ map (place_by ids.now) part.now) }
 {

@@ -9,13 +9,13 @@ use ut_plain::Placed;
 use ut_value::Seq;
 
 /// Whether an id is one of these.
-pub fn has(ids: &[u32], id: u32) -> bool
+pub(crate) fn has(ids: &[u32], id: u32) -> bool
     ensures { result ≡ list_any (nat_eq id) ids.now }
 {
     ids.iter().any(|other| id == *other)
 }
 
-/// Whether a place is kept, where these rows are needed.
+// Whether a place is kept, where these rows are needed.
 fn is_kept(ids: &[u32], place: &Placed) -> bool
     ensures { result ≡ is_kept_by ids.now place.now }
 {
@@ -68,7 +68,7 @@ fn flags_in(alloc: Global, ids: &[u32], lists: &[Seq<Placed>]) -> Result<Seq<Seq
 }
 
 /// A flag for each place of these lists, of which so many stay as they are.
-pub fn flags(
+pub(crate) fn flags(
     alloc: Global,
     ids: &[u32],
     stay: usize,

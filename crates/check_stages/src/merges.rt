@@ -11,15 +11,15 @@ use crate::places::{flagged_all, lists_of, parts_copied};
 use crate::sorted::resorted;
 use std::alloc::{AllocError, Global};
 use ut_plain::{Placed, TableStages};
-use ut_value::{Duplicate, MergeKind, Seq};
+use ut_value::{Duplicate, MergeKind, PARTS_LIMIT, ROWS_LIMIT, Seq};
 
 /// The most parts of a table.
-const MAX_PARTS: usize = 8;
+const MAX_PARTS: usize = PARTS_LIMIT as usize;
 
 /// The most places that are merged.
-const MAX_PLACES: usize = 2147483647;
+const MAX_PLACES: usize = ROWS_LIMIT as usize - 1;
 
-/// How many parts stay as they are, of so many.
+// How many parts stay as they are, of so many.
 fn staying(kind: MergeKind, parts: usize) -> usize
     ensures { result ≡ staying kind parts }
 {
@@ -42,7 +42,7 @@ fn arranged(alloc: Global, kind: MergeKind, places: Seq<Placed>) -> Result<Seq<P
     }
 }
 
-/// The parts behind a merge: those that stay, and one more.
+// The parts behind a merge: those that stay, and one more.
 fn merged(
     alloc: Global,
     kind: MergeKind,
@@ -105,7 +105,7 @@ pub fn switched(
 }
 
 /// The places of the closed stage, none where nothing is closed.
-pub fn closed_places(stages: &TableStages) -> &[Placed]
+pub(crate) fn closed_places(stages: &TableStages) -> &[Placed]
     ensures { result.now ≡ unwrap_or stages.now.closed [] }
 {
     match &stages.closed {

@@ -7,7 +7,7 @@ use ut_plain::Placed;
 use ut_value::{Duplicate, Seq};
 
 /// A copy of places.
-pub fn places_copied(alloc: Global, places: &[Placed]) -> Result<Seq<Placed>, AllocError>
+pub(crate) fn places_copied(alloc: Global, places: &[Placed]) -> Result<Seq<Placed>, AllocError>
     ensures { IfOk result (λ copy. copy ≡ places.now) }
 {
     let mut copies = Seq::new(alloc);
@@ -19,7 +19,7 @@ pub fn places_copied(alloc: Global, places: &[Placed]) -> Result<Seq<Placed>, Al
 }
 
 /// The places of the parts, and then those of the closed stage.
-pub fn lists_of(
+pub(crate) fn lists_of(
     alloc: Global,
     parts: &[Seq<Placed>],
     closed: &[Placed],
@@ -33,7 +33,10 @@ pub fn lists_of(
 }
 
 /// A copy of parts.
-pub fn parts_copied(alloc: Global, parts: &[Seq<Placed>]) -> Result<Seq<Seq<Placed>>, AllocError>
+pub(crate) fn parts_copied(
+    alloc: Global,
+    parts: &[Seq<Placed>],
+) -> Result<Seq<Seq<Placed>>, AllocError>
     ensures { IfOk result (λ copy. copy ≡ parts.now) }
 {
     let mut copies = Seq::new(alloc);
@@ -44,7 +47,7 @@ pub fn parts_copied(alloc: Global, parts: &[Seq<Placed>]) -> Result<Seq<Seq<Plac
     Ok(copies)
 }
 
-/// Those with a flag.
+// Those with a flag.
 fn flagged(alloc: Global, places: &[Placed], flags: &[bool]) -> Result<Seq<Placed>, AllocError>
     ensures { IfOk result (λ kept. kept ≡ flagged places.now flags.now) }
 {
@@ -59,7 +62,7 @@ fn flagged(alloc: Global, places: &[Placed], flags: &[bool]) -> Result<Seq<Place
 }
 
 /// Those of all lists that have a flag.
-pub fn flagged_all(
+pub(crate) fn flagged_all(
     alloc: Global,
     lists: &[Seq<Placed>],
     keep: &[Seq<bool>],

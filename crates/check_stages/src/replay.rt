@@ -61,7 +61,7 @@ fn parts_buried(
     Ok(copies)
 }
 
-/// Stages in which the row of an id is nobody's any more.
+// Stages in which the row of an id is nobody's any more.
 fn with_dead(alloc: Global, id: u32, stages: &TableStages) -> Result<TableStages, AllocError>
     ensures { IfOk result (λ copy. copy ≡ with_dead id stages.now) }
 {

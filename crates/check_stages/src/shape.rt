@@ -60,7 +60,7 @@ pub fn has_at_most(stages: &[TableStages], rows: usize) -> bool
     true
 }
 
-/// What is left of a room behind the rows of a table that stand outside main, none where they need more.
+// What is left of a room behind the rows of a table that stand outside main, none where they need more.
 fn left_by(room: usize, stages: &TableStages) -> Option<usize>
     ensures left { IfSome result (λ left. left + places_of stages.now ≡ room) }
     ensures more { IfNone result (room < places_of stages.now) }

@@ -11,7 +11,7 @@ use ut_key::Key;
 use ut_plain::Placed;
 use ut_value::{Duplicate, Seq, key_of};
 
-/// The key of a place in a column.
+// The key of a place in a column.
 fn key_in(column: usize, place: &Placed) -> Key
     ensures { result ≡ key_in column place.now }
 {
@@ -29,7 +29,7 @@ fn key_order(column: usize, left: &Placed, right: &Placed) -> Ordering
     x.as_slice().cmp(&y.as_slice())
 }
 
-/// How many different keys places have in a column.
+// How many different keys places have in a column.
 fn distinct_in(places: &[Placed], column: usize) -> usize
     ensures { result ≡ distinct_in places.now column }
 {
@@ -49,14 +49,14 @@ fn same_key(column: usize, left: &Placed, right: &Placed) -> bool
     key_order(column, left, right).is_eq()
 }
 
-/// Whether one of these places has the key of a place.
+// Whether one of these places has the key of a place.
 fn is_among(places: &[Placed], column: usize, place: &Placed) -> bool
     ensures { result ≡ list_any (λ other. is_eq (key_cmp (key_in column place.now) (key_in column other))) places.now }
 {
     places.iter().any(|other| same_key(column, place, other))
 }
 
-/// A column with fewer different keys comes first, on a tie the one that stands first.
+// A column with fewer different keys comes first, on a tie the one that stands first.
 fn comes_first(places: &[Placed], a: usize, b: usize) -> bool
     ensures { result ≡ comes_first places.now a b }
 {
@@ -74,7 +74,7 @@ fn width_of(places: &[Placed]) -> usize
     }
 }
 
-/// Where a column belongs among others in their order.
+// Where a column belongs among others in their order.
 fn place_for_column(places: &[Placed], order: &[usize], column: usize) -> usize
     ensures within { result ≤ length order.now }
     ensures put { put (comes_first places.now) column order.now ≡ insert order.now result column }
@@ -98,7 +98,7 @@ fn column_order(alloc: Global, places: &[Placed]) -> Result<Vec<usize>, AllocErr
     Ok(order)
 }
 
-/// The order of places by their keys in these columns, then by id.
+// The order of places by their keys in these columns, then by id.
 fn place_cmp(columns: &[usize], a: &Placed, b: &Placed) -> Ordering
     ensures { result ≡ place_cmp columns.now a.now b.now }
 {
@@ -111,7 +111,7 @@ fn place_cmp(columns: &[usize], a: &Placed, b: &Placed) -> Ordering
     a.id.cmp(&b.id)
 }
 
-/// Where a place belongs among others in their order.
+// Where a place belongs among others in their order.
 fn place_for(columns: &[usize], sorted: &[Placed], place: &Placed) -> usize
     ensures within { result ≤ length sorted.now }
     ensures put { put (λ a b. is_lt (place_cmp columns.now a b)) place.now sorted.now ≡ insert sorted.now result place.now }
@@ -125,7 +125,7 @@ fn place_for(columns: &[usize], sorted: &[Placed], place: &Placed) -> usize
 }
 
 /// The places in re-sorted order.
-pub fn resorted(alloc: Global, places: &[Placed]) -> Result<Seq<Placed>, AllocError>
+pub(crate) fn resorted(alloc: Global, places: &[Placed]) -> Result<Seq<Placed>, AllocError>
     ensures { IfOk result (λ sorted. sorted ≡ resorted places.now) }
 {
     let columns = column_order(alloc, places)?;

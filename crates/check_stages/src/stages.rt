@@ -43,7 +43,7 @@ fn enter(stage: &mut TableStages, bulk: bool, row: Placed) -> Result<(), AllocEr
 }
 
 /// The stages with the row that an operation inserts.
-pub fn place_row(
+pub(crate) fn place_row(
     alloc: Global,
     stages: &mut Vec<TableStages>,
     bulk: bool,

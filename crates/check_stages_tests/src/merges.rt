@@ -18,7 +18,7 @@ fn place(alloc: Global, id: u32, numbers: &[i64]) -> Result<Placed, AllocError> 
     })
 }
 
-/// Rows of one number, with ids from one on.
+// Rows of one number, with ids from one on.
 fn places(alloc: Global, first: u32, numbers: &[i64]) -> Result<Seq<Placed>, AllocError> {
     let mut places = Seq::new(alloc);
     let mut id = first;
@@ -39,7 +39,7 @@ fn merged(
     switched(alloc, kind, &closed)
 }
 
-/// A part has the rows of these ids in this order.
+// A part has the rows of these ids in this order.
 fn check_part(
     rt: &impl Abort,
     alloc: Global,
@@ -58,7 +58,7 @@ fn check_part(
     Ok(())
 }
 
-/// The second column has one key and the first two, so the second comes first.
+// The second column has one key and the first two, so the second comes first.
 #[test]
 fn a_resorted_part_is_ordered_by_the_column_of_fewest_keys(rt: HostRuntime) -> Result<(), Fail> {
     let alloc = rt.alloc();
@@ -72,7 +72,7 @@ fn a_resorted_part_is_ordered_by_the_column_of_fewest_keys(rt: HostRuntime) -> R
     Ok(())
 }
 
-/// Rows of 2 and 4, of 1 and of 9, and behind them of 4 and 10.
+// Rows of 2 and 4, of 1 and of 9, and behind them of 4 and 10.
 #[test]
 fn a_partial_merge_leaves_two_of_three_parts(rt: HostRuntime) -> Result<(), Fail> {
     let alloc = rt.alloc();
@@ -89,7 +89,7 @@ fn a_partial_merge_leaves_two_of_three_parts(rt: HostRuntime) -> Result<(), Fail
     Ok(())
 }
 
-/// A part that stays keeps a row that nobody needs, and a part that is rebuilt drops it.
+// A part that stays keeps a row that nobody needs, and a part that is rebuilt drops it.
 #[test]
 fn a_row_that_nobody_needs_is_dropped_where_its_part_is_rebuilt(
     rt: HostRuntime,

@@ -6,7 +6,7 @@ use std::test::Fail;
 use ut_scan::{Place, StampTable};
 use ut_stamps::Stamp;
 
-/// A part that has as many rows as this, of which one ends.
+// A part that has as many rows as this, of which one ends.
 fn part_of(rt: &impl Abort, alloc: Global, n: u32, ended: u32) -> Result<StampTable, AllocError> {
     assert!(rt; ended < n);
     let mut table = StampTable::new(alloc)?;
@@ -16,7 +16,7 @@ fn part_of(rt: &impl Abort, alloc: Global, n: u32, ended: u32) -> Result<StampTa
     Ok(table)
 }
 
-/// A list of few stamps is emptied in place, one of many makes room for new.
+// A list of few stamps is emptied in place, one of many makes room for new.
 #[test]
 fn one_row_ends_where_all_stamps_agreed(rt: HostRuntime) -> Result<(), Fail> {
     let alloc = rt.alloc();

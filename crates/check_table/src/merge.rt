@@ -23,7 +23,7 @@ fn row(alloc: Global, id: u32, number: i64) -> Result<Row, AllocError>
     Ok(Row { id, values })
 }
 
-/// A stage of a row for each number, whose ids count from `first` on.
+// A stage of a row for each number, whose ids count from `first` on.
 fn stage(alloc: Global, first: u32, numbers: &[i64]) -> Result<L2, AllocError>
     requires { first + length numbers.now < 100 }
     ensures wide { IfOk result (λ l2. l2.width ≡ 1) }
@@ -38,7 +38,7 @@ fn stage(alloc: Global, first: u32, numbers: &[i64]) -> Result<L2, AllocError>
     Ok(l2)
 }
 
-/// A flag for each row of a list.
+// A flag for each row of a list.
 fn flags(alloc: Global, list: u8, rows: u32, dropped: &[(u8, u32)]) -> Result<Vec<bool>, AllocError>
     ensures { IfOk result (λ flags. length flags.items ≡ rows) }
 {
@@ -49,7 +49,7 @@ fn flags(alloc: Global, list: u8, rows: u32, dropped: &[(u8, u32)]) -> Result<Ve
     Ok(flags)
 }
 
-/// Flags that drop some rows.
+// Flags that drop some rows.
 fn keep(alloc: Global, main: &Main, closed: &L2, dropped: &[(u8, u32)]) -> Result<Keep, AllocError>
     ensures { IfOk result (λ keep. map length keep ≡ map length (main.now.parts ++ closed.now.rows ∷ [])) }
 {
@@ -61,7 +61,7 @@ fn keep(alloc: Global, main: &Main, closed: &L2, dropped: &[(u8, u32)]) -> Resul
     Ok(Keep::of(lists))
 }
 
-/// A merge that re-sorts nothing, of fewer than eight parts.
+// A merge that re-sorts nothing, of fewer than eight parts.
 fn merge<B: Build>(
     builder: &B,
     alloc: Global,
@@ -118,7 +118,7 @@ fn show(alloc: Global, main: &Main, p: u8) -> Result<Shown, AllocError> {
     show_part(alloc, main.part(p))
 }
 
-/// The ids of a part's rows.
+// The ids of a part's rows.
 fn ids(alloc: Global, main: &Main, p: u8) -> Result<Vec<u32>, AllocError> {
     let mut ids = Vec::new(alloc);
     if p < main.parts() {
@@ -151,7 +151,7 @@ fn taken<B: Build>(builder: &B, alloc: Global, main: Main, step: &Step) -> Resul
     merge(builder, alloc, step.kind, main, closed, step.dropped)
 }
 
-/// Main behind such merges, one behind the other.
+// Main behind such merges, one behind the other.
 fn all_taken<B: Build>(builder: &B, alloc: Global, steps: &[Step]) -> Result<Main, AllocError>
     requires { B.ready builder.now }
 {
@@ -188,7 +188,7 @@ fn has_ids(
     Ok(())
 }
 
-/// The rows of 4 and of 4 and 10, behind parts that stay, and their codes' bytes.
+// The rows of 4 and of 4 and 10, behind parts that stay, and their codes' bytes.
 fn has_third_part(rt: &impl Abort, alloc: Global, parts: &Parts) -> Result<(), AllocError> {
     shows(rt, alloc, &parts.main, 2, &[9, 10], &[3, 1, 4])?;
     let part = show(alloc, &parts.main, 2)?;
@@ -233,7 +233,7 @@ const INTO_ONE: Step = Step {
     dropped: &[(1, 0), (3, 0)],
 };
 
-/// The last of three parts is rebuilt, and then all of them are.
+// The last of three parts is rebuilt, and then all of them are.
 fn rebuilds<B: Build>(rt: &impl Abort, builder: &B, alloc: Global) -> Result<(), AllocError>
     requires { B.ready builder.now }
 {
@@ -289,7 +289,7 @@ fn an_active_dictionary_holds_no_key_twice(rt: HostRuntime) -> Result<(), Fail> 
     Ok(())
 }
 
-/// A re-sorting merge of three rows.
+// A re-sorting merge of three rows.
 fn resorting(alloc: Global) -> Result<Job, AllocError> {
     let closed = Arc::new(alloc, stage(alloc, 1, &[2, 1, 2])?)?;
     let keep = Keep::of(vec![in alloc; vec![in alloc; true; 3]?]?);

@@ -8,7 +8,7 @@ use std::test::Fail;
 use ut_main::{Main, Part, part_bytes, part_from};
 use ut_value::{Column, Kind, Name};
 
-/// A column of numbers.
+// A column of numbers.
 fn columns(alloc: Global) -> Result<Vec<Column>, AllocError> {
     let name = Name::of(Vec::from_slice(alloc, b"n")?);
     let mut columns = Vec::new(alloc);
@@ -46,7 +46,7 @@ const REFUSED: [&[u8]; 5] = [
     ],
 ];
 
-/// The part whose bytes these are, where main has as many columns.
+// The part whose bytes these are, where main has as many columns.
 fn read(
     alloc: Global,
     bytes: &[u8],

@@ -47,7 +47,7 @@ pub(crate) const OLD: Stamp = Stamp {
     end: None,
 };
 
-/// A row of one number.
+// A row of one number.
 fn row(alloc: Global, id: u32, number: i64) -> Result<Row, AllocError>
     ensures { IfOk result (λ row. length row.values ≡ 1) }
 {
@@ -82,7 +82,7 @@ fn youngest(rt: &impl Abort, alloc: Global, list: &[(u32, i64)]) -> Result<L1, A
     Ok(l1)
 }
 
-/// The part whose bytes these are, where main has one column.
+// The part whose bytes these are, where main has one column.
 fn part(alloc: Global, bytes: &[u8], main: &Main) -> Result<Option<Part>, AllocError>
     requires { main.now.width ≡ 1 }
     ensures { IfOk result (λ found.
@@ -100,7 +100,7 @@ fn part(alloc: Global, bytes: &[u8], main: &Main) -> Result<Option<Part>, AllocE
     }
 }
 
-/// Adds a part of three rows, whose bytes these are.
+// Adds a part of three rows, whose bytes these are.
 fn push_part(rt: &impl Abort, alloc: Global, bytes: &[u8], main: &mut Main) -> Result<(), Fail>
     requires { main.old.width ≡ 1 }
     ensures width { OnOk result (main.new.width ≡ 1) }
@@ -139,7 +139,7 @@ pub(crate) fn stamps(alloc: Global, n: u32) -> Result<Vec<Stamp>, AllocError>
     Ok(stamps)
 }
 
-/// One stamp more in L1 and in L2.
+// One stamp more in L1 and in L2.
 fn push(table: &mut StampTable) -> Result<(), AllocError>
     ensures l1 { OnOk result (length table.new.l1.items ≡ length table.old.l1.items + 1) }
     ensures l2 { OnOk result (length table.new.l2.items ≡ length table.old.l2.items + 1) }
@@ -152,7 +152,7 @@ fn push(table: &mut StampTable) -> Result<(), AllocError>
     Ok(())
 }
 
-/// The stamps of three rows in L1, one in L2, two in the closed stage, three in each of two parts.
+// The stamps of three rows in L1, one in L2, two in the closed stage, three in each of two parts.
 fn table_of(alloc: Global) -> Result<StampTable, AllocError>
     ensures l1 { IfOk result (λ t. length t.l1.items ≡ 3) }
     ensures l2 { IfOk result (λ t. length t.l2.items ≡ 1) }
@@ -169,7 +169,7 @@ fn table_of(alloc: Global) -> Result<StampTable, AllocError>
     Ok(table)
 }
 
-/// Finds and counts the rows whose number compares so with 4.
+// Finds and counts the rows whose number compares so with 4.
 fn find<L: Ledger>(
     alloc: Global,
     stages: &Stages<'_>,

@@ -32,7 +32,7 @@ fn column(rt: &impl Abort, alloc: Global, bytes: &[u8], kind: Kind) -> Result<Co
     Ok(Column { name, kind })
 }
 
-/// A row of a number and a text.
+// A row of a number and a text.
 fn row(rt: &impl Abort, alloc: Global, id: u32, number: i64, text: &[u8]) -> Result<Row, AllocError>
     ensures { IfOk result (λ r. r.id ≡ id) }
 {
@@ -50,7 +50,7 @@ enum Stage {
     Second,
 }
 
-/// A row is inserted into the first stage, or loaded into the second.
+// A row is inserted into the first stage, or loaded into the second.
 fn add(
     rt: &impl Abort,
     alloc: Global,
@@ -95,7 +95,7 @@ fn move_all(rt: &impl Abort, table: &mut Table, next: u32) -> Result<(), AllocEr
     Ok(())
 }
 
-/// Begins a merge that re-sorts nothing.
+// Begins a merge that re-sorts nothing.
 fn begin(
     alloc: Global,
     table: &mut Table,
@@ -121,7 +121,7 @@ fn begin(
     Ok(job)
 }
 
-/// Ends a merge by what is built of its job.
+// Ends a merge by what is built of its job.
 fn end<B: Build>(
     builder: &B,
     alloc: Global,
@@ -139,7 +139,7 @@ fn end<B: Build>(
     Ok(())
 }
 
-/// A comparison by the place of its column.
+// A comparison by the place of its column.
 fn placed(rt: &impl Abort, columns: &[Column], pred: &Pred) -> ColumnPred
     ensures { Compiles columns.now (pred.now ∷ []) (result ∷ []) }
 {
@@ -160,7 +160,7 @@ fn placed(rt: &impl Abort, columns: &[Column], pred: &Pred) -> ColumnPred
     }
 }
 
-/// A comparison of the numbers of the rows.
+// A comparison of the numbers of the rows.
 fn number_pred(rt: &impl Abort, alloc: Global, op: Cmp, number: i64) -> Result<Pred, AllocError> {
     Ok(Pred {
         column: name(rt, alloc, b"k")?,
@@ -169,7 +169,7 @@ fn number_pred(rt: &impl Abort, alloc: Global, op: Cmp, number: i64) -> Result<P
     })
 }
 
-/// Finds the rows whose number meets a comparison.
+// Finds the rows whose number meets a comparison.
 fn find(
     rt: &impl Abort,
     alloc: Global,
@@ -189,7 +189,7 @@ fn find(
     Ok(found)
 }
 
-/// The row in a place has this text.
+// The row in a place has this text.
 fn has(
     rt: &impl Abort,
     alloc: Global,
@@ -211,7 +211,7 @@ fn has(
     Ok(())
 }
 
-/// Rows 1 and 3 have the number 5, and row 2 a negative one.
+// Rows 1 and 3 have the number 5, and row 2 a negative one.
 fn finds_each(
     rt: &impl Abort,
     alloc: Global,
@@ -233,7 +233,7 @@ fn finds_each(
     has(rt, alloc, table, below[0].place, b"b")
 }
 
-/// A merge, with scans between its begin and its end and behind it.
+// A merge, with scans between its begin and its end and behind it.
 fn merge<B: Build>(
     rt: &impl Abort,
     builder: &B,
@@ -254,7 +254,7 @@ fn merge<B: Build>(
     finds_each(rt, alloc, table, fates, next)
 }
 
-/// A table of rows 1 and 2 in the second stage, and row 3 in the first.
+// A table of rows 1 and 2 in the second stage, and row 3 in the first.
 fn three_rows(rt: &impl Abort, alloc: Global) -> Result<Table, AllocError>
     ensures { IfOk result (λ table. IsAtRest 4 table.stages) }
 {
@@ -268,7 +268,7 @@ fn three_rows(rt: &impl Abort, alloc: Global) -> Result<Table, AllocError>
     Ok(table)
 }
 
-/// How many rows stand in L1, in L2 and in the parts.
+// How many rows stand in L1, in L2 and in the parts.
 fn has_shape(
     rt: &impl Abort,
     alloc: Global,
@@ -285,8 +285,8 @@ fn has_shape(
     Ok(())
 }
 
-/// Of all rows main has one with the least number and two with the other, and rows 4 and 5 stand
-/// outside.
+// Of all rows main has one with the least number and two with the other, and rows 4 and 5 stand
+// outside.
 fn tallies_all(
     rt: &impl Abort,
     alloc: Global,
@@ -304,8 +304,8 @@ fn tallies_all(
     Ok(())
 }
 
-/// Of the rows whose number meets a comparison main has so many with each code, and one stands
-/// outside.
+// Of the rows whose number meets a comparison main has so many with each code, and one stands
+// outside.
 fn tallies(
     rt: &impl Abort,
     alloc: Global,
@@ -328,7 +328,7 @@ fn tallies(
     Ok(())
 }
 
-/// The tallies of rows in two parts and in both other stages.
+// The tallies of rows in two parts and in both other stages.
 fn tallies_each(
     rt: &impl Abort,
     alloc: Global,
@@ -343,7 +343,7 @@ fn tallies_each(
     tallies(rt, alloc, table, fates, Cmp::Lt, 5, &[1, 0], 4)
 }
 
-/// Of three rows two move to one part of main and one to another, and each is found all the time.
+// Of three rows two move to one part of main and one to another, and each is found all the time.
 fn in_two_parts<B: Build>(
     rt: &impl Abort,
     builder: &B,
@@ -364,7 +364,7 @@ fn in_two_parts<B: Build>(
     has_shape(rt, alloc, table, 0, 0, &[2, 1])
 }
 
-/// All rows stand in one part, with both numbers in its dictionary.
+// All rows stand in one part, with both numbers in its dictionary.
 fn is_one_part(rt: &impl Abort, alloc: Global, table: &Table) -> Result<(), AllocError> {
     has_shape(rt, alloc, table, 0, 0, &[3])?;
     assert!(rt; table.columns().len() == 2);

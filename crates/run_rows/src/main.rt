@@ -33,7 +33,7 @@ fn main(rt: HostRuntime) -> Result<ExitCode> {
     })
 }
 
-/// Runs the rows of a file, and says what they came to. Whether all are answered as expected.
+// Runs the rows of a file, and says what they came to. Whether all are answered as expected.
 fn check_file(
     rt: &(impl AllocGlobal + Print + Files + Threads + Wait + Sync),
     alloc: Global,
@@ -67,7 +67,7 @@ fn check_rows(
     Ok(slow.is_whole() && program.is_whole())
 }
 
-/// Says how many rows and lines a file has, and how many rows are answered as expected.
+// Says how many rows and lines a file has, and how many rows are answered as expected.
 fn say(rt: &impl Print, name: &str, rows: &[Row<'_>], slow: Tally, program: Tally) -> Result<()> {
     let count = rows.len();
     let mut lines: usize = 0;

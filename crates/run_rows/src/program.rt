@@ -10,7 +10,7 @@ use ut_app::Status;
 use ut_outside::{MemDisk, Which};
 
 /// Runs rows, and says those that are answered otherwise.
-pub fn tally_of(
+pub(crate) fn tally_of(
     rt: &(impl Print + Threads + Wait + Sync),
     alloc: Global,
     rows: &[Row<'_>],
@@ -25,7 +25,7 @@ pub fn tally_of(
     Ok(tally)
 }
 
-/// The disk that a row is for: as the row left it that it stands behind, or an empty one.
+// The disk that a row is for: as the row left it that it stands behind, or an empty one.
 fn disk_for(alloc: Global, disks: &[MemDisk], row: &Row<'_>) -> Result<MemDisk, AllocError> {
     match row.behind {
         Some(place) if place < disks.len() => copy_of(alloc, &disks[place]),
@@ -33,7 +33,7 @@ fn disk_for(alloc: Global, disks: &[MemDisk], row: &Row<'_>) -> Result<MemDisk, 
     }
 }
 
-/// Runs a row with its words, or with each of its words on a disk of its own, of which the last is left.
+// Runs a row with its words, or with each of its words on a disk of its own, of which the last is left.
 fn check_row(
     rt: &(impl Print + Threads + Wait + Sync),
     alloc: Global,
@@ -55,7 +55,7 @@ fn check_row(
     Ok(true)
 }
 
-/// The words that make a store, or open the one that is there.
+// The words that make a store, or open the one that is there.
 fn usual_words<'a>(alloc: Global, row: &Row<'a>) -> Result<Vec<&'a str>, AllocError> {
     let mut words = Vec::new(alloc);
     words.push("ut")?;
@@ -70,7 +70,7 @@ fn usual_words<'a>(alloc: Global, row: &Row<'a>) -> Result<Vec<&'a str>, AllocEr
     Ok(words)
 }
 
-/// The words of a call, with a blank between them. Two quotes are the empty word.
+// The words of a call, with a blank between them. Two quotes are the empty word.
 fn words_in<'a>(alloc: Global, call: &'a str) -> Result<Vec<&'a str>, AllocError> {
     let mut words = Vec::new(alloc);
     if call.is_empty() {
@@ -98,8 +98,8 @@ fn check_call(
     Ok(is_right)
 }
 
-/// What a run replies. Where it doesn't end with Done a line says how it ends, and where it has no store to answer, but changes the
-/// files, another one says so.
+// What a run replies. Where it doesn't end with Done a line says how it ends, and where it has no store to answer, but changes the
+// files, another one says so.
 fn told_by(
     rt: &(impl Threads + Wait + Sync),
     alloc: Global,
@@ -142,7 +142,7 @@ fn told_in(alloc: Global, ran: Ran, is_kept: bool) -> Result<Vec<u8>, AllocError
     Ok(told)
 }
 
-/// Whether a run ends so before its first line, where it leaves the files as they are.
+// Whether a run ends so before its first line, where it leaves the files as they are.
 fn has_no_store(status: Status) -> bool {
     matches!(
         status,

@@ -10,18 +10,18 @@ use std::alloc::{AllocError, Global};
 use std::fmt;
 
 /// The most ids that a store has.
-pub const MOST_IDS: u32 = 2147483648;
+pub(crate) const MOST_IDS: u32 = 2147483648;
 
 /// So many ids has the store of a row, as a word and as a number.
 #[derive(Clone, Copy)]
-pub struct Ids<'a> {
+pub(crate) struct Ids<'a> {
     pub word: &'a str,
     pub number: u32,
 }
 
 /// A script, and what it has to be answered.
 #[derive(Drop)]
-pub struct Row<'a> {
+pub(crate) struct Row<'a> {
     pub name: &'a str,
     /// The place of the row whose store it opens again. Without one it has a new store.
     pub behind: Option<usize>,
@@ -35,7 +35,7 @@ pub struct Row<'a> {
 
 /// What may be wrong with a line, or with a whole file.
 #[derive(Clone, Copy, Debug, PartialEq, Eq)]
-pub enum Wrong {
+pub(crate) enum Wrong {
     NoRow,
     NoHead,
     Head,
@@ -71,7 +71,7 @@ impl From<AllocError> for Wrong {
 
 /// What is wrong with a file, and in which line.
 #[derive(Clone, Copy, Debug, PartialEq, Eq)]
-pub struct Damage {
+pub(crate) struct Damage {
     line: usize,
     wrong: Wrong,
 }
@@ -84,7 +84,7 @@ impl fmt::Display for Damage {
 }
 
 /// The rows of a file.
-pub fn rows_of<'a>(alloc: Global, text: &'a str) -> Result<Vec<Row<'a>>, Damage> {
+pub(crate) fn rows_of<'a>(alloc: Global, text: &'a str) -> Result<Vec<Row<'a>>, Damage> {
     let mut rows = Vec::new(alloc);
     let mut line: usize = 0;
     for text in text.lines() {
@@ -99,7 +99,7 @@ pub fn rows_of<'a>(alloc: Global, text: &'a str) -> Result<Vec<Row<'a>>, Damage>
     }
 }
 
-/// A file has a row, and the last of them has a script.
+// A file has a row, and the last of them has a script.
 fn finish(rows: &[Row<'_>]) -> Result<(), Wrong> {
     match rows.last() {
         None => Err(Wrong::NoRow),
@@ -123,7 +123,7 @@ fn take<'a>(alloc: Global, rows: &mut Vec<Row<'a>>, line: &'a str) -> Result<(),
     }
 }
 
-/// A row without a script as yet. The row above it has one.
+// A row without a script as yet. The row above it has one.
 fn row_of<'a>(alloc: Global, rows: &[Row<'a>], head: &'a str) -> Result<Row<'a>, Wrong> {
     if !rows.is_empty() {
         finish(rows)?;
@@ -146,7 +146,7 @@ fn row_of<'a>(alloc: Global, rows: &[Row<'a>], head: &'a str) -> Result<Row<'a>,
     })
 }
 
-/// What stands before the number of ids, and the number, if there is one.
+// What stands before the number of ids, and the number, if there is one.
 fn ids_in<'a>(head: &'a str) -> Result<(&'a str, Option<Ids<'a>>), Wrong> {
     let Some((front, word)) = head.split_once(" ids ") else {
         return Ok((head, None));
@@ -157,7 +157,7 @@ fn ids_in<'a>(head: &'a str) -> Result<(&'a str, Option<Ids<'a>>), Wrong> {
     }
 }
 
-/// The name, and the place of the row behind which it stands, if there is one.
+// The name, and the place of the row behind which it stands, if there is one.
 fn behind_in<'a>(rows: &[Row<'a>], head: &'a str) -> Result<(&'a str, Option<usize>), Wrong> {
     let Some((name, other)) = head.split_once(" behind ") else {
         return Ok((head, None));
@@ -172,7 +172,7 @@ fn place_of(rows: &[Row<'_>], name: &str) -> Option<usize> {
     rows.iter().position(|row| row.name == name)
 }
 
-/// A name has small letters, digits and lines below.
+// A name has small letters, digits and lines below.
 fn is_name(name: &str) -> bool {
     !name.is_empty()
         && name.bytes().all(|byte| byte.is_ascii_lowercase()
@@ -180,7 +180,7 @@ fn is_name(name: &str) -> bool {
             || byte == b'_')
 }
 
-/// Adds a line to a row: words, a line of its script, or one of its answers.
+// Adds a line to a row: words, a line of its script, or one of its answers.
 fn add<'a>(row: &mut Row<'a>, line: &'a str) -> Result<(), Wrong> {
     if let Some(asked) = line.strip_prefix("> ") {
         push_text(&mut row.asked, asked)?;
@@ -194,7 +194,7 @@ fn add<'a>(row: &mut Row<'a>, line: &'a str) -> Result<(), Wrong> {
     Ok(())
 }
 
-/// The words of a line of words.
+// The words of a line of words.
 fn words_of(line: &str) -> Option<&str> {
     if line == "words" {
         return Some("");

@@ -10,7 +10,7 @@ use std::alloc::{AllocError, Global};
 const AMPLE: u32 = 1000;
 
 /// Runs rows, and says those that are answered otherwise. Rows with words of their own are the program's alone.
-pub fn tally_of(rt: &impl Print, alloc: Global, rows: &[Row<'_>]) -> Result<Tally> {
+pub(crate) fn tally_of(rt: &impl Print, alloc: Global, rows: &[Row<'_>]) -> Result<Tally> {
     let mut stores = Vec::new(alloc);
     let mut tally = Tally::new();
     for row in rows {
@@ -23,7 +23,7 @@ pub fn tally_of(rt: &impl Print, alloc: Global, rows: &[Row<'_>]) -> Result<Tall
     Ok(tally)
 }
 
-/// The store that a row is for: that of the row it stands behind, opened again, or a new one.
+// The store that a row is for: that of the row it stands behind, opened again, or a new one.
 fn store_for(alloc: Global, stores: &[Oracle], row: &Row<'_>) -> Result<Oracle, AllocError> {
     let ids = row.ids.map_or(AMPLE, |ids| ids.number).min(MOST_IDS);
     match row.behind {

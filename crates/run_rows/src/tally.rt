@@ -7,7 +7,7 @@ use std::fmt;
 
 /// How many rows were run, and how many of them were answered as expected.
 #[derive(Clone, Copy)]
-pub struct Tally {
+pub(crate) struct Tally {
     run: usize,
     right: usize,
 }
@@ -41,14 +41,14 @@ impl fmt::Display for Tally {
 }
 
 /// Whether a row is told what it has to be.
-pub fn is_right(row: &Row<'_>, told: &[u8]) -> bool
+pub(crate) fn is_right(row: &Row<'_>, told: &[u8]) -> bool
     ensures same { IsTrue result ↔ told.now ≡ row.now.answers.items }
 {
     told == row.answers.as_slice()
 }
 
 /// Says a row that was told something else: its lines, its answers, and what it was told by whom.
-pub fn say_wrong(rt: &impl Print, row: &Row<'_>, who: &str, told: &[u8]) -> Result<()> {
+pub(crate) fn say_wrong(rt: &impl Print, row: &Row<'_>, who: &str, told: &[u8]) -> Result<()> {
     let name = row.name;
     println!(rt; "row {name}")?;
     for line in &row.asked {

@@ -27,7 +27,7 @@ impl Model for BitList {
     ghost invariant = { λ p. (p.width ≤ 32) × (p.len ≤ 2 ^ 31) × (length p.bytes.items ≡ byte_count (p.len * p.width) + 8) × (number_of p.bytes.items < 2 ^ (p.len * p.width)) × AllBelow 256 p.bytes.items };
 }
 
-/// The `width` bits from place `bit` on.
+// The `width` bits from place `bit` on.
 fn field_at(bytes: &[u8], bit: u64, width: u8) -> u32
     requires width { width ≤ 32 }
     requires within { bit / 8 + 8 ≤ length bytes.now }
@@ -38,7 +38,7 @@ fn field_at(bytes: &[u8], bit: u64, width: u8) -> u32
     ((word >> (bit % 8)) & ((1u64 << width) - 1)) as u32
 }
 
-/// The 64 bits from the byte `at` on.
+// The 64 bits from the byte `at` on.
 fn word_at(bytes: &[u8], at: usize) -> u64
     requires { at + 8 ≤ length bytes.now }
     ensures { result ≡ number_of bytes.now / 2 ^ (8 * at) % 2 ^ 64 }
@@ -47,7 +47,7 @@ fn word_at(bytes: &[u8], at: usize) -> u64
     LittleEndian::read_u64(rest)
 }
 
-/// Whether the bytes that hold the first `bits` bits are 0 behind them.
+// Whether the bytes that hold the first `bits` bits are 0 behind them.
 fn are_unused_bits_zero(bytes: &[u8], bits: u64) -> bool
     requires { byte_count bits ≤ length bytes.now }
     ensures { IsTrue result ↔ (number_of (take (byte_count bits) bytes.now) < 2 ^ bits) }

@@ -6,7 +6,7 @@ use std::marker::Model;
 
 /// Numbers of a few bits each, written one after the other, the lowest bits first.
 #[derive(Drop)]
-pub struct BitWriter {
+pub(crate) struct BitWriter {
     bytes: Vec<u8>,
     word: u64,
     bits: u32,

@@ -33,4 +33,6 @@ pub record AreCuts (a b : List (List ℕ)) (pieces : ℕ) (cuts : List Cut) : Ty
   pub last : ((cut_at cuts pieces).a ≡ length a) × ((cut_at cuts pieces).b ≡ length b)
   pub rising : (k : ℕ) → k < pieces → ((cut_at cuts k).a ≤ (cut_at cuts (k + 1)).a) × ((cut_at cuts k).b ≤ (cut_at cuts (k + 1)).b)
   pub each : (k : ℕ) → k ≤ pieces → IsCutBehind a b (k * (length a + length b) / pieces) (cut_at cuts k).a (cut_at cuts k).b
-  pub even : (k : ℕ) → k < pieces → (cut_at cuts (k + 1)).a + (cut_at cuts (k + 1)).b ≤ (cut_at cuts k).a + (cut_at cuts k).b + (length a + length b + pieces - 1) / pieces + 1
+  pub even : (k : ℕ) → k < pieces
+      → (cut_at cuts (k + 1)).a + (cut_at cuts (k + 1)).b
+      ≤ (cut_at cuts k).a + (cut_at cuts k).b + (length a + length b + pieces - 1) / pieces + 1

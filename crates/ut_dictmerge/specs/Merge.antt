@@ -35,7 +35,9 @@ places all (key ∷ keys) (true ∷ flags) = Some (place_of key all) ∷ places 
 places all (key ∷ keys) (false ∷ flags) = None ∷ places all keys flags
 
 -- what a merge gives
-pub record IsMerge (a : List (List ℕ)) (used_a : List Bool) (b : List (List ℕ)) (used_b : List Bool) (keys : List (List ℕ)) (from_a from_b : List (Option ℕ)) : Type 0 where
+pub record IsMerge
+    (a : List (List ℕ)) (used_a : List Bool) (b : List (List ℕ)) (used_b : List Bool) (keys : List (List ℕ))
+    (from_a from_b : List (Option ℕ)) : Type 0 where
   pub keys_are : keys ≡ merged a used_a b used_b
   pub ascending : IsAscending keys
   pub exactly : (key : List ℕ) → In key keys ↔ (In key (used a used_a) ⊎ In key (used b used_b))

@@ -31,10 +31,14 @@ IsPlace base keys key false entry = entry ≡ None
 
 -- the entries of the keys of a list from one place on
 abbrev pub ArePlaces : ℕ → List (List ℕ) → List (List ℕ) → List Bool → ℕ → List (Option ℕ) → Type 0
-ArePlaces base keys list flags from entries = (i : ℕ) → i < length entries → IsPlace base keys (get_or list (from + i) []) (get_or flags (from + i) false) (get_or entries i None)
+ArePlaces base keys list flags from entries =
+    (i : ℕ) → i < length entries
+    → IsPlace base keys (get_or list (from + i) []) (get_or flags (from + i) false) (get_or entries i None)
 
 -- what a piece holds, whose first key has the place base
-pub record IsPiece (a : List (List ℕ)) (used_a : List Bool) (b : List (List ℕ)) (used_b : List Bool) (from to : Cut) (base : ℕ) (keys : List (List ℕ)) (from_a from_b : List (Option ℕ)) : Type 0 where
+pub record IsPiece
+    (a : List (List ℕ)) (used_a : List Bool) (b : List (List ℕ)) (used_b : List Bool) (from to : Cut) (base : ℕ)
+    (keys : List (List ℕ)) (from_a from_b : List (Option ℕ)) : Type 0 where
   pub keys_are : keys ≡ between a used_a b used_b from to
   pub size_a : length from_a ≡ to.a - from.a
   pub size_b : length from_b ≡ to.b - from.b
@@ -42,11 +46,15 @@ pub record IsPiece (a : List (List ℕ)) (used_a : List Bool) (b : List (List �
   pub places_b : ArePlaces base keys b used_b from.b from_b
 
 -- what the piece behind cut k holds
-abbrev pub IsPart : List (List ℕ) → List Bool → List (List ℕ) → List Bool → List Cut → ℕ → List (List ℕ) → List (Option ℕ) → List (Option ℕ) → Type 0
-IsPart a used_a b used_b cuts k = IsPiece a used_a b used_b (cut_at cuts k) (cut_at cuts (k + 1)) (length (front a used_a b used_b (cut_at cuts k)))
+abbrev pub IsPart : List (List ℕ) → List Bool → List (List ℕ) → List Bool → List Cut → ℕ → List (List ℕ)
+    → List (Option ℕ) → List (Option ℕ) → Type 0
+IsPart a used_a b used_b cuts k =
+    IsPiece a used_a b used_b (cut_at cuts k) (cut_at cuts (k + 1)) (length (front a used_a b used_b (cut_at cuts k)))
 
 -- the entries of all keys of both lists
-pub record AreMaps (a : List (List ℕ)) (used_a : List Bool) (b : List (List ℕ)) (used_b : List Bool) (keys : List (List ℕ)) (from_a from_b : List (Option ℕ)) : Type 0 where
+pub record AreMaps
+    (a : List (List ℕ)) (used_a : List Bool) (b : List (List ℕ)) (used_b : List Bool) (keys : List (List ℕ))
+    (from_a from_b : List (Option ℕ)) : Type 0 where
   pub size_a : length from_a ≡ length a
   pub size_b : length from_b ≡ length b
   pub places_a : ArePlaces 0 keys a used_a 0 from_a

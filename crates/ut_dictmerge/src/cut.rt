@@ -34,7 +34,7 @@ pub fn cuts(alloc: Global, a: &KeyList, b: &KeyList, pieces: u32) -> Result<Vec<
     Ok(cuts)
 }
 
-/// The cut behind so many of all keys, or one more where it would part two equal keys.
+// The cut behind so many of all keys, or one more where it would part two equal keys.
 fn cut_behind(a: &KeyList, b: &KeyList, keys: usize) -> Cut
     requires ascending_a { IsAscending a.now }
     requires ascending_b { IsAscending b.now }

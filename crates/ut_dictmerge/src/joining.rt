@@ -19,7 +19,7 @@ struct Maps {
 }
 
 /// Lays the pieces end to end.
-pub fn join_pieces<R: Threads + Sync>(
+pub(crate) fn join_pieces<R: Threads + Sync>(
     rt: &R,
     alloc: Global,
     a: &KeyList,
@@ -43,7 +43,7 @@ pub fn join_pieces<R: Threads + Sync>(
     with_maps(a, used_a, b, used_b, keys, maps)
 }
 
-/// The keys with their maps, where there was memory for both.
+// The keys with their maps, where there was memory for both.
 fn with_maps(
     a: &KeyList,
     used_a: &[bool],
@@ -66,7 +66,7 @@ fn with_maps(
     })
 }
 
-/// The keys of all pieces.
+// The keys of all pieces.
 fn join_keys(
     alloc: Global,
     a: &KeyList,
@@ -93,7 +93,7 @@ fn join_keys(
     Ok(keys)
 }
 
-/// The maps of all pieces.
+// The maps of all pieces.
 fn join_maps(
     alloc: Global,
     a: &KeyList,
@@ -123,7 +123,7 @@ fn join_maps(
     Ok(Maps { from_a, from_b })
 }
 
-/// How many keys the pieces have together, and how many bytes these have.
+// How many keys the pieces have together, and how many bytes these have.
 fn sizes(parts: &[Result<Merged, AllocError>]) -> (usize, usize) {
     let mut count: usize = 0;
     let mut bytes: usize = 0;

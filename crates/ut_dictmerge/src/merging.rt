@@ -49,7 +49,7 @@ pub fn merge<R: Threads + Sync>(
     join_pieces(rt, alloc, a, used_a, b, used_b, cuts, parts.as_slice())
 }
 
-/// The merge as one piece.
+// The merge as one piece.
 fn merge_whole(
     alloc: Global,
     a: &KeyList,

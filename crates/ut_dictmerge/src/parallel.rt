@@ -38,7 +38,7 @@ pub(crate) fn bases_of<R: Threads + Sync>(
     sums(alloc, counts.as_slice())
 }
 
-/// How many used keys the piece behind cut `k` has.
+// How many used keys the piece behind cut `k` has.
 fn count_at(
     a: &KeyList,
     used_a: &[bool],
@@ -58,7 +58,7 @@ fn count_at(
     count_piece(a, used_a, b, used_b, &cuts[k], &cuts[k + 1])
 }
 
-/// The sum of the counts before each.
+// The sum of the counts before each.
 fn sums(alloc: Global, counts: &[u32]) -> Result<Vec<u32>, AllocError>
     requires { total counts.now < 2 ^ 32 }
     ensures len { IfOk result (λ v. length v.items ≡ length counts.now) }

@@ -56,7 +56,7 @@ pub fn count_piece(
 }
 
 /// Merges the used keys between two cuts. The first of them has the place `base`.
-pub fn write_piece(
+pub(crate) fn write_piece(
     alloc: Global,
     a: &KeyList,
     used_a: &[bool],
@@ -111,7 +111,7 @@ pub fn write_piece(
     })
 }
 
-/// Which list has the next key: `Less` the first, `Greater` the second, `Equal` both.
+// Which list has the next key: `Less` the first, `Greater` the second, `Equal` both.
 fn next_of(a: &KeyList, i: usize, to_a: usize, b: &KeyList, j: usize, to_b: usize) -> Ordering
     requires some { (i < to_a) ⊎ (j < to_b) }
     requires within_a { to_a ≤ length a.now }
@@ -127,7 +127,7 @@ fn next_of(a: &KeyList, i: usize, to_a: usize, b: &KeyList, j: usize, to_b: usiz
     compare_at(a, i, b, j)
 }
 
-/// One where a key is used.
+// One where a key is used.
 fn count_of(used: bool) -> u32
     ensures count { (key : List ℕ) → result ≡ length (kept used key) }
     ensures small { result ≤ 1 }
@@ -135,7 +135,7 @@ fn count_of(used: bool) -> u32
     if used { 1 } else { 0 }
 }
 
-/// Adds a key, if it is used.
+// Adds a key, if it is used.
 fn keep(keys: &mut KeyList, used: bool, key: &[u8]) -> Result<(), AllocError>
     requires { length key.now ≤ 255 }
     ensures { OnOk result (keys.new ≡ keys.old ++ kept used key.now) }
@@ -146,7 +146,7 @@ fn keep(keys: &mut KeyList, used: bool, key: &[u8]) -> Result<(), AllocError>
     Ok(())
 }
 
-/// Adds the place of a key, if it is used.
+// Adds the place of a key, if it is used.
 fn add(map: &mut Vec<Option<u32>>, used: bool, place: u32) -> Result<(), AllocError>
     ensures { OnOk result (map.new.items ≡ map.old.items ++ entry_of used place ∷ []) }
 {

@@ -12,7 +12,7 @@ pub fn add(out: &mut Vec<u8>, bytes: &[u8])
 {
     match out.extend_from_slice(bytes) {
         Ok(()) => {}
-        Err(_) => {}
+        Err(_) => unreachable!(),
     }
 }
 

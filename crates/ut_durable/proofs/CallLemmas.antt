@@ -18,21 +18,21 @@ use Rattle.ut_plain.specs.Capture.{Directory}
 use Rattle.ut_plain.specs.Journal.{Journal, entries_after}
 use Rattle.ut_durable.specs.Journals.{place_of, HoldsPrefix}
 use Rattle.ut_durable.specs.Files.{HasSelected, Rests}
-use Rattle.ut_durable.specs.Calls.{Held, IsSettled, IsRested, Gains, MayGain, Stays, BecomesReady, Flips, MayFlip, Moves, MayMove}
+use Rattle.ut_durable.specs.Calls.{FilesHeld, IsSettled, IsRested, Gains, MayGain, Stays, BecomesReady, Flips, MayFlip, Moves, MayMove}
 use Rattle.ut_durable.proofs.RestLemmas as rest
 
 -- files that hold a journal are settled
-pub settled : (j : Journal) (root : Root) (d : Directory) (f : Held) (v : View) → IsRested j root d f v → IsSettled f v
+pub settled : (j : Journal) (root : Root) (d : Directory) (f : FilesHeld) (v : View) → IsRested j root d f v → IsSettled f v
 settled j root d f v rests told c left = let a = rests told c left in (closed_at_log_end (place_of root) (entries_after j root.length) f.log c a.log, a.stands)
 
-module _ (f : Held) (v0 v1 : View) (same : v1.told ≡ v0.told) where
+module _ (f : FilesHeld) (v0 v1 : View) (same : v1.told ≡ v0.told) where
   before : IsTold v1 → IsTold v0
   before told = subst IsTrue same told
 
   -- ---- an append
 
   module _ (payload : List ℕ) where
-    abbrev next : Held
+    abbrev next : FilesHeld
     next = record f { log = behind f.log payload }
 
     pub gains : ((entry : Entry) → Spells payload entry → IsTold v0 → Always v1 (ComesFrom v0 f.log.file (After (entry ∷ []) f.log.end (behind f.log payload).end))) → Gains payload f next v0 v1

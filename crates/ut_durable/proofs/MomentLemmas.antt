@@ -8,13 +8,13 @@ use Rattle.ut_plain.specs.Capture.{Directory}
 use Rattle.ut_pages.specs.declared.root.Root.{Root}
 use Rattle.ut_durable.specs.Journals.{HoldsPrefix}
 use Rattle.ut_durable.specs.Files.{Rests, HasSelected}
-use Rattle.ut_durable.specs.Calls.{Held}
+use Rattle.ut_durable.specs.Calls.{FilesHeld}
 use Rattle.ut_durable.specs.Moments.{Leaves, AppendLeaves, StayLeaves, SwitchLeaves, FlipLeaves, PrefixOfMore, PrefixOfFewer}
 use Rattle.ut_durable.proofs.RestLemmas as rest
 use Rattle.ut_durable.proofs.SavingLemmas.{may_more}
 
 -- what is left has both
-both : (j : Journal) (least : ℕ) (f : Held) (selected : Root) (d : Directory) (v0 v1 : View) → LeavesOnly v0 v1 (HoldsPrefix j least) → LeavesOnly v0 v1 (HasSelected f.slot f.reached selected d) → LeavesOnly v0 v1 (Leaves j least f selected d)
+both : (j : Journal) (least : ℕ) (f : FilesHeld) (selected : Root) (d : Directory) (v0 v1 : View) → LeavesOnly v0 v1 (HoldsPrefix j least) → LeavesOnly v0 v1 (HasSelected f.slot f.reached selected d) → LeavesOnly v0 v1 (Leaves j least f selected d)
 both j least f selected d v0 v1 a b = record {
   later = a.later;
   each = λ c left. record { holds = a.each c left; root = b.each c left };

@@ -17,7 +17,7 @@ use Rattle.ut_plain.specs.Capture.{Directory, StandsInTable}
 use Rattle.ut_durable.specs.Bytes.{no_directory}
 use Rattle.ut_plain.specs.Plain.{Opening, Idle, opened_store}
 use Rattle.ut_plain.proofs.OpenedLaws.{IsPlain-opened}
-use Rattle.ut_redo.specs.Appends.{Place, IsClosedAt}
+use Rattle.ut_redo.specs.Appends.{LogPlace, IsClosedAt}
 use Rattle.ut_redo.specs.Logs.{LogHolds}
 use Rattle.ut_redo.specs.Logs.LogHolds.{Straight}
 use Rattle.ut_pages.specs.Selection.{Selection}
@@ -32,7 +32,7 @@ use Rattle.ut_durable.specs.Directories.{IsBase}
 use Rattle.ut_durable.specs.Images.{HasImage, AreThere}
 use Rattle.ut_durable.specs.Journals.{place_of}
 use Rattle.ut_durable.specs.Files.{IsImageOf, Rests}
-use Rattle.ut_durable.specs.Calls.{Held, IsSettled}
+use Rattle.ut_durable.specs.Calls.{FilesHeld, IsSettled}
 use Rattle.ut_durable.specs.Made.{made_held}
 use Rattle.ut_durable.specs.Laws.{OpenedIsStored, MadeIsStored}
 use Rattle.ut_durable.specs.Saving.{IsStored}
@@ -66,7 +66,7 @@ reading_image j root d base may rules =
     }
 
 -- what an outcome of a crash is, which says this
-opened_rests : (j : Journal) (d : Directory) (f : Held) (root : Root) (c : Image) → IsMade c.pages → IsSelected f.slot c.pages → AreThere f.reached c.pages → HasImage f.slot f.reached root d c.pages → IsBase root d j.base → LogHolds (place_of root) j.entries f.log c → Rests j f.slot f.reached root d f.log c
+opened_rests : (j : Journal) (d : Directory) (f : FilesHeld) (root : Root) (c : Image) → IsMade c.pages → IsSelected f.slot c.pages → AreThere f.reached c.pages → HasImage f.slot f.reached root d c.pages → IsBase root d j.base → LogHolds (place_of root) j.entries f.log c → Rests j f.slot f.reached root d f.log c
 opened_rests j d f root c made selected there image base log = record {
   stands = record { made = made; selected = selected; there = there };
   image = image;
@@ -125,7 +125,7 @@ made_image = record {
 
 pub made_is_stored : {D : Type 0} (view : D → View) → MadeIsStored view
 made_is_stored {D} view f v is may left_by =
-    subst (λ (h : Held). IsStored empty_journal h empty_root no_directory None Idle (view v)) (sym is)
+    subst (λ (h : FilesHeld). IsStored empty_journal h empty_root no_directory None Idle (view v)) (sym is)
     (record {
       image = reading_image empty_journal empty_root no_directory made_base may made_root.rules;
       rests = λ told c left.
@@ -136,19 +136,19 @@ made_is_stored {D} view f v is may left_by =
     })
 
 -- what was just made is settled
-pub made_settled : (f : Held) (redo : Place) (pages : Selection) (root : Root) (bytes : List ℕ) (v1 v2 v3 : View) → f ≡ record { log = redo; slot = pages.slot; reached = pages.reached } → redo ≡ place_of empty_root → ((c : Image) → v1.crash_states c → IsClosedAt redo.end (content redo.file c))
+pub made_settled : (f : FilesHeld) (redo : LogPlace) (pages : Selection) (root : Root) (bytes : List ℕ) (v1 v2 v3 : View) → f ≡ record { log = redo; slot = pages.slot; reached = pages.reached } → redo ≡ place_of empty_root → ((c : Image) → v1.crash_states c → IsClosedAt redo.end (content redo.file c))
     → v2.seen.pages ≡ made_pages → ((c : Image) → v2.crash_states c → ComesFrom v1 Pages (λ _ x. x ≡ made_pages) c) → ReadsOnly v2 v3 → IsRead pages.slot pages.reached root bytes v2.seen.pages → (f ≡ made_held) × IsSettled f v3
-made_settled f redo pages root bytes v1 v2 v3 is begins gate seen left_by reads read = (same, λ told c left. subst (λ (h : Held). IsClosedAt h.log.end (content h.log.file c) × Stands h.slot h.reached c.pages) (sym same) (settled c left))
+made_settled f redo pages root bytes v1 v2 v3 is begins gate seen left_by reads read = (same, λ told c left. subst (λ (h : FilesHeld). IsClosedAt h.log.end (content h.log.file c) × Stands h.slot h.reached c.pages) (sym same) (settled c left))
   where
     one : (First ≡ pages.slot) × (empty_root ≡ root) × ([] ≡ pages.reached) × ([] ≡ bytes)
     one = one_read First pages.slot [] pages.reached empty_root root [] bytes made_pages made_is_read (subst (IsRead pages.slot pages.reached root bytes) seen read)
 
     same : f ≡ made_held
-    same = is ∙ ap (λ (l : Place). record { log = l; slot = pages.slot; reached = pages.reached }) begins ∙ ap (λ (s : Slot). record { log = place_of empty_root; slot = s; reached = pages.reached }) (sym one.0)
+    same = is ∙ ap (λ (l : LogPlace). record { log = l; slot = pages.slot; reached = pages.reached }) begins ∙ ap (λ (s : Slot). record { log = place_of empty_root; slot = s; reached = pages.reached }) (sym one.0)
         ∙ ap (λ (l : List ℕ). record { log = place_of empty_root; slot = First; reached = l }) (sym one.2)
 
     settled : (c : Image) → v3.crash_states c → IsClosedAt 0 c.redo × Stands First [] c.pages
     settled c left =
         let from = left_by c (reads.no_more c left) in
-        let there = subst (λ (l : Place). IsClosedAt l.end (content l.file from.0)) begins (gate from.0 from.1) in
+        let there = subst (λ (l : LogPlace). IsClosedAt l.end (content l.file from.0)) begins (gate from.0 from.1) in
         (subst (IsClosedAt 0) (sym (from.2 Redo (λ e. cc))) there, subst (Stands First []) (sym from.3) made_stands)

@@ -7,7 +7,7 @@ use Rattle.ut_outside.specs.Run.{Always, ComesFrom, ComesBy}
 use Rattle.ut_plain.specs.Journal.{Journal, journal_len, entries_after, appended, since, part}
 use Rattle.ut_plain.specs.Reached.{MayOpen}
 use Rattle.ut_plain.proofs.JournalLaws.{state_at-appended, journal_len-appended}
-use Rattle.ut_redo.specs.Appends.{Place, IsClosedAt, BeforeOrAfter, After}
+use Rattle.ut_redo.specs.Appends.{LogPlace, IsClosedAt, BeforeOrAfter, After}
 use Rattle.ut_redo.specs.Logs.{LogHolds, MaySwitch, IsSwitched, switched_place}
 use Rattle.ut_redo.proofs.LogLemmas.{log_same, log_more, log_more_or_same, log_empty, log_switched, log_may_switch, end_is_log, not_pages}
 use Rattle.ut_pages.specs.declared.slot.Slot.{Slot}
@@ -26,7 +26,7 @@ use Rattle.ut_durable.proofs.ImageLemmas.{same_image, keeps_pages, keeps_stands,
 -- ---- from what is known of the files to what is promised
 
 -- what rests holds the journal from the root on
-pub rests_holds : (j : Journal) (slot : Slot) (reached : List ℕ) (root : Root) (d : Directory) (place : Place) (c : Image) → IsImageOf j root d → Rests j slot reached root d place c → HoldsJournal (since j root.length) c
+pub rests_holds : (j : Journal) (slot : Slot) (reached : List ℕ) (root : Root) (d : Directory) (place : LogPlace) (c : Image) → IsImageOf j root d → Rests j slot reached root d place c → HoldsJournal (since j root.length) c
 rests_holds j slot reached root d place c of rests = record {
   directory = d;
   end = place;
@@ -44,7 +44,7 @@ rests_holds j slot reached root d place c of rests = record {
 }
 
 -- and so all of it
-pub rests_all : (j : Journal) (slot : Slot) (reached : List ℕ) (root : Root) (d : Directory) (place : Place) (c : Image) → IsImageOf j root d → Rests j slot reached root d place c → HoldsPrefix j (journal_len j) c
+pub rests_all : (j : Journal) (slot : Slot) (reached : List ℕ) (root : Root) (d : Directory) (place : LogPlace) (c : Image) → IsImageOf j root d → Rests j slot reached root d place c → HoldsPrefix j (journal_len j) c
 rests_all j slot reached root d place c of rests = record {
   from = root.length;
   count = journal_len j;
@@ -83,8 +83,8 @@ image_of_more j e root d of may = record {
 
 -- ---- an append
 
-module _ (j : Journal) (e : Entry) (place : Place) (next : ℕ) (v0 : View) where
-  abbrev behind : Place
+module _ (j : Journal) (e : Entry) (place : LogPlace) (next : ℕ) (v0 : View) where
+  abbrev behind : LogPlace
   behind = record { file = place.file; end = next }
 
   -- of the log behind one root, selected or not
@@ -137,17 +137,17 @@ module _ (j : Journal) (e : Entry) (place : Place) (next : ℕ) (v0 : View) wher
   captured_more root within held c from = log_appended root within from.0 c from.2 from.3 (held from.0 from.1)
 
 -- what is captured now: the log behind its closed gate is empty
-pub captured_now : (j : Journal) (root : Root) (place : Place) (c : Image) → journal_len j ≤ root.length → place_of root ≡ place → IsClosedAt place.end (content place.file c) → LogBehind j root place c
+pub captured_now : (j : Journal) (root : Root) (place : LogPlace) (c : Image) → journal_len j ≤ root.length → place_of root ≡ place → IsClosedAt place.end (content place.file c) → LogBehind j root place c
 captured_now j root place c whole here gate =
-    subst (λ (es : List Entry). LogHolds (place_of root) es place c) (sym (entries_after-all j root.length whole)) (subst (λ (p : Place). LogHolds p [] place c) (sym here) (log_empty place c gate))
+    subst (λ (es : List Entry). LogHolds (place_of root) es place c) (sym (entries_after-all j root.length whole)) (subst (λ (p : LogPlace). LogHolds p [] place c) (sym here) (log_empty place c gate))
 
 -- ---- a page, or a root in the other slot
 
 -- the log behind any root stays
-pub captured_kept : (j : Journal) (root : Root) (place : Place) (v0 : View) (Step : List ℕ → List ℕ → Type 0) → Always v0 (LogBehind j root place) → (c : Image) → ComesFrom v0 Pages Step c → LogBehind j root place c
+pub captured_kept : (j : Journal) (root : Root) (place : LogPlace) (v0 : View) (Step : List ℕ → List ℕ → Type 0) → Always v0 (LogBehind j root place) → (c : Image) → ComesFrom v0 Pages Step c → LogBehind j root place c
 captured_kept j root place v0 Step held c from = log_same (place_of root) (entries_after j root.length) place from.0 c (is_log root.file) from.2 (held from.0 from.1)
 
-module _ (j : Journal) (slot : Slot) (reached : List ℕ) (root : Root) (d : Directory) (place : Place) (v0 : View) (held : Always v0 (Rests j slot reached root d place)) where
+module _ (j : Journal) (slot : Slot) (reached : List ℕ) (root : Root) (d : Directory) (place : LogPlace) (v0 : View) (held : Always v0 (Rests j slot reached root d place)) where
   pub kept : (c : Image) → ComesFrom v0 Pages (Keeps slot reached) c → Rests j slot reached root d place c
   kept c from =
       let a = held from.0 from.1 in
@@ -211,7 +211,7 @@ module _ (j : Journal) (slot : Slot) (reached : List ℕ) (root : Root) (d : Dir
 
 -- ---- a root in the other slot
 
-pub ready : (j : Journal) (slot : Slot) (reached : List ℕ) (root : Root) (d : Directory) (place : Place) (v0 : View) → Always v0 (LogBehind j root place) → IsStaged reached root d v0.seen.pages
+pub ready : (j : Journal) (slot : Slot) (reached : List ℕ) (root : Root) (d : Directory) (place : LogPlace) (v0 : View) → Always v0 (LogBehind j root place) → IsStaged reached root d v0.seen.pages
     → (c : Image) → ComesFrom v0 Pages (λ _ file. Seals slot root v0.seen.pages file) c → IsSealed j slot reached root d place c
 ready j slot reached root d place v0 captured staged c from = record {
   there = sealed_there slot reached root d v0.seen.pages c.pages staged from.3;
@@ -221,13 +221,13 @@ ready j slot reached root d place v0 captured staged c from = record {
 
 -- ---- the selected root stays where the page file does
 
-pub still_selected : (j : Journal) (slot : Slot) (reached : List ℕ) (root : Root) (d : Directory) (place : Place) (a c : Image) → content Pages c ≡ content Pages a → Rests j slot reached root d place a → HasSelected slot reached root d c
+pub still_selected : (j : Journal) (slot : Slot) (reached : List ℕ) (root : Root) (d : Directory) (place : LogPlace) (a c : Image) → content Pages c ≡ content Pages a → Rests j slot reached root d place a → HasSelected slot reached root d c
 still_selected j slot reached root d place a c same rests = record { stands = subst (Stands slot reached) (sym same) rests.stands; image = subst (HasImage slot reached root d) (sym same) rests.image }
 
-pub append_keeps : (j : Journal) (slot : Slot) (reached : List ℕ) (root : Root) (d : Directory) (place : Place) (v0 : View) (Step : List ℕ → List ℕ → Type 0) → Always v0 (Rests j slot reached root d place) → (c : Image) → ComesFrom v0 place.file Step c → HasSelected slot reached root d c
+pub append_keeps : (j : Journal) (slot : Slot) (reached : List ℕ) (root : Root) (d : Directory) (place : LogPlace) (v0 : View) (Step : List ℕ → List ℕ → Type 0) → Always v0 (Rests j slot reached root d place) → (c : Image) → ComesFrom v0 place.file Step c → HasSelected slot reached root d c
 append_keeps j slot reached root d place v0 Step held c from =
     let a = held from.0 from.1 in
     still_selected j slot reached root d place from.0 c (from.2 Pages (not_pages place.file (end_is_log (place_of root) (entries_after j root.length) place from.0 (is_log root.file) a.log))) a
 
-pub switch_keeps : (j : Journal) (slot : Slot) (reached : List ℕ) (root : Root) (d : Directory) (place : Place) (v0 : View) → Always v0 (Rests j slot reached root d place) → (c : Image) → ComesBy v0 (MaySwitch place) c → HasSelected slot reached root d c
+pub switch_keeps : (j : Journal) (slot : Slot) (reached : List ℕ) (root : Root) (d : Directory) (place : LogPlace) (v0 : View) → Always v0 (Rests j slot reached root d place) → (c : Image) → ComesBy v0 (MaySwitch place) c → HasSelected slot reached root d c
 switch_keeps j slot reached root d place v0 held c from = still_selected j slot reached root d place from.0 c from.2.pages (held from.0 from.1)

@@ -23,7 +23,7 @@ use Rattle.ut_pages.specs.Layout.{HasPage, other}
 use Rattle.ut_pages.specs.Crash.{ChangesOnly}
 use Rattle.ut_durable.specs.Journals.{place_of}
 use Rattle.ut_durable.specs.Files.{IsImageOf, IsStaged}
-use Rattle.ut_durable.specs.Calls.{Held, IsSettled, IsRested, IsFollowed, IsReady}
+use Rattle.ut_durable.specs.Calls.{FilesHeld, IsSettled, IsRested, IsFollowed, IsReady}
 use Rattle.ut_durable.specs.Saving.{Planned, IsWritten, MayWrite, Saving, IsPlan, IsSaving, IsStored}
 use Rattle.ut_durable.proofs.PlaceLemmas.{is_log}
 use Rattle.ut_durable.specs.Laws.{AppendIsStored, SwitchIsStored, BeginIsStored, NextMayBeWritten, PageIsStored, SealIsStored, FlipIsStored, DropIsStored, StoredHoldsAll}
@@ -39,7 +39,7 @@ written_still s v0 v1 same pages written later =
 
 -- ---- an append
 
-module _ (j : Journal) (e : Entry) (f f' : Held) (selected : Root) (d : Directory) (v0 v1 : View) (file : f'.log.file ≡ f.log.file) (slot : f'.slot ≡ f.slot) (reached : f'.reached ≡ f.reached)
+module _ (j : Journal) (e : Entry) (f f' : FilesHeld) (selected : Root) (d : Directory) (v0 v1 : View) (file : f'.log.file ≡ f.log.file) (slot : f'.slot ≡ f.slot) (reached : f'.reached ≡ f.reached)
     (same : v1.told ≡ v0.told) (pages : IsTold v0 → content Pages v1.seen ≡ content Pages v0.seen)
     (may : (root : Root) (c : Directory) → IsImageOf j root c → (n : ℕ) → root.length ≤ n → n ≤ journal_len (appended j e) → MayOpen c.stages (part (appended j e) root.length n))
     (rests : (root : Root) (c : Directory) → IsImageOf j root c → IsRested j root c f v0 → IsRested (appended j e) root c f' v1)
@@ -81,7 +81,7 @@ module _ (j : Journal) (e : Entry) (f f' : Held) (selected : Root) (d : Director
 -- ---- a savepoint begins
 
 -- the log has moved off the selected root's file, or stood in the other one before
-stored_begun : (j : Journal) (f : Held) (selected : Root) (d : Directory) (s : Saving) (c : Directory) (v : View) → IsImageOf j selected d → IsRested j selected d f v → IsSettled f v
+stored_begun : (j : Journal) (f : FilesHeld) (selected : Root) (d : Directory) (s : Saving) (c : Directory) (v : View) → IsImageOf j selected d → IsRested j selected d f v → IsSettled f v
     → IsImageOf j s.root c → s.root.length ≡ journal_len j → place_of s.root ≡ f.log → s.root.version ≡ 2 → f.log.file ≢ (place_of selected).file → s.sealed ≡ false → s.done ≡ 0 → IsPlan s.planned f.reached s.reached s.root c
     → IsStored j f selected d (Some s) (Writing (journal_len j) 0 (length s.planned) c) v
 stored_begun j f selected d s c v image rests settled of whole here version apart unsealed none plan = record {
@@ -103,12 +103,12 @@ stored_begun j f selected d s c v image rests settled of whole here version apar
 }
 
 -- after a switch it has
-switched_differs : (f : Held) (selected : Root) → f.log.file ≡ (place_of selected).file → other_log f.log.file ≢ (place_of selected).file
+switched_differs : (f : FilesHeld) (selected : Root) → f.log.file ≡ (place_of selected).file → other_log f.log.file ≢ (place_of selected).file
 switched_differs f selected same is = other_differs f.log.file (subst IsLogFile (sym same) (is_log selected.file)) (same ∙ sym is)
 
 -- ---- a page
 
-stored_step : (j : Journal) (f : Held) (selected : Root) (d : Directory) (s : Saving) (b n q : ℕ) (c : Directory) (p : Planned) (v0 v1 : View) → slice_get s.planned s.done ≡ Some p → s.done < length s.planned → v1.told ≡ v0.told
+stored_step : (j : Journal) (f : FilesHeld) (selected : Root) (d : Directory) (s : Saving) (b n q : ℕ) (c : Directory) (p : Planned) (v0 v1 : View) → slice_get s.planned s.done ≡ Some p → s.done < length s.planned → v1.told ≡ v0.told
     → (IsRested j selected d f v0 → IsRested j selected d f v1) → (IsFollowed j s.root f v0 → IsFollowed j s.root f v1)
     → (IsTold v0 → HasPage p.n p.next p.payload v1.seen.pages) → (IsTold v0 → OnFile Pages (ChangesOnly p.n (length v0.seen.pages)) v0.seen v1.seen)
     → IsStored j f selected d (Some s) (Writing b n q c) v0 → IsStored j f selected d (Some (record s { done = s.done + 1 })) (Writing b (n + 1) q c) v1
@@ -140,7 +140,7 @@ stored_step j f selected d s b n q c p v0 v1 next more same rests captured here 
 
 -- ---- the root
 
-stored_sealed : (j : Journal) (f : Held) (selected : Root) (d : Directory) (s : Saving) (b n q : ℕ) (c : Directory) (v0 v1 : View) → s.done ≡ length s.planned
+stored_sealed : (j : Journal) (f : FilesHeld) (selected : Root) (d : Directory) (s : Saving) (b n q : ℕ) (c : Directory) (v0 v1 : View) → s.done ≡ length s.planned
     → (IsRested j selected d f v0 → IsRested j selected d f v1)
     → ((IsTold v0 → IsStaged s.reached s.root c v0.seen.pages) → IsFollowed j s.root f v0 → IsReady j (other f.slot) s.reached s.root c f v1)
     → IsStored j f selected d (Some s) (Writing b n q c) v0 → IsStored j f selected d (Some (record s { sealed = true })) (Sealed b q c) v1
@@ -161,7 +161,7 @@ stored_sealed j f selected d s b n q c v0 v1 all rests ready stored =
 
 -- ---- the flip
 
-stored_flipped : (j : Journal) (f f' : Held) (selected : Root) (d : Directory) (s : Saving) (b q : ℕ) (c : Directory) (v0 v1 : View)
+stored_flipped : (j : Journal) (f f' : FilesHeld) (selected : Root) (d : Directory) (s : Saving) (b q : ℕ) (c : Directory) (v0 v1 : View)
     → (IsRested j selected d f v0 → IsReady j (other f.slot) s.reached s.root c f v0 → IsRested j s.root c f' v1)
     → IsStored j f selected d (Some s) (Sealed b q c) v0 → IsStored j f' s.root c None Idle v1
 stored_flipped j f f' selected d s b q c v0 v1 flip stored =
@@ -169,7 +169,7 @@ stored_flipped j f f' selected d s b q c v0 v1 flip stored =
 
 -- ---- it is dropped
 
-stored_dropped : (j : Journal) (f : Held) (selected : Root) (d : Directory) (saving : Option Saving) (phase : Phase) (v : View) → IsStored j f selected d saving phase v → IsStored j f selected d None Idle v
+stored_dropped : (j : Journal) (f : FilesHeld) (selected : Root) (d : Directory) (saving : Option Saving) (phase : Phase) (v : View) → IsStored j f selected d saving phase v → IsStored j f selected d None Idle v
 stored_dropped j f selected d saving phase v stored = record { image = stored.image; rests = stored.rests; under_way = tt }
 
 -- ---- the laws
@@ -187,13 +187,13 @@ may_more p j e is next root c of n from until =
 
 pub append_is_stored : {D : Type 0} (view : D → View) → AppendIsStored view
 append_is_stored {D} view j e payload f f' selected d saving phase v0 v1 p spells is next place same pages gains stored =
-    stored_appended j e f f' selected d (view v0) (view v1) (ap (λ (h : Held). h.log.file) place) (ap (λ (h : Held). h.slot) place) (ap (λ (h : Held). h.reached) place) same pages (may_more p j e is next)
+    stored_appended j e f f' selected d (view v0) (view v1) (ap (λ (h : FilesHeld). h.log.file) place) (ap (λ (h : FilesHeld). h.slot) place) (ap (λ (h : FilesHeld). h.reached) place) same pages (may_more p j e is next)
     (λ root c of rests. gains.rests j root c e spells of rests) (λ root within followed. gains.followed j root e spells within followed) (λ root ps c of ready. gains.ready j root ps c e spells of ready) saving phase stored
 
 pub switch_is_stored : {D : Type 0} (view : D → View) → SwitchIsStored view
 switch_is_stored {D} view j f f' selected d v0 v1 straight place moves stored = (
   record { image = stored.image; rests = moves j selected d straight stored.rests; under_way = tt },
-  subst (λ (h : Held). h.log.file ≢ (place_of selected).file) (sym place) (switched_differs f selected straight),
+  subst (λ (h : FilesHeld). h.log.file ≢ (place_of selected).file) (sym place) (switched_differs f selected straight),
 )
 
 pub begin_is_stored : {D : Type 0} (view : D → View) → BeginIsStored view

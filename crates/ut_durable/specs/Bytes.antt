@@ -28,10 +28,11 @@ pub record Chain : Type 0 where
 
 -- ---- parts
 
--- a place's row, and the rows of places as their keys
+-- a place's row
 abbrev pub row_in : Placed → Row
 row_in p = record { id = p.id; values = p.values }
 
+-- the rows of places, their values as keys
 abbrev pub key_rows : List Placed → List KeyRow
 key_rows places = map (λ (p : Placed). keyed (row_in p)) places
 
@@ -43,6 +44,7 @@ main_of width parts = record { width = width; parts = map key_rows parts }
 abbrev pub part_behind : ℕ → (earlier : List (List Placed)) → List Placed → PartValue
 part_behind width earlier part = record { before = dicts_behind (main_of width earlier); rows = key_rows part }
 
+-- for each place of a part, whether its row is live
 abbrev pub live_marks : List Placed → List Bool
 live_marks part = map (λ (p : Placed). not p.dead) part
 
@@ -50,6 +52,7 @@ live_marks part = map (λ (p : Placed). not p.dead) part
 abbrev pub part_ref : Chain → List Placed → PartRef
 part_ref chain part = record { first = chain.first; length = length chain.bytes; rows = length part; live = live_marks part }
 
+-- what a directory says of parts, each of which stands in a chain of its own
 abbrev pub part_refs : List Chain → List (List Placed) → List PartRef
 part_refs [] parts = []
 part_refs (chain ∷ chains) [] = []
@@ -66,7 +69,8 @@ abbrev pub HoldParts : ℕ → (earlier : List (List Placed)) → List Chain →
 HoldParts width earlier [] [] = Unit {0}
 HoldParts width earlier [] (part ∷ parts) = ⊥
 HoldParts width earlier (chain ∷ chains) [] = ⊥
-HoldParts width earlier (chain ∷ chains) (part ∷ parts) = HoldsPart width earlier chain part × HoldParts width (earlier ++ part ∷ []) chains parts
+HoldParts width earlier (chain ∷ chains) (part ∷ parts) =
+    HoldsPart width earlier chain part × HoldParts width (earlier ++ part ∷ []) chains parts
 
 -- ---- tables
 
@@ -74,6 +78,7 @@ HoldParts width earlier (chain ∷ chains) (part ∷ parts) = HoldsPart width ea
 abbrev pub drawn : Table → List Chain → TableStages → Drawn
 drawn t chains s = record { table = t; parts = part_refs chains s.parts; l2 = map row_in s.l2; l1 = map row_in s.l1 }
 
+-- what a directory says of all tables, in order
 abbrev pub drawn_all : List Table → List (List Chain) → Stages → List Drawn
 drawn_all [] chains stages = []
 drawn_all (t ∷ ts) [] stages = []
@@ -112,8 +117,11 @@ pages_for n = (n + 4089) / 4090
 -- the bytes of a part by themselves, at no place
 abbrev pub unplaced : ℕ → (earlier : List (List Placed)) → List (List Placed) → List Chain
 unplaced width earlier [] = []
-unplaced width earlier (part ∷ parts) = record { pages = []; first = 0; bytes = part_bytes (part_behind width earlier part) } ∷ unplaced width (earlier ++ part ∷ []) parts
+unplaced width earlier (part ∷ parts) =
+    record { pages = []; first = 0; bytes = part_bytes (part_behind width earlier part) }
+    ∷ unplaced width (earlier ++ part ∷ []) parts
 
+-- the bytes of all tables' parts by themselves, at no place
 abbrev pub unplaced_all : List Table → Stages → List (List Chain)
 unplaced_all [] ss = []
 unplaced_all (t ∷ ts) [] = []
@@ -123,4 +131,5 @@ unplaced_all (t ∷ ts) (s ∷ ss) = unplaced (length t.columns) [] s.parts ∷ 
 abbrev pub image_pages : Directory → ℕ
 image_pages d =
     let chains = unplaced_all d.tables d.stages in
-    sum_by (λ (c : Chain). pages_for (length c.bytes)) (flat_map (λ (c : List Chain). c) chains) + pages_for (length (image_bytes (drawn_all d.tables chains d.stages)))
+    sum_by (λ (c : Chain). pages_for (length c.bytes)) (flat_map (λ (c : List Chain). c) chains)
+    + pages_for (length (image_bytes (drawn_all d.tables chains d.stages)))

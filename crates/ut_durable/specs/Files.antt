@@ -3,7 +3,7 @@ use Rattle.std.specs.Prelude.{ℕ, ◌≤◌, List}
 use Rattle.ut_outside.specs.Disk.{Image}
 use Rattle.ut_plain.specs.Journal.{Journal, journal_len, state_at, entries_after, part}
 use Rattle.ut_plain.specs.Reached.{MayOpen}
-use Rattle.ut_redo.specs.Appends.{Place}
+use Rattle.ut_redo.specs.Appends.{LogPlace}
 use Rattle.ut_redo.specs.Logs.{LogHolds}
 use Rattle.ut_pages.specs.declared.slot.Slot.{Slot}
 use Rattle.ut_pages.specs.declared.root.Root.{Root}
@@ -23,7 +23,7 @@ pub record IsImageOf (j : Journal) (root : Root) (d : Directory) : Type 0 where
   pub may : (n : ℕ) → root.length ≤ n → n ≤ journal_len j → MayOpen d.stages (part j root.length n)
 
 -- the log has the entries behind a root's, and its next frame goes to this place
-abbrev pub LogBehind : Journal → Root → Place → Image → Type 0
+abbrev pub LogBehind : Journal → Root → LogPlace → Image → Type 0
 LogBehind j root place c = LogHolds (place_of root) (entries_after j root.length) place c
 
 -- The root in this slot is selected, and has this directory on these pages.
@@ -32,13 +32,15 @@ pub record HasSelected (slot : Slot) (reached : List ℕ) (root : Root) (d : Dir
   pub image : HasImage slot reached root d c.pages
 
 -- The selected root reaches these pages, and they and the log hold the journal.
-pub record Rests (j : Journal) (slot : Slot) (reached : List ℕ) (root : Root) (d : Directory) (place : Place) (c : Image) : Type 0 where
+pub record Rests (j : Journal) (slot : Slot) (reached : List ℕ) (root : Root) (d : Directory) (place : LogPlace) (c : Image) : Type 0 where
   pub stands : Stands slot reached c.pages
   pub image : HasImage slot reached root d c.pages
   pub log : LogBehind j root place c
 
 -- A root that isn't selected yet is whole, and with the log it holds the journal too.
-pub record IsSealed (j : Journal) (slot : Slot) (reached : List ℕ) (root : Root) (d : Directory) (place : Place) (c : Image) : Type 0 where
+pub record IsSealed
+    (j : Journal) (slot : Slot) (reached : List ℕ) (root : Root) (d : Directory) (place : LogPlace)
+    (c : Image) : Type 0 where
   pub there : AreThere reached c.pages
   pub image : HasImage slot reached root d c.pages
   pub log : LogBehind j root place c

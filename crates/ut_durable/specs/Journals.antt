@@ -5,7 +5,7 @@ use Rattle.ut_outside.specs.declared.disk.Which.TheVariants.{Redo, Redo2}
 use Rattle.ut_outside.specs.Disk.{Image}
 use Rattle.ut_plain.specs.Journal.{Journal, journal_len, part}
 use Rattle.ut_plain.specs.Reached.{MayOpen}
-use Rattle.ut_redo.specs.Appends.{Place}
+use Rattle.ut_redo.specs.Appends.{LogPlace}
 use Rattle.ut_redo.specs.Logs.{LogHolds}
 use Rattle.ut_pages.specs.declared.slot.Slot.{Slot}
 use Rattle.ut_pages.specs.declared.root.Root.{Root}
@@ -20,11 +20,12 @@ log_file zero = Redo
 log_file (suc n) = Redo2
 
 -- where a root's log begins
-abbrev pub place_of : Root → Place
+abbrev pub place_of : Root → LogPlace
 place_of root = record { file = log_file root.file; end = root.offset }
 
--- The page file is made, its selected root has an image of the journal's base, and the log from the root's place on has the entries behind it.
-pub record IsReading (j : Journal) (d : Directory) (end : Place) (c : Image) : Type 0 where
+-- The page file is made, its selected root has an image of the journal's base,
+-- and the log from the root's place on has the entries behind it.
+pub record IsReading (j : Journal) (d : Directory) (end : LogPlace) (c : Image) : Type 0 where
   pub slot : Slot
   pub reached : List ℕ
   pub root : Root
@@ -38,7 +39,7 @@ pub record IsReading (j : Journal) (d : Directory) (end : Place) (c : Image) : T
 -- files that are a store's, of this journal
 pub record HoldsJournal (j : Journal) (c : Image) : Type 0 where
   pub directory : Directory
-  pub end : Place
+  pub end : LogPlace
   pub reading : IsReading j directory end c
 
 -- Files that hold a prefix of the journal, of at least so many entries: an image of its first ones, and the others in the log.

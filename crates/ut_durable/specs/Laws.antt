@@ -26,7 +26,7 @@ use Rattle.ut_durable.specs.Images.{HasImage, AreThere}
 use Rattle.ut_durable.specs.Directories.{IsBase}
 use Rattle.ut_durable.specs.Journals.{place_of, HoldsPrefix}
 use Rattle.ut_durable.specs.Files.{IsImageOf}
-use Rattle.ut_durable.specs.Calls.{Held, IsSettled, Gains, Stays, BecomesReady, Flips, Moves}
+use Rattle.ut_durable.specs.Calls.{FilesHeld, IsSettled, Gains, Stays, BecomesReady, Flips, Moves}
 use Rattle.ut_durable.specs.Made.{made_held}
 use Rattle.ut_durable.specs.Saving.{Planned, MayWrite, IsPlan, Saving, IsStored}
 use Rattle.ut_durable.specs.Plans.{Draft, IsDraft, Ascend, first_of, plan, chain_of, planned_of, reached_of}
@@ -35,21 +35,23 @@ use Rattle.ut_durable.specs.Plans.{Draft, IsDraft, Ascend, first_of, plan, chain
 
 -- An append that a plain store allows, in any phase.
 abbrev pub AppendIsStored : {D : Type 0} → (D → View) → Type 0
-AppendIsStored {D} view = (j : Journal) (e : Entry) (payload : List ℕ) (f f' : Held) (selected : Root) (d : Directory) (saving : Option Saving) (phase : Phase) (v0 v1 : D) (p : Plain)
+AppendIsStored {D} view = (j : Journal) (e : Entry) (payload : List ℕ) (f f' : FilesHeld) (selected : Root) (d : Directory)
+    (saving : Option Saving) (phase : Phase) (v0 v1 : D) (p : Plain)
     → Spells payload e → IsPlain p → p.journal ≡ appended j e → f' ≡ record f { log = behind f.log payload }
-    → (view v1).told ≡ (view v0).told → (IsTold (view v0) → (view v1).seen.pages ≡ (view v0).seen.pages) → Gains payload f f' (view v0) (view v1)
+    → (view v1).told ≡ (view v0).told → (IsTold (view v0) → (view v1).seen.pages ≡ (view v0).seen.pages)
+    → Gains payload f f' (view v0) (view v1)
     → IsStored j f selected d saving phase (view v0) → IsStored (appended j e) f' selected d saving phase (view v1)
 
 -- The log moves off the file in which the selected root's log begins.
 abbrev pub SwitchIsStored : {D : Type 0} → (D → View) → Type 0
-SwitchIsStored {D} view = (j : Journal) (f f' : Held) (selected : Root) (d : Directory) (v0 v1 : D)
+SwitchIsStored {D} view = (j : Journal) (f f' : FilesHeld) (selected : Root) (d : Directory) (v0 v1 : D)
     → f.log.file ≡ (place_of selected).file → f' ≡ record f { log = switched_place f.log } → Moves f f' (view v0) (view v1)
     → IsStored j f selected d None Idle (view v0)
     → IsStored j f' selected d None Idle (view v1) × (f'.log.file ≢ (place_of selected).file)
 
 -- An image of the whole journal is captured where the log has moved off it, and its pages are planned.
 abbrev pub BeginIsStored : {D : Type 0} → (D → View) → Type 0
-BeginIsStored {D} view = (j : Journal) (f : Held) (selected : Root) (d : Directory) (s : Saving) (c : Directory) (v : D)
+BeginIsStored {D} view = (j : Journal) (f : FilesHeld) (selected : Root) (d : Directory) (s : Saving) (c : Directory) (v : D)
     → IsImageOf j s.root c → s.root.length ≡ journal_len j → place_of s.root ≡ f.log → s.root.version ≡ 2
     → f.log.file ≢ (place_of selected).file → s.sealed ≡ false → s.done ≡ 0
     → IsPlan s.planned f.reached s.reached s.root c
@@ -58,12 +60,14 @@ BeginIsStored {D} view = (j : Journal) (f : Held) (selected : Root) (d : Directo
 
 -- The next planned page may be written,
 abbrev pub NextMayBeWritten : {D : Type 0} → (D → View) → Type 0
-NextMayBeWritten {D} view = (j : Journal) (f : Held) (selected : Root) (d : Directory) (s : Saving) (b n q : ℕ) (c : Directory) (p : Planned) (v : D)
+NextMayBeWritten {D} view = (j : Journal) (f : FilesHeld) (selected : Root) (d : Directory) (s : Saving)
+    (b n q : ℕ) (c : Directory) (p : Planned) (v : D)
     → IsStored j f selected d (Some s) (Writing b n q c) (view v) → slice_get s.planned s.done ≡ Some p → MayWrite f.reached p
 
 -- and then it is.
 abbrev pub PageIsStored : {D : Type 0} → (D → View) → Type 0
-PageIsStored {D} view = (j : Journal) (f : Held) (selected : Root) (d : Directory) (s : Saving) (b n q : ℕ) (c : Directory) (p : Planned) (v0 v1 : D)
+PageIsStored {D} view = (j : Journal) (f : FilesHeld) (selected : Root) (d : Directory) (s : Saving)
+    (b n q : ℕ) (c : Directory) (p : Planned) (v0 v1 : D)
     → slice_get s.planned s.done ≡ Some p → s.done < length s.planned → (view v1).told ≡ (view v0).told
     → Stays f (view v0) (view v1) → (IsTold (view v0) → HasPage p.n p.next p.payload (view v1).seen.pages)
     → (IsTold (view v0) → OnFile Pages (ChangesOnly p.n (length (view v0).seen.pages)) (view v0).seen (view v1).seen)
@@ -72,26 +76,28 @@ PageIsStored {D} view = (j : Journal) (f : Held) (selected : Root) (d : Director
 
 -- All pages are written, and now the root.
 abbrev pub SealIsStored : {D : Type 0} → (D → View) → Type 0
-SealIsStored {D} view = (j : Journal) (f : Held) (selected : Root) (d : Directory) (s : Saving) (b n q : ℕ) (c : Directory) (v0 v1 : D)
+SealIsStored {D} view = (j : Journal) (f : FilesHeld) (selected : Root) (d : Directory) (s : Saving) (b n q : ℕ) (c : Directory) (v0 v1 : D)
     → s.done ≡ length s.planned → Stays f (view v0) (view v1) → BecomesReady s.root f (view v0) (view v1)
     → IsStored j f selected d (Some s) (Writing b n q c) (view v0)
     → IsStored j f selected d (Some (record s { sealed = true })) (Sealed b q c) (view v1)
 
 -- It is selected.
 abbrev pub FlipIsStored : {D : Type 0} → (D → View) → Type 0
-FlipIsStored {D} view = (j : Journal) (f f' : Held) (selected : Root) (d : Directory) (s : Saving) (b q : ℕ) (c : Directory) (v0 v1 : D)
+FlipIsStored {D} view = (j : Journal) (f f' : FilesHeld) (selected : Root) (d : Directory) (s : Saving)
+    (b q : ℕ) (c : Directory) (v0 v1 : D)
     → Flips s.reached f f' (view v0) (view v1)
     → IsStored j f selected d (Some s) (Sealed b q c) (view v0) → IsStored j f' s.root c None Idle (view v1)
 
 -- The savepoint is dropped.
 abbrev pub DropIsStored : {D : Type 0} → (D → View) → Type 0
-DropIsStored {D} view = (j : Journal) (f : Held) (selected : Root) (d : Directory) (saving : Option Saving) (phase : Phase) (v : D)
+DropIsStored {D} view = (j : Journal) (f : FilesHeld) (selected : Root) (d : Directory) (saving : Option Saving) (phase : Phase) (v : D)
     → IsStored j f selected d saving phase (view v) → IsStored j f selected d None Idle (view v)
 
 -- ---- from what is known to what is promised, and to what the calls ask for
 
+-- A store whose files are known has settled, and where its disk tells, each image that a crash may leave holds the whole journal.
 abbrev pub StoredHoldsAll : {D : Type 0} → (D → View) → Type 0
-StoredHoldsAll {D} view = (j : Journal) (f : Held) (selected : Root) (d : Directory) (saving : Option Saving) (phase : Phase) (v : D)
+StoredHoldsAll {D} view = (j : Journal) (f : FilesHeld) (selected : Root) (d : Directory) (saving : Option Saving) (phase : Phase) (v : D)
     → IsStored j f selected d saving phase (view v)
     → IsSettled f (view v) × (IsTold (view v) → Always (view v) (HoldsPrefix j (journal_len j)))
 
@@ -99,14 +105,14 @@ StoredHoldsAll {D} view = (j : Journal) (f : Held) (selected : Root) (d : Direct
 
 -- A store that was opened: each outcome of a crash is what was read.
 abbrev pub OpenedIsStored : {D : Type 0} → (D → View) → Type 0
-OpenedIsStored {D} view = (j : Journal) (d : Directory) (f : Held) (root : Root) (seen : Image) (v : D) → IsMade seen.pages
+OpenedIsStored {D} view = (j : Journal) (d : Directory) (f : FilesHeld) (root : Root) (seen : Image) (v : D) → IsMade seen.pages
     → IsSelected f.slot seen.pages → AreThere f.reached seen.pages → HasImage f.slot f.reached root d seen.pages
     → IsBase root d j.base → LogHolds (place_of root) j.entries f.log seen → MayOpen d.stages j
     → (IsTold (view v) → Always (view v) (λ c. c ≡ seen)) → IsStored j f root d None Idle (view v)
 
 -- A store that was just made.
 abbrev pub MadeIsStored : {D : Type 0} → (D → View) → Type 0
-MadeIsStored {D} view = (f : Held) (v : D) → f ≡ made_held → MayOpen [] empty_journal
+MadeIsStored {D} view = (f : FilesHeld) (v : D) → f ≡ made_held → MayOpen [] empty_journal
     → (IsTold (view v) → Always (view v) (λ c. (c.pages ≡ made_pages) × Holds 0 [] 0 c.redo))
     → IsStored empty_journal f empty_root no_directory None Idle (view v)
 

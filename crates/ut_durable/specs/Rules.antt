@@ -53,7 +53,8 @@ pub record IsImageTable (columns : List Column) (s : TableStages) : Type 0 where
 
 -- ---- directories
 
--- An image may have this directory where the next row id is `next` and there were so many commits: no table is made without a commit, no two have one name,
+-- An image may have this directory where the next row id is `next` and there were so many commits:
+-- no table is made without a commit, no two have one name,
 -- and no two of its rows have one id.
 pub record IsDirectory (next commits : ℕ) (d : Directory) : Type 0 where
   pub few : length d.tables ≤ 256

@@ -10,7 +10,7 @@ use Rattle.ut_pages.specs.declared.root.Root.{Root}
 use Rattle.ut_pages.specs.Layout.{HasPage, other}
 use Rattle.ut_durable.specs.Journals.{place_of}
 use Rattle.ut_durable.specs.Files.{IsImageOf, IsStaged}
-use Rattle.ut_durable.specs.Calls.{Held, IsRested, IsFollowed, IsReady}
+use Rattle.ut_durable.specs.Calls.{FilesHeld, IsRested, IsFollowed, IsReady}
 
 -- a page that is to be written
 pub record Planned : Type 0 where
@@ -18,6 +18,7 @@ pub record Planned : Type 0 where
   pub next : ℕ
   pub payload : List ℕ
 
+-- a planned page stands in the file
 abbrev pub IsWritten : List ℕ → Planned → Type 0
 IsWritten file p = HasPage p.n p.next p.payload file
 
@@ -47,9 +48,10 @@ pub record Saving : Type 0 where
   pub done : ℕ
   pub sealed : Bool
 
--- The savepoint writes: its root is an image of the journal, the log that it captured goes on in a file that the selected root's log doesn't begin in,
+-- The savepoint writes: its root is an image of the journal,
+-- the log that it captured goes on in a file that the selected root's log doesn't begin in,
 -- and the pages so far stand where a read finds them.
-pub record IsWriting (j : Journal) (f : Held) (selected : Root) (disk : View) (s : Saving) (b p q : ℕ) (d : Directory) : Type 0 where
+pub record IsWriting (j : Journal) (f : FilesHeld) (selected : Root) (disk : View) (s : Saving) (b p q : ℕ) (d : Directory) : Type 0 where
   pub captured : b ≡ s.root.length
   pub done : p ≡ s.done
   pub pages : q ≡ length s.planned
@@ -63,7 +65,7 @@ pub record IsWriting (j : Journal) (f : Held) (selected : Root) (disk : View) (s
   pub written : IsTold disk → AllByRecursion (IsWritten disk.seen.pages) (take s.done s.planned)
 
 -- Its root is whole, and waits to be selected.
-pub record IsWaiting (j : Journal) (f : Held) (selected : Root) (disk : View) (s : Saving) (b q : ℕ) (d : Directory) : Type 0 where
+pub record IsWaiting (j : Journal) (f : FilesHeld) (selected : Root) (disk : View) (s : Saving) (b q : ℕ) (d : Directory) : Type 0 where
   pub captured : b ≡ s.root.length
   pub pages : q ≡ length s.planned
   pub sealed : s.sealed ≡ true
@@ -72,7 +74,7 @@ pub record IsWaiting (j : Journal) (f : Held) (selected : Root) (disk : View) (s
   pub ready : IsReady j (other f.slot) s.reached s.root d f disk
 
 -- the savepoint in memory is the phase's
-abbrev pub IsSaving : Journal → Held → Root → View → Option Saving → Phase → Type 0
+abbrev pub IsSaving : Journal → FilesHeld → Root → View → Option Saving → Phase → Type 0
 IsSaving j f selected disk None Idle = Unit {0}
 IsSaving j f selected disk None (Writing b p q d) = ⊥
 IsSaving j f selected disk None (Sealed b q d) = ⊥
@@ -81,7 +83,9 @@ IsSaving j f selected disk (Some s) (Writing b p q d) = IsWriting j f selected d
 IsSaving j f selected disk (Some s) (Sealed b q d) = IsWaiting j f selected disk s b q d
 
 -- All that a running store knows of its files: each outcome of a crash holds the journal behind the selected root.
-pub record IsStored (j : Journal) (f : Held) (selected : Root) (d : Directory) (saving : Option Saving) (phase : Phase) (disk : View) : Type 0 where
+pub record IsStored
+    (j : Journal) (f : FilesHeld) (selected : Root) (d : Directory) (saving : Option Saving) (phase : Phase)
+    (disk : View) : Type 0 where
   pub image : IsImageOf j selected d
   pub rests : IsRested j selected d f disk
   pub under_way : IsSaving j f selected disk saving phase

@@ -24,9 +24,9 @@ pub struct Durable {
 }
 
 impl Model for Durable {
-    ghost use Rattle.ut_durable.specs.Calls.{Held};
+    ghost use Rattle.ut_durable.specs.Calls.{FilesHeld};
 
-    ghost Value = { Held };
+    ghost Value = { FilesHeld };
 
     ghost view = { λ f. record { log = f.redo; slot = f.pages.slot; reached = f.pages.reached } };
 }

@@ -7,10 +7,10 @@ ghost use Rattle.ut_value.specs.Reading.{Begins, BeginsNone};
 use crate::parts::{read_columns, read_name};
 use crate::read::{first_byte, read_list, read_u16, read_u32};
 use std::alloc::{AllocError, Global};
-use ut_value::{Entry, MergeKind};
+use ut_value::{ENTRY_LIMIT, Entry, MergeKind};
 
 /// No entry has more bytes.
-const MAX_ENTRY_LEN: usize = 1 << 30;
+const MAX_ENTRY_LEN: usize = ENTRY_LIMIT as usize;
 
 /// No transaction has fewer operations.
 const LEAST_OPS: u32 = 1;

@@ -1,5 +1,5 @@
 //! How many bytes a spelling has.
-ghost use Rattle.std.specs.Prelude.{◌≡◌, ◌<◌, ◌^◌};
+ghost use Rattle.std.specs.Prelude.{◌≡◌, ◌+◌, ◌<◌, ◌^◌};
 ghost use Rattle.std.specs.List.{sum_by};
 ghost use Rattle.ut_value.specs.Spelling.{value_len, column_len, op_len, ops_len, entry_len};
 
@@ -21,13 +21,21 @@ fn values_len(values: &[Value]) -> u32
     values.iter().map(|value| value_len(value)).sum()
 }
 
+/// The number of bytes of an insert of these values.
+pub fn insert_len(values: &[Value]) -> u32
+    requires { sum_by value_len values.now + 8 < 2 ^ 32 }
+    ensures { result ≡ sum_by value_len values.now + 8 }
+{
+    values_len(values) + 8
+}
+
 /// The number of bytes of an operation.
 pub fn op_len(op: &Op) -> u32
     requires { op_len op.now < 2 ^ 32 }
     ensures { result ≡ op_len op.now }
 {
     match op {
-        Op::Insert { values, .. } => values_len(values.as_slice()) + 8,
+        Op::Insert { values, .. } => insert_len(values.as_slice()),
         Op::Delete { .. } => 7,
     }
 }

@@ -11,6 +11,6 @@ mod write;
 
 pub use entry::entry_from;
 pub use laws::spelling_laws;
-pub use length::{entry_len, op_len};
+pub use length::{entry_len, insert_len, op_len};
 pub use txn::{add_op, begin_txn};
-pub use write::{entry_bytes, put, put_columns, put_entry, put_op, put_text};
+pub use write::{entry_bytes, put, put_columns, put_entry, put_insert, put_op, put_text};

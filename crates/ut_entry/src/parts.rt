@@ -9,7 +9,9 @@ ghost use Rattle.ut_value.proofs.OneSpelling.{one_value, one_column, one_op};
 
 use crate::read::{Place, Spelled, counted, first_byte, read_int, read_list, read_place};
 use std::alloc::{AllocError, Global};
-use ut_value::{Column, Kind, Name, Op, Seq, Text, Value, is_name, is_text, same_bytes};
+use ut_value::{
+    COLUMNS_LIMIT, Column, Kind, Name, Op, Seq, Text, Value, is_name, is_text, same_bytes,
+};
 
 pub(crate) fn read_text(alloc: Global, bytes: &[u8]) -> Result<Option<(Text, &[u8])>, AllocError>
     ensures found { IfOk result (λ o. IfSome o (λ r. Begins text_spelling is_text bytes.now r.0 r.1.now)) }
@@ -96,10 +98,7 @@ impl Spelled for Column {
     }
 }
 
-/// The most values of a row, and the most columns of a table.
-const MAX_COLUMNS: u8 = 64;
-
-/// A row's values: their number, then each.
+// A row's values: their number, then each.
 fn read_values(alloc: Global, bytes: &[u8]) -> Result<Option<(Seq<Value>, &[u8])>, AllocError>
     ensures found { IfOk result (λ o. IfSome o (λ r. Begins values_spelling are_values bytes.now r.0 r.1.now)) }
     ensures none { IfOk result (λ o. IfNone o (BeginsNone values_spelling are_values bytes.now)) }
@@ -107,7 +106,7 @@ fn read_values(alloc: Global, bytes: &[u8]) -> Result<Option<(Seq<Value>, &[u8])
     let Some((count, rest)) = first_byte(bytes) else {
         return Ok(None);
     };
-    if count == 0 || count > MAX_COLUMNS {
+    if count == 0 || count > COLUMNS_LIMIT {
         return Ok(None);
     }
     read_list(alloc, usize::from(count), rest)
@@ -124,7 +123,7 @@ pub(crate) fn read_columns(
     let Some((count, rest)) = first_byte(bytes) else {
         return Ok(None);
     };
-    if count == 0 || count > MAX_COLUMNS {
+    if count == 0 || count > COLUMNS_LIMIT {
         return Ok(None);
     }
     let Some((columns, behind)) = read_list(alloc, usize::from(count), rest)? else {

@@ -35,7 +35,7 @@ pub fn add_op(payload: &mut Vec<u8>, op: &Op)
     put_op(op, payload);
 }
 
-/// One more in the four bytes behind the first.
+// One more in the four bytes behind the first.
 fn raise_count(bytes: &mut [u8])
     requires { 5 ≤ length bytes.old }
     ensures { (n : ℕ) (rest : List ℕ) → n + 1 < 2 ^ 32 → bytes.old ≡ 2 ∷ to_le_bytes w32 n ++ rest → bytes.new ≡ 2 ∷ to_le_bytes w32 (n + 1) ++ rest }

@@ -1,6 +1,7 @@
 //! Writes entries into a vector with room for them. Only `entry_bytes` takes memory.
 ghost use Rattle.std.specs.Prelude.{◌≡◌, ◌+◌, ◌<◌, ◌≤◌, ◌++◌, length, IsTrue, OnOk, OnErr, vec_len, vec_capacity};
 ghost use Rattle.std.specs.List.{flat_map, list_all, sum_by};
+ghost use Rattle.ut_value.specs.declared.entry.Op.TheVariants.{Insert};
 ghost use Rattle.ut_value.specs.Spelling.{value_spelling, value_len, column_spelling, column_len, text_spelling, op_spelling, op_len, ops_len, is_op, spelling, entry_len, has_spelling, merge_kind_byte, kind_byte};
 
 use crate::length::entry_len;
@@ -61,6 +62,21 @@ fn put_values(values: &[Value], out: &mut Vec<u8>)
     }
 }
 
+/// Appends the bytes of an insert of these values where there is room. This takes no memory.
+pub fn put_insert(table: u16, id: u32, values: &[Value], out: &mut Vec<u8>)
+    requires rule { IsTrue (is_op (Insert table id values.now)) }
+    requires room { vec_len out.old + op_len (Insert table id values.now) ≤ vec_capacity out.old }
+    ensures items { out.new.items ≡ out.old.items ++ op_spelling (Insert table id values.now) }
+    ensures len { vec_len out.new ≡ vec_len out.old + op_len (Insert table id values.now) }
+    ensures room { vec_capacity out.old ≤ vec_capacity out.new }
+{
+    let [a, b] = table.to_le_bytes();
+    let [c, d, e, f] = id.to_le_bytes();
+    let count = values.len() as u8;
+    put(&[1, a, b, c, d, e, f, count], out);
+    put_values(values, out);
+}
+
 /// Appends an operation's bytes where there is room. This takes no memory.
 pub fn put_op(op: &Op, out: &mut Vec<u8>)
     requires rule { IsTrue (is_op op.now) }
@@ -70,13 +86,7 @@ pub fn put_op(op: &Op, out: &mut Vec<u8>)
     ensures room { vec_capacity out.old ≤ vec_capacity out.new }
 {
     match op {
-        Op::Insert { table, id, values } => {
-            let [a, b] = table.to_le_bytes();
-            let [c, d, e, f] = id.to_le_bytes();
-            let count = values.len() as u8;
-            put(&[1, a, b, c, d, e, f, count], out);
-            put_values(values.as_slice(), out);
-        }
+        Op::Insert { table, id, values } => put_insert(*table, *id, values.as_slice(), out),
         Op::Delete { table, id } => {
             let [a, b] = table.to_le_bytes();
             let [c, d, e, f] = id.to_le_bytes();

@@ -29,7 +29,9 @@ abbrev pub slip_of : {X J : Type 0} → Carried X J → Slip J
 slip_of p = record { job = p.job }
 
 -- one turn of the pass p, which became q: the act ran once, on a value that was then `before`
-pub record Turn {X J S : Type 0} (book : S → List X) (job : S → Option J) (good : S → Type 0) (relates : S → S → Type 0) (p q : Carried X J) : Type 0 where
+pub record Turn
+    {X J S : Type 0} (book : S → List X) (job : S → Option J) (good : S → Type 0) (relates : S → S → Type 0)
+    (p q : Carried X J) : Type 0 where
   pub before : S
   pub after : S
   -- the value has the ground, before and after

@@ -19,7 +19,8 @@ module _ {X J S : Type 0} where
   IsIdle seat = (seat.me.0.stage ≡ Away) × (seat.me.1 ≡ [])
 
   -- the pass was idle, and is at its turn
-  abbrev pub HasTurn : (S → List X) → (S → Option J) → (S → Type 0) → Me (Option (Home S)) (View X J) → Me (Option (Home S)) (View X J) → Type 0
+  abbrev pub HasTurn : (S → List X) → (S → Option J) → (S → Type 0) → Me (Option (Home S)) (View X J)
+      → Me (Option (Home S)) (View X J) → Type 0
   HasTurn book job good m m' = (t : ℕ) × Gets book job good t m m'
 
   -- the pass has drawn a ticket since it was at m

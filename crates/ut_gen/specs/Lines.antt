@@ -24,7 +24,8 @@ draws_of (Update rows) = 2
 -- how many draws the lines before line i make
 abbrev pub drawn : ℕ → ℕ → ℕ
 drawn size i =
-    1200 * min (i - 3) size + 6 * min (i - (9 + size)) (10 * size) + 6 * min (i - (10 + 11 * size)) (10 * size) + 2 * min (i - (12 + 21 * size)) (3 * size)
+    1200 * min (i - 3) size + 6 * min (i - (9 + size)) (10 * size)
+    + 6 * min (i - (10 + 11 * size)) (10 * size) + 2 * min (i - (12 + 21 * size)) (3 * size)
 
 -- its numbers of rows are below 2 ^ 31, and a fixed text is short
 abbrev pub IsShort : Line → Type 0

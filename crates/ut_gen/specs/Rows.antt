@@ -13,12 +13,14 @@ region _ = codes "west"
 -- what stands behind the id of a row; the note is empty
 abbrev pub sale_text : ℕ → ℕ → ℕ → ℕ → ℕ → ℕ → List ℕ
 sale_text day place product quantity price paid =
-    decimal day ++ codes " '" ++ region place ++ codes "' 'p" ++ decimal product ++ codes "' " ++ decimal quantity ++ codes " " ++ decimal price ++ codes " " ++ decimal paid ++ codes " ''"
+    decimal day ++ codes " '" ++ region place ++ codes "' 'p" ++ decimal product ++ codes "' " ++ decimal quantity
+    ++ codes " " ++ decimal price ++ codes " " ++ decimal paid ++ codes " ''"
 
 -- row number r, from 0: its id is r + 1, and six draws give the rest
 abbrev pub row_text : ℕ → ℕ → List ℕ
 row_text x r =
-    decimal (r + 1) ++ codes " " ++ sale_text (1 + draw x 0 % 365) (draw x 1 % 4) (draw x 2 % 500) (1 + draw x 3 % 20) (100 + draw x 4 % 9900) (draw x 5 % 2)
+    decimal (r + 1) ++ codes " "
+    ++ sale_text (1 + draw x 0 % 365) (draw x 1 % 4) (draw x 2 % 500) (1 + draw x 3 % 20) (100 + draw x 4 % 9900) (draw x 5 % 2)
 
 -- so many rows from number r on, each behind a space; a row makes six draws
 unfoldable pub rows_text : ℕ → ℕ → ℕ → List ℕ

@@ -21,7 +21,7 @@ const ONE_DRAW: Affine = Affine {
 
 /// What draws numbers: a state of 64 bits.
 #[derive(Clone, Copy)]
-pub struct Draws {
+pub(crate) struct Draws {
     pub state: u64,
 }
 
@@ -47,7 +47,7 @@ impl Draws {
     }
 }
 
-/// The map of so many draws.
+// The map of so many draws.
 fn jump(draws: u32) -> Affine
     ensures { IsJump draws result.factor result.term }
 {
@@ -70,7 +70,7 @@ impl Affine {
         x.wrapping_mul(self.factor).wrapping_add(self.term)
     }
 
-    /// This map, and then another.
+    // This map, and then another.
     fn then(self, next: Affine) -> Affine
         ensures factor { result.factor ≡ (self.factor * next.factor) % 2 ^ 64 }
         ensures term { result.term ≡ (self.term * next.factor + next.term) % 2 ^ 64 }

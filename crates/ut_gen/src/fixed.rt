@@ -10,10 +10,10 @@ const BEGIN_PARTIAL: &[u8] = b"0 merge begin sales partial";
 const END: &[u8] = b"0 merge end";
 
 /// How many lines create the tables.
-pub const OPENING: u32 = 3;
+pub(crate) const OPENING: u32 = 3;
 
 /// A line of those that create the tables.
-pub fn opening_line(i: u32) -> &'static [u8]
+pub(crate) fn opening_line(i: u32) -> &'static [u8]
     requires { i < 3 }
     ensures line { slice_get opening i ≡ Some result.now }
     ensures short { length result.now ≤ 100 }
@@ -28,10 +28,10 @@ pub fn opening_line(i: u32) -> &'static [u8]
 }
 
 /// How many lines merge and save what was filled in bulk.
-pub const FIRST_MERGE: u32 = 6;
+pub(crate) const FIRST_MERGE: u32 = 6;
 
 /// A line of those that merge and save what was filled in bulk.
-pub fn first_merge_line(i: u32) -> &'static [u8]
+pub(crate) fn first_merge_line(i: u32) -> &'static [u8]
     requires { i < 6 }
     ensures line { slice_get (begins (codes "classic") ++ ends ++ saves) i ≡ Some result.now }
     ensures short { length result.now ≤ 100 }
@@ -44,7 +44,7 @@ pub fn first_merge_line(i: u32) -> &'static [u8]
 }
 
 /// The line that moves rows to the second delta.
-pub fn move_line() -> &'static [u8]
+pub(crate) fn move_line() -> &'static [u8]
     ensures line { moves ≡ result.now ∷ [] }
     ensures short { length result.now ≤ 100 }
 {
@@ -52,10 +52,10 @@ pub fn move_line() -> &'static [u8]
 }
 
 /// How many lines move rows, and begin a partial merge.
-pub const PARTIAL: u32 = 2;
+pub(crate) const PARTIAL: u32 = 2;
 
 /// A line of those that move rows, and begin a partial merge.
-pub fn partial_line(i: u32) -> &'static [u8]
+pub(crate) fn partial_line(i: u32) -> &'static [u8]
     requires { i < 2 }
     ensures line { slice_get (moves ++ begins (codes "partial")) i ≡ Some result.now }
     ensures short { length result.now ≤ 100 }
@@ -67,10 +67,10 @@ pub fn partial_line(i: u32) -> &'static [u8]
 }
 
 /// How many lines stand behind the updates.
-pub const CLOSING: u32 = 14;
+pub(crate) const CLOSING: u32 = 14;
 
 /// A line of those behind the updates.
-pub fn closing_line(i: u32) -> &'static [u8]
+pub(crate) fn closing_line(i: u32) -> &'static [u8]
     requires { i < 14 }
     ensures line { slice_get (ends ++ moves ++ begins (codes "partial") ++ ends ++ saves ++ begins (codes "resort") ++ ends ++ asks) i ≡ Some result.now }
     ensures short { length result.now ≤ 100 }

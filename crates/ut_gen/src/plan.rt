@@ -22,7 +22,7 @@ pub enum Line {
 }
 
 /// Line i of a script of that size.
-pub fn line_at(size: u32, i: u32) -> Option<Line>
+pub(crate) fn line_at(size: u32, i: u32) -> Option<Line>
     requires { size ≤ 500 }
     ensures line { IsLineAt size i result }
     ensures short { IfSome result IsShort }
@@ -59,7 +59,7 @@ pub fn line_at(size: u32, i: u32) -> Option<Line>
 }
 
 /// How many draws are made before line i.
-pub fn draws_before(size: u32, i: u32) -> u32
+pub(crate) fn draws_before(size: u32, i: u32) -> u32
     requires { size ≤ 500 }
     ensures { result ≡ drawn size i }
 {

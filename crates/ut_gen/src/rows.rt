@@ -7,7 +7,7 @@ use crate::draws::Draws;
 use ut_digits::{add, add_number};
 
 /// The rows of a bulk.
-pub const BULK_ROWS: u32 = 200;
+pub(crate) const BULK_ROWS: u32 = 200;
 
 /// What is drawn of a row, in the order of the draws.
 #[derive(Clone, Copy)]
@@ -21,7 +21,7 @@ struct Sale {
 }
 
 /// A bulk of rows, from number `first` on.
-pub fn add_bulk(out: &mut Vec<u8>, draws: &mut Draws, first: u32)
+pub(crate) fn add_bulk(out: &mut Vec<u8>, draws: &mut Draws, first: u32)
     requires small { first < 2 ^ 31 }
     requires room { vec_len out.old + 16100 ≤ vec_capacity out.old }
     ensures text { out.new.items ≡ out.old.items ++ bulk_line draws.old.state first }
@@ -35,7 +35,7 @@ pub fn add_bulk(out: &mut Vec<u8>, draws: &mut Draws, first: u32)
 }
 
 /// An insert of row number `row`.
-pub fn add_insert(out: &mut Vec<u8>, draws: &mut Draws, row: u32)
+pub(crate) fn add_insert(out: &mut Vec<u8>, draws: &mut Draws, row: u32)
     requires small { row < 2 ^ 31 }
     requires room { vec_len out.old + 100 ≤ vec_capacity out.old }
     ensures text { out.new.items ≡ out.old.items ++ insert_line draws.old.state row }
@@ -47,7 +47,7 @@ pub fn add_insert(out: &mut Vec<u8>, draws: &mut Draws, row: u32)
 
 /// An update of one of so many rows.
 #[tactic(auto, unfolding(crate::specs::Draws::advanced))]
-pub fn add_update(out: &mut Vec<u8>, draws: &mut Draws, rows: u32)
+pub(crate) fn add_update(out: &mut Vec<u8>, draws: &mut Draws, rows: u32)
     requires some { 0 < rows }
     requires small { rows < 2 ^ 31 }
     requires room { vec_len out.old + 100 ≤ vec_capacity out.old }
@@ -62,7 +62,7 @@ pub fn add_update(out: &mut Vec<u8>, draws: &mut Draws, rows: u32)
     add_number(out, id);
 }
 
-/// Draws what a row has behind its id, and puts the row.
+// Draws what a row has behind its id, and puts the row.
 fn add_row(out: &mut Vec<u8>, draws: &mut Draws, row: u32)
     requires small { row < 2 ^ 32 - 1 }
     requires room { vec_len out.old + 79 ≤ vec_capacity out.old }

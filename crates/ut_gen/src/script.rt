@@ -95,7 +95,7 @@ pub fn script_line(seed: u64, size: u32, i: u32, out: &mut Vec<u8>) -> Result<bo
     Ok(true)
 }
 
-/// Appends a line, whose draws are the next ones.
+// Appends a line, whose draws are the next ones.
 #[tactic(auto, using(crate::proofs::DrawLemmas::advanced_none))]
 fn put_line(out: &mut Vec<u8>, draws: &mut Draws, line: Line) -> Result<(), AllocError>
     requires { IsShort line }
@@ -115,7 +115,7 @@ fn put_line(out: &mut Vec<u8>, draws: &mut Draws, line: Line) -> Result<(), Allo
     Ok(())
 }
 
-/// At most so many bytes has the line.
+// At most so many bytes has the line.
 fn room_of(line: Line) -> usize
     ensures { result ≡ line_room line }
 {

@@ -11,7 +11,7 @@ ghost use Rattle.ut_image.specs.Rules.{is_cell, are_cells, is_row, are_rows, is_
 use crate::read::{Spelled, counted, first_byte, read_int, read_list, read_u32};
 use std::alloc::{AllocError, Global};
 use ut_plain::{Table, names_differ};
-use ut_value::{Column, Kind, Name, Row, Seq, Text, Value, is_name, is_text};
+use ut_value::{COLUMNS_LIMIT, Column, Kind, Name, Row, Seq, Text, Value, is_name, is_text};
 
 fn read_text(alloc: Global, bytes: &[u8]) -> Result<Option<(Text, &[u8])>, AllocError>
     ensures found { IfOk result (λ o. IfSome o (λ r. Begins text_spelling is_text bytes.now r.0 r.1.now)) }
@@ -75,10 +75,7 @@ impl Spelled<()> for Column {
     }
 }
 
-/// The most columns of a table.
-const MAX_COLUMNS: u8 = 64;
-
-/// A table's columns: their number, then each.
+// A table's columns: their number, then each.
 fn read_columns(alloc: Global, bytes: &[u8]) -> Result<Option<(Seq<Column>, &[u8])>, AllocError>
     ensures found { IfOk result (λ o. IfSome o (λ r. Begins columns_spelling are_columns bytes.now r.0 r.1.now)) }
     ensures none { IfOk result (λ o. IfNone o (BeginsNone columns_spelling are_columns bytes.now)) }
@@ -86,7 +83,7 @@ fn read_columns(alloc: Global, bytes: &[u8]) -> Result<Option<(Seq<Column>, &[u8
     let Some((count, rest)) = first_byte(bytes) else {
         return Ok(None);
     };
-    if count == 0 || count > MAX_COLUMNS {
+    if count == 0 || count > COLUMNS_LIMIT {
         return Ok(None);
     }
     let Some((columns, behind)) = read_list(alloc, &(), usize::from(count), rest)? else {
@@ -99,7 +96,7 @@ fn read_columns(alloc: Global, bytes: &[u8]) -> Result<Option<(Seq<Column>, &[u8
 }
 
 /// A table's name and columns.
-pub fn read_head(alloc: Global, bytes: &[u8]) -> Result<Option<(Table, &[u8])>, AllocError>
+pub(crate) fn read_head(alloc: Global, bytes: &[u8]) -> Result<Option<(Table, &[u8])>, AllocError>
     ensures found { IfOk result (λ o. IfSome o (λ r. Begins head_bytes is_head bytes.now r.0 r.1.now)) }
     ensures none { IfOk result (λ o. IfNone o (BeginsNone head_bytes is_head bytes.now)) }
 {
@@ -112,7 +109,7 @@ pub fn read_head(alloc: Global, bytes: &[u8]) -> Result<Option<(Table, &[u8])>, 
     Ok(Some((Table { name, columns }, behind)))
 }
 
-/// A value of a kind.
+// A value of a kind.
 fn read_cell(alloc: Global, kind: Kind, bytes: &[u8]) -> Result<Option<(Value, &[u8])>, AllocError>
     ensures found { IfOk result (λ o. IfSome o (λ r. Begins cell_bytes (is_cell kind) bytes.now r.0 r.1.now)) }
     ensures none { IfOk result (λ o. IfNone o (BeginsNone cell_bytes (is_cell kind) bytes.now)) }
@@ -129,7 +126,7 @@ fn read_cell(alloc: Global, kind: Kind, bytes: &[u8]) -> Result<Option<(Value, &
     }
 }
 
-/// A value for each column.
+// A value for each column.
 fn read_cells<'a>(
     alloc: Global,
     columns: &[Column],
@@ -171,7 +168,7 @@ impl Spelled<Seq<Column>> for Row {
 }
 
 /// Rows of these columns, behind their number.
-pub fn read_rows<'a>(
+pub(crate) fn read_rows<'a>(
     alloc: Global,
     columns: &Seq<Column>,
     bytes: &'a [u8],

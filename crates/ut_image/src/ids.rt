@@ -46,7 +46,7 @@ fn are_within(ids: &[u32], next: u32) -> bool
     ids.iter().all(|id| *id >= 1 && *id < next)
 }
 
-/// Whether each is greater than the one before it.
+// Whether each is greater than the one before it.
 fn is_ascending(ids: &[u32]) -> bool
     ensures { Decides result (IsStrictlyIncreasing ids.now) }
 {
@@ -58,7 +58,7 @@ fn is_ascending(ids: &[u32]) -> bool
     true
 }
 
-/// Whether no two are equal. They are ordered first, unless they ascend as they are.
+// Whether no two are equal. They are ordered first, unless they ascend as they are.
 fn do_differ(alloc: Global, ids: &[u32]) -> Result<bool, AllocError>
     ensures { IfOk result (λ b. Decides b (AllPairs (λ a b. a ≢ b) ids.now)) }
 {

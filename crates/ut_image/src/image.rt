@@ -8,10 +8,7 @@ use crate::Drawn;
 use crate::ids::{are_own_ids, ids_of};
 use crate::read::{read_list, read_u32};
 use std::alloc::{AllocError, Global};
-use ut_value::{Seq, same_bytes};
-
-/// The most tables of a store.
-const MAX_TABLES: u32 = 256;
+use ut_value::{Seq, TABLES_LIMIT, same_bytes};
 
 /// The tables of a directory, where `next` is the next row id and there were so many commits.
 pub fn image_from(
@@ -26,7 +23,7 @@ pub fn image_from(
     let Some((count, rest)) = read_u32(bytes) else {
         return Ok(None);
     };
-    if count > MAX_TABLES.min(commits) {
+    if count > TABLES_LIMIT.min(commits) {
         return Ok(None);
     }
     let Some((tables, behind)) = read_list(alloc, &(), count as usize, rest)? else {
@@ -44,7 +41,7 @@ pub fn image_from(
     Ok(Some(tables))
 }
 
-/// Whether the ids of all rows are below the next one, and no two are equal.
+// Whether the ids of all rows are below the next one, and no two are equal.
 fn have_own_ids(alloc: Global, tables: &[Drawn], next: u32) -> Result<bool, AllocError>
     ensures { IfOk result (λ b. IsTrue b ↔ AreOwnIds next (ids_of tables.now)) }
 {

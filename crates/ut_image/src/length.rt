@@ -19,7 +19,7 @@ fn cell_len(value: &Value) -> usize
     }
 }
 
-pub fn row_len(row: &Row) -> Option<usize>
+pub(crate) fn row_len(row: &Row) -> Option<usize>
     ensures { SomeIff result (row_len row.now < 2 ^ 64) (row_len row.now) }
 {
     let mut len = 0usize;
@@ -29,7 +29,7 @@ pub fn row_len(row: &Row) -> Option<usize>
     len.checked_add(4)
 }
 
-pub fn rows_len(rows: &[Row]) -> Option<usize>
+pub(crate) fn rows_len(rows: &[Row]) -> Option<usize>
     ensures { SomeIff result (rows_len rows.now < 2 ^ 64) (rows_len rows.now) }
 {
     let mut len = 0usize;
@@ -59,7 +59,7 @@ fn parts_len(parts: &[PartRef]) -> Option<usize>
     Some(len)
 }
 
-pub fn front_len(table: &Table, parts: &[PartRef]) -> Option<usize>
+pub(crate) fn front_len(table: &Table, parts: &[PartRef]) -> Option<usize>
     ensures { SomeIff result (front_len table.now parts.now < 2 ^ 64) (front_len table.now parts.now) }
 {
     let columns = columns_len(table.columns.as_slice())?;
@@ -68,7 +68,7 @@ pub fn front_len(table: &Table, parts: &[PartRef]) -> Option<usize>
     named.checked_add(parts)?.checked_add(3)
 }
 
-pub fn table_len(table: &Table, parts: &[PartRef], l2: &[Row], l1: &[Row]) -> Option<usize>
+pub(crate) fn table_len(table: &Table, parts: &[PartRef], l2: &[Row], l1: &[Row]) -> Option<usize>
     ensures { SomeIff result (drawn_len table.now parts.now l2.now l1.now < 2 ^ 64) (drawn_len table.now parts.now l2.now l1.now) }
 {
     let front = front_len(table, parts)?;

@@ -7,13 +7,13 @@ use std::alloc::{AllocError, Global};
 use ut_value::Seq;
 
 /// How many bytes have so many marks.
-pub fn marks_len(count: usize) -> usize
+pub(crate) fn marks_len(count: usize) -> usize
     ensures { result ≡ marks_len count }
 {
     count / 8 + usize::from(count % 8 > 0)
 }
 
-/// A byte of marks.
+// A byte of marks.
 fn mark_byte(marks: &[bool]) -> u8
     requires { length marks.now ≤ 8 }
     ensures byte { result ≡ mark_byte marks.now }
@@ -25,7 +25,7 @@ fn mark_byte(marks: &[bool]) -> u8
     }
 }
 
-/// The byte number `k` of these marks.
+// The byte number `k` of these marks.
 fn byte_at(marks: &[bool], k: usize) -> u8
     requires { k < marks_len (length marks.now) }
     ensures { result ≡ mark_byte (take 8 (drop (8 * k) marks.now)) }
@@ -35,7 +35,7 @@ fn byte_at(marks: &[bool], k: usize) -> u8
 }
 
 /// Puts the bytes of marks where there is room.
-pub fn put_marks(marks: &[bool], out: &mut Vec<u8>)
+pub(crate) fn put_marks(marks: &[bool], out: &mut Vec<u8>)
     requires { vec_len out.old + marks_len (length marks.now) ≤ vec_capacity out.old }
     ensures items { out.new.items ≡ out.old.items ++ mark_bytes marks.now }
     ensures len { vec_len out.new ≡ vec_len out.old + marks_len (length marks.now) }
@@ -47,7 +47,7 @@ pub fn put_marks(marks: &[bool], out: &mut Vec<u8>)
 }
 
 /// So many marks, and what stands behind their bytes.
-pub fn read_marks(
+pub(crate) fn read_marks(
     alloc: Global,
     count: u32,
     bytes: &[u8],
@@ -67,7 +67,7 @@ pub fn read_marks(
     Ok(Some((Seq::from_vec(marks), rest)))
 }
 
-/// Whether bit number i is set.
+// Whether bit number i is set.
 fn bit_at(bytes: &[u8], i: usize) -> bool
     requires { i / 8 < length bytes.now }
     ensures { result ≡ bit_in bytes.now i }
@@ -75,7 +75,7 @@ fn bit_at(bytes: &[u8], i: usize) -> bool
     (bytes[i / 8] >> (i % 8)) % 2 == 1
 }
 
-/// The first bits of the bytes.
+// The first bits of the bytes.
 fn marks_in(alloc: Global, count: usize, bytes: &[u8]) -> Result<Vec<bool>, AllocError>
     requires { count ≤ 8 * length bytes.now }
     ensures { IfOk result (λ v. v.items ≡ first_bits count bytes.now) }
@@ -87,7 +87,7 @@ fn marks_in(alloc: Global, count: usize, bytes: &[u8]) -> Result<Vec<bool>, Allo
     Ok(marks)
 }
 
-/// Whether these are the bytes of the marks.
+// Whether these are the bytes of the marks.
 fn are_spelled(marks: &[bool], bytes: &[u8]) -> bool
     requires { length bytes.now ≡ marks_len (length marks.now) }
     ensures { IsTrue result ↔ (bytes.now ≡ mark_bytes marks.now) }

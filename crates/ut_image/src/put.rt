@@ -33,7 +33,7 @@ fn put_cells(values: &[Value], out: &mut Vec<u8>)
     }
 }
 
-pub fn put_row(row: &Row, out: &mut Vec<u8>)
+pub(crate) fn put_row(row: &Row, out: &mut Vec<u8>)
     requires { vec_len out.old + row_len row.now ≤ vec_capacity out.old }
     ensures items { out.new.items ≡ out.old.items ++ row_bytes row.now }
     ensures len { vec_len out.new ≡ vec_len out.old + row_len row.now }
@@ -55,7 +55,7 @@ fn put_each_row(rows: &[Row], out: &mut Vec<u8>)
 }
 
 /// The number of rows, and each.
-pub fn put_rows(rows: &[Row], out: &mut Vec<u8>)
+pub(crate) fn put_rows(rows: &[Row], out: &mut Vec<u8>)
     requires few { length rows.now ≤ 2 ^ 31 }
     requires room { vec_len out.old + rows_len rows.now ≤ vec_capacity out.old }
     ensures items { out.new.items ≡ out.old.items ++ rows_bytes rows.now }
@@ -91,7 +91,7 @@ fn put_parts(parts: &[PartRef], out: &mut Vec<u8>)
 }
 
 /// A table's name, its columns and its parts.
-pub fn put_front(table: &Table, parts: &[PartRef], out: &mut Vec<u8>)
+pub(crate) fn put_front(table: &Table, parts: &[PartRef], out: &mut Vec<u8>)
     requires columns { length table.now.columns ≤ 64 }
     requires parts { length parts.now ≤ 8 }
     requires room { vec_len out.old + front_len table.now parts.now ≤ vec_capacity out.old }

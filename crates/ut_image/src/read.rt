@@ -10,7 +10,7 @@ use std::alloc::{AllocError, Global};
 use ut_value::{Seq, int_of};
 
 /// A thing that has a spelling under a context, with the reader of it.
-pub trait Spelled<C>: Drop {
+pub(crate) trait Spelled<C>: Drop {
     ghost spelling: { Self → List ℕ };
 
     ghost keeps: { C → Self → Bool };
@@ -29,7 +29,7 @@ pub trait Spelled<C>: Drop {
 const FIRST_ROOM: usize = 64;
 
 /// A list of so many things, and what stands behind them.
-pub fn read_list<'a, C, T: Spelled<C>>(
+pub(crate) fn read_list<'a, C, T: Spelled<C>>(
     alloc: Global,
     context: &C,
     count: usize,
@@ -52,7 +52,7 @@ pub fn read_list<'a, C, T: Spelled<C>>(
 }
 
 /// The first byte, and what stands behind it.
-pub fn first_byte(bytes: &[u8]) -> Option<(u8, &[u8])>
+pub(crate) fn first_byte(bytes: &[u8]) -> Option<(u8, &[u8])>
     ensures found { IfSome result (λ r. bytes.now ≡ r.0 ∷ r.1.now) }
     ensures none { IfNone result ((byte : ℕ) (rest : List ℕ) → bytes.now ≡ byte ∷ rest → ⊥) }
 {
@@ -63,7 +63,7 @@ pub fn first_byte(bytes: &[u8]) -> Option<(u8, &[u8])>
 }
 
 /// The bytes whose length stands before them, and what stands behind these.
-pub fn counted(bytes: &[u8]) -> Option<(&[u8], &[u8])>
+pub(crate) fn counted(bytes: &[u8]) -> Option<(&[u8], &[u8])>
     ensures found { IfSome result (λ r. bytes.now ≡ text_spelling r.0.now ++ r.1.now) }
     ensures none { IfNone result ((text rest : List ℕ) → bytes.now ≡ text_spelling text ++ rest → ⊥) }
 {
@@ -76,7 +76,7 @@ pub fn counted(bytes: &[u8]) -> Option<(&[u8], &[u8])>
 }
 
 /// A number's eight key bytes, and what stands behind these.
-pub fn read_int(bytes: &[u8]) -> Option<(i64, &[u8])>
+pub(crate) fn read_int(bytes: &[u8]) -> Option<(i64, &[u8])>
     ensures found { IfSome result (λ r. IsTrue (is_int r.0) × (bytes.now ≡ int_key r.0 ++ r.1.now)) }
     ensures none { IfNone result (length bytes.now < 8) }
 {
@@ -91,7 +91,7 @@ pub fn read_int(bytes: &[u8]) -> Option<(i64, &[u8])>
 }
 
 /// Four bytes of a number, the lowest first, and what stands behind these.
-pub fn read_u32(bytes: &[u8]) -> Option<(u32, &[u8])>
+pub(crate) fn read_u32(bytes: &[u8]) -> Option<(u32, &[u8])>
     ensures found { IfSome result (λ r. bytes.now ≡ to_le_bytes w32 r.0 ++ r.1.now) }
     ensures none { IfNone result (length bytes.now < 4) }
 {
@@ -102,7 +102,7 @@ pub fn read_u32(bytes: &[u8]) -> Option<(u32, &[u8])>
 }
 
 /// Eight bytes of a number, the lowest first, and what stands behind these.
-pub fn read_u64(bytes: &[u8]) -> Option<(u64, &[u8])>
+pub(crate) fn read_u64(bytes: &[u8]) -> Option<(u64, &[u8])>
     ensures found { IfSome result (λ r. bytes.now ≡ to_le_bytes w64 r.0 ++ r.1.now) }
     ensures none { IfNone result (length bytes.now < 8) }
 {

@@ -10,7 +10,7 @@ use crate::marks::read_marks;
 use crate::read::{Spelled, first_byte, read_list, read_u32, read_u64};
 use crate::{Drawn, PartRef};
 use std::alloc::{AllocError, Global};
-use ut_value::Seq;
+use ut_value::{PARTS_LIMIT, Seq};
 
 /// Where the bytes of a part begin, and how many bytes and rows it has.
 #[derive(Clone, Copy)]
@@ -61,10 +61,7 @@ impl Spelled<()> for PartRef {
     }
 }
 
-/// The most parts of a table.
-const MAX_PARTS: u8 = 8;
-
-/// A table's parts: their number, then each.
+// A table's parts: their number, then each.
 fn read_parts(alloc: Global, bytes: &[u8]) -> Result<Option<(Seq<PartRef>, &[u8])>, AllocError>
     ensures found { IfOk result (λ o. IfSome o (λ r. Begins parts_bytes are_parts bytes.now r.0 r.1.now)) }
     ensures none { IfOk result (λ o. IfNone o (BeginsNone parts_bytes are_parts bytes.now)) }
@@ -72,7 +69,7 @@ fn read_parts(alloc: Global, bytes: &[u8]) -> Result<Option<(Seq<PartRef>, &[u8]
     let Some((count, rest)) = first_byte(bytes) else {
         return Ok(None);
     };
-    if count > MAX_PARTS {
+    if count > PARTS_LIMIT {
         return Ok(None);
     }
     read_list(alloc, &(), usize::from(count), rest)

@@ -25,7 +25,7 @@ impl Model for KeyList {
     ghost invariant = { λ k. AreEnds 0 k.ends.items (length k.bytes.items) };
 }
 
-/// Where key `i` begins.
+// Where key `i` begins.
 fn start_of(ends: &[usize], i: usize) -> usize
     requires { i < length ends.now }
     ensures { result ≡ start_at 0 ends.now i }
@@ -33,7 +33,7 @@ fn start_of(ends: &[usize], i: usize) -> usize
     if i == 0 { 0 } else { ends[i - 1] }
 }
 
-/// The bytes of key `i`.
+// The bytes of key `i`.
 fn part<'a>(bytes: &'a [u8], ends: &[usize], i: usize) -> &'a [u8]
     requires index { i < length ends.now }
     requires ends { AreEnds 0 ends.now (length bytes.now) }

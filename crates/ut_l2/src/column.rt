@@ -93,7 +93,7 @@ impl Column {
         }
     }
 
-    /// Appends a value's key.
+    // Appends a value's key.
     fn push_value(&mut self, value: &Value) -> Result<(), AllocError>
         requires { length self.old < 2 ^ 31 }
         ensures ok { OnOk result (self.new ≡ self.old ++ key_of value.now ∷ []) }

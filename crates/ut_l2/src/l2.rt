@@ -36,7 +36,7 @@ impl Model for L2 {
     ghost invariant = { λ l. IsDelta l.ids.items l.columns.items };
 }
 
-/// Appends the rows' values to the columns from `first` on: to each or to none.
+// Appends the rows' values to the columns from `first` on: to each or to none.
 fn append_from(columns: &mut Vec<Column>, first: usize, rows: &[Row]) -> Result<(), AllocError>
     requires first { first ≤ length columns.old.items }
     requires wide { All (λ r. length r.values ≡ length columns.old.items) rows.now }
@@ -61,7 +61,7 @@ fn append_from(columns: &mut Vec<Column>, first: usize, rows: &[Row]) -> Result<
     }
 }
 
-/// Keeps the first n cells of the columns from `first` on.
+// Keeps the first n cells of the columns from `first` on.
 fn cut_from(columns: &mut Vec<Column>, first: usize, n: u32)
     requires first { first ≤ length columns.old.items }
     requires long { (j : ℕ) → first ≤ j → j < length columns.old.items → n ≤ length (get_or columns.old.items j []) }
@@ -76,7 +76,7 @@ fn cut_from(columns: &mut Vec<Column>, first: usize, n: u32)
     cut_from(columns, first + 1, n);
 }
 
-/// Appends the rows' values to columns of n cells each, some rows at a time: to each column or to none.
+// Appends the rows' values to columns of n cells each, some rows at a time: to each column or to none.
 fn append_pieces(columns: &mut Vec<Column>, n: u32, rows: &[Row]) -> Result<(), AllocError>
     requires wide { All (λ r. length r.values ≡ length columns.old.items) rows.now }
     requires equal { (j : ℕ) → j < length columns.old.items → length (get_or columns.old.items j []) ≡ n }
@@ -100,7 +100,7 @@ fn append_pieces(columns: &mut Vec<Column>, n: u32, rows: &[Row]) -> Result<(), 
     Ok(())
 }
 
-/// Appends the rows' ids.
+// Appends the rows' ids.
 fn append_ids(ids: &mut Vec<u32>, rows: &[Row])
     requires { vec_len ids.old + length rows.now ≤ vec_capacity ids.old }
     ensures { ids.new.items ≡ ids.old.items ++ map (λ r. r.id) rows.now }
@@ -155,7 +155,7 @@ impl L2 {
         self.ids[i as usize]
     }
 
-    /// A column.
+    // A column.
     fn column(&self, column: u8) -> &Column
         requires { column < self.now.width }
         ensures { result.now ≡ cells_at column self.now.rows }
@@ -234,7 +234,7 @@ impl L2 {
     }
 }
 
-/// Appends the codes whose key meets the comparison, ascending.
+// Appends the codes whose key meets the comparison, ascending.
 fn dict_codes(
     dict: &UnsortedDict,
     op: Cmp,

@@ -20,7 +20,9 @@ id_bytes ids = word_bytes (length ids) ++ flat_map word_bytes ids
 
 -- a column: its own dictionary and its code vector
 unfoldable pub column_bytes : ColumnValue → List ℕ
-column_bytes c = dict_bytes (own_dict (end_to_end c.before) c.cells) ++ code_bytes (vector_of c.before c.cells).codes (vector_of c.before c.cells).reach
+column_bytes c =
+    dict_bytes (own_dict (end_to_end c.before) c.cells)
+    ++ code_bytes (vector_of c.before c.cells).codes (vector_of c.before c.cells).reach
 
 -- the columns of rows behind dictionaries, from column j on
 abbrev pub columns_from : ℕ → List Chain → List KeyRow → List ColumnValue
@@ -64,4 +66,5 @@ pub record MayStand (columns : List Column) (main : MainValue) (part : PartValue
   pub wide : AreWide main.width part.rows
   pub few : rows_in main + length part.rows ≤ 2147483647
   pub ids : AreIds (map (λ r. r.id) part.rows)
-  pub kinds : (j : ℕ) → j < length columns → AreKeys (kind_at j columns) (own_dict (end_to_end (get_or part.before j [])) (cells_at j part.rows))
+  pub kinds : (j : ℕ) → j < length columns
+      → AreKeys (kind_at j columns) (own_dict (end_to_end (get_or part.before j [])) (cells_at j part.rows))

@@ -24,7 +24,7 @@ use ut_key::Steps;
 use ut_prefix::DictChain;
 use ut_value::{Column, Kind};
 
-/// Appends a column's own dictionary and codes. At a refusal some bytes may have been added.
+// Appends a column's own dictionary and codes. At a refusal some bytes may have been added.
 fn append_column(column: &CodedColumn, out: &mut Vec<u8>) -> Result<(), AllocError>
     ensures ok { OnOk result (out.new.items ≡ out.old.items ++ column_bytes column.now) }
     ensures err { OnErr result (take (length out.old.items) out.new.items ≡ out.old.items) }
@@ -34,7 +34,7 @@ fn append_column(column: &CodedColumn, out: &mut Vec<u8>) -> Result<(), AllocErr
     Ok(())
 }
 
-/// Appends the columns one after the other. At a refusal some bytes may have been added.
+// Appends the columns one after the other. At a refusal some bytes may have been added.
 fn append_columns(columns: &[CodedColumn], out: &mut Vec<u8>) -> Result<(), AllocError>
     ensures ok { OnOk result (out.new.items ≡ out.old.items ++ flat_map column_bytes columns.now) }
     ensures err { OnErr result (take (length out.old.items) out.new.items ≡ out.old.items) }
@@ -45,7 +45,7 @@ fn append_columns(columns: &[CodedColumn], out: &mut Vec<u8>) -> Result<(), Allo
     Ok(())
 }
 
-/// Appends ids and columns. At a refusal some bytes may have been added.
+// Appends ids and columns. At a refusal some bytes may have been added.
 fn append_part(part: &Part, out: &mut Vec<u8>) -> Result<(), AllocError>
     ensures ok { OnOk result (out.new.items ≡ out.old.items ++ part_bytes part.now) }
     ensures err { OnErr result (take (length out.old.items) out.new.items ≡ out.old.items) }
@@ -69,7 +69,7 @@ pub fn part_bytes(part: &Part, out: &mut Vec<u8>) -> Result<(), AllocError>
     }
 }
 
-/// The column behind a chain that begins the bytes, and what stands behind it.
+// The column behind a chain that begins the bytes, and what stands behind it.
 fn column_from<'a, L: Ledger>(
     alloc: Global,
     bytes: &'a [u8],
@@ -99,7 +99,7 @@ fn column_from<'a, L: Ledger>(
     }
 }
 
-/// The columns of a part behind main that are all of the bytes.
+// The columns of a part behind main that are all of the bytes.
 fn columns_from<L: Ledger>(
     alloc: Global,
     bytes: &[u8],
@@ -135,7 +135,7 @@ fn columns_from<L: Ledger>(
     }
 }
 
-/// The part behind main whose bytes these are, with a counter for reading keys over a new ledger.
+// The part behind main whose bytes these are, with a counter for reading keys over a new ledger.
 fn counted_part<L: Ledger>(
     alloc: Global,
     bytes: &[u8],

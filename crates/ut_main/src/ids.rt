@@ -9,15 +9,16 @@ ghost use Rattle.ut_main.specs.Reading.{MayBeIds};
 
 use std::alloc::{AllocError, Global};
 use ut_bits::{append_word, read_word};
+use ut_value::ROWS_LIMIT;
 
 /// How many bytes a number has.
 const WORD_LEN: usize = 4;
 
 /// The greatest row id.
-const LAST_ID: u32 = 1 << 31;
+const LAST_ID: u32 = ROWS_LIMIT;
 
 /// How many rows the parts of a main have at most.
-const MOST_ROWS: u32 = (1 << 31) - 1;
+const MOST_ROWS: u32 = ROWS_LIMIT - 1;
 
 /// Appends the number of ids and the ids. At a refusal some may have been added.
 pub(crate) fn append_ids(ids: &[u32], out: &mut Vec<u8>) -> Result<(), AllocError>
@@ -32,7 +33,7 @@ pub(crate) fn append_ids(ids: &[u32], out: &mut Vec<u8>) -> Result<(), AllocErro
     Ok(())
 }
 
-/// The ids that begin the bytes.
+// The ids that begin the bytes.
 fn read_ids(alloc: Global, bytes: &[u8], rows: usize) -> Result<Option<Vec<u32>>, AllocError>
     requires { rows * 4 ≤ length bytes.now }
     ensures some { IfOk result (λ found. IfSome found (λ ids.

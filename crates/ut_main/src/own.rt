@@ -14,7 +14,7 @@ use ut_value::{Kind, is_text};
 /// How many bytes the key of a number has.
 const INT_KEY_LEN: usize = 8;
 
-/// Whether bytes are a key of a kind.
+// Whether bytes are a key of a kind.
 fn is_key(kind: Kind, bytes: &[u8]) -> bool
     ensures { result ≡ is_key kind bytes.now }
 {
@@ -24,7 +24,7 @@ fn is_key(kind: Kind, bytes: &[u8]) -> bool
     }
 }
 
-/// Whether the keys of a dictionary are of a kind.
+// Whether the keys of a dictionary are of a kind.
 fn are_keys<L: Ledger>(kind: Kind, dict: &PrefixDict, steps: &mut Steps<L>) -> bool
     ensures { IsTrue result ↔ AreKeys kind dict.now }
 {
@@ -36,7 +36,7 @@ fn are_keys<L: Ledger>(kind: Kind, dict: &PrefixDict, steps: &mut Steps<L>) -> b
     true
 }
 
-/// Whether a dictionary may be the own one of so many rows behind a chain.
+// Whether a dictionary may be the own one of so many rows behind a chain.
 fn may_be_own<L: Ledger>(
     rows: u32,
     kind: Kind,

@@ -8,7 +8,7 @@ ghost use Rattle.ut_main.specs.Reading.{AreUsed, MayBeCodes};
 use std::alloc::{AllocError, Global};
 use ut_codes::CodeVec;
 
-/// A mark for each of `count` codes from `start` on: whether it stands among the codes.
+// A mark for each of `count` codes from `start` on: whether it stands among the codes.
 fn mark_used(
     alloc: Global,
     codes: &CodeVec,
@@ -30,7 +30,7 @@ fn mark_used(
     Ok(marks)
 }
 
-/// Whether each of `count` codes from `start` on stands among the codes.
+// Whether each of `count` codes from `start` on stands among the codes.
 fn are_used(alloc: Global, codes: &CodeVec, start: u32, count: u32) -> Result<bool, AllocError>
     requires { AllBelow (start + count) codes.now.codes }
     ensures { IfOk result (λ b. IsTrue b ↔ AreUsed start count codes.now.codes) }

@@ -4,7 +4,7 @@ ghost use Rattle.std.specs.List.{list_all};
 ghost use Rattle.ut_mask.specs.Mask.{word_bits};
 
 /// The word whose lowest `count` bits are set.
-pub fn ones(count: u32) -> u64
+pub(crate) fn ones(count: u32) -> u64
     requires { count ≤ 64 }
     ensures { result + 1 ≡ 2 ^ count }
 {
@@ -15,7 +15,7 @@ pub fn ones(count: u32) -> u64
 }
 
 /// The word whose bits are set but for those from one on to the end of a range.
-pub fn ones_outside(from: u32, to: u32) -> u64
+pub(crate) fn ones_outside(from: u32, to: u32) -> u64
     requires order { from ≤ to }
     requires within { to ≤ 64 }
     ensures { word_bits result ≡ replicate from true ++ (replicate (to - from) false ++ replicate (64 - to) true) }
@@ -24,7 +24,7 @@ pub fn ones_outside(from: u32, to: u32) -> u64
 }
 
 /// The lowest bit from one on that is set, 64 where there is none.
-pub fn lowest_from(word: u64, from: u32) -> u32
+pub(crate) fn lowest_from(word: u64, from: u32) -> u32
     requires { from < 64 }
     ensures behind { from ≤ result }
     ensures within { result ≤ 64 }
@@ -39,7 +39,7 @@ pub fn lowest_from(word: u64, from: u32) -> u32
 }
 
 /// Whether no bit is set.
-pub fn is_clear(word: u64) -> bool
+pub(crate) fn is_clear(word: u64) -> bool
     ensures { result ≡ list_all not (word_bits word) }
 {
     word == 0

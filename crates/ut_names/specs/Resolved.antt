@@ -48,7 +48,8 @@ target_known tables name column preds = known (λ cs. has_column cs column && pr
 
 -- whether the new value of an update, and those that it compares with, are of their columns' kinds
 abbrev pub target_fits : List Table → List ℕ → List ℕ → Value → List Pred → Bool
-target_fits tables name column value preds = has_kind value (kind_in (columns_in tables name) column) && preds_fit (columns_in tables name) preds
+target_fits tables name column value preds =
+    has_kind value (kind_in (columns_in tables name) column) && preds_fit (columns_in tables name) preds
 
 -- The rows that an update changes, and the column that gets its value.
 pub record IsTarget (tables : List Table) (name : List ℕ) (column : List ℕ) (value : Value) (asked : List Pred) (t : Target) : Type 0 where
@@ -66,13 +67,20 @@ AreColumns columns (Some names) which.All = ⊥
 
 -- the question by the places of what it names
 abbrev pub IsQuestion : List Table → Query → Question → Type 0
-IsQuestion tables (queries.Select name names preds) (questions.Select rows columns) = IsSelection tables name preds rows × AreColumns (columns_in tables name) names columns
+IsQuestion tables (queries.Select name names preds) (questions.Select rows columns) =
+    IsSelection tables name preds rows × AreColumns (columns_in tables name) names columns
 IsQuestion tables (queries.Count name preds) (questions.Count rows) = IsSelection tables name preds rows
-IsQuestion tables (queries.Sum name column preds) (questions.Sum rows place) = IsSelection tables name preds rows × IsColumn tables name column place
-IsQuestion tables (queries.Min name column preds) (questions.Min rows place) = IsSelection tables name preds rows × IsColumn tables name column place
-IsQuestion tables (queries.Max name column preds) (questions.Max rows place) = IsSelection tables name preds rows × IsColumn tables name column place
-IsQuestion tables (queries.Group name key sum preds) (questions.Group rows k s) = IsSelection tables name preds rows × IsColumn tables name key k × IsColumn tables name sum s
-IsQuestion tables (queries.Join left c right d) (questions.Join l i r j) = (place_of tables left ≡ Some l) × IsColumn tables left c i × (place_of tables right ≡ Some r) × IsColumn tables right d j
+IsQuestion tables (queries.Sum name column preds) (questions.Sum rows place) =
+    IsSelection tables name preds rows × IsColumn tables name column place
+IsQuestion tables (queries.Min name column preds) (questions.Min rows place) =
+    IsSelection tables name preds rows × IsColumn tables name column place
+IsQuestion tables (queries.Max name column preds) (questions.Max rows place) =
+    IsSelection tables name preds rows × IsColumn tables name column place
+IsQuestion tables (queries.Group name key sum preds) (questions.Group rows k s) =
+    IsSelection tables name preds rows × IsColumn tables name key k × IsColumn tables name sum s
+IsQuestion tables (queries.Join left c right d) (questions.Join l i r j) =
+    (place_of tables left ≡ Some l) × IsColumn tables left c i × (place_of tables right ≡ Some r)
+    × IsColumn tables right d j
 IsQuestion tables _ _ = ⊥
 
 -- The question names what is there, and its values and columns are of the kinds that they have to be.

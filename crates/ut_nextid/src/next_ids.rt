@@ -7,10 +7,7 @@ ghost use Rattle.ut_nextid.specs.NextIds.{entries_next, entry_next, ops_next, op
 use std::alloc::{AllocError, Global};
 use std::marker::Model;
 use ut_plain::{Reply, Statement};
-use ut_value::{Entry, Op};
-
-/// Sixteen sessions, and a first seat that is nobody's.
-const SEATS: usize = 17;
+use ut_value::{Entry, Op, SEATS};
 
 /// One above the greatest id that the journal's entries inserted, and for each session the same of its open transaction, 0 where it inserted none.
 /// A store gives ids to rows of transactions that are given up, so its own next id may be greater.

@@ -7,12 +7,13 @@ use Rattle.std.specs.Ordering.{is_eq}
 use Rattle.std.specs.Option.{unwrap_or}
 use Rattle.ut_key.specs.Keys.{key_cmp}
 
--- a key at its place among ascending keys, unless it is there
+-- keys with one more, by how it compares with the first: in front of it, left out, or among the others
 abbrev pub placed : Ordering → List ℕ → List ℕ → List (List ℕ) → List (List ℕ) → List (List ℕ)
 placed Less key first rest inserted = key ∷ first ∷ rest
 placed Equal key first rest inserted = first ∷ rest
 placed Greater key first rest inserted = first ∷ inserted
 
+-- a key at its place among ascending keys, unless it is there
 abbrev pub insert_key : List ℕ → List (List ℕ) → List (List ℕ)
 insert_key key [] = key ∷ []
 insert_key key (first ∷ rest) = placed (key_cmp key first) key first rest (insert_key key rest)

@@ -62,24 +62,30 @@ row_of n p = record { table = n; values = p.values }
 -- each live place holds the row of its id, and each row has a live place
 pub record AreRowsOf (stages : Stages) (rows : Rows) : Type 0 where
   pub each : (n : ℕ) (p : Placed) → StandsAt stages n p → p.dead ≡ false → finmap.get rows p.id ≡ Some (row_of n p)
-  pub only : (id : ℕ) (row : Stored) → finmap.get rows id ≡ Some row → (n : ℕ) × (p : Placed) × StandsAt stages n p × (p.dead ≡ false) × (p.id ≡ id) × (row_of n p ≡ row)
+  pub only : (id : ℕ) (row : Stored) → finmap.get rows id ≡ Some row
+      → (n : ℕ) × (p : Placed) × StandsAt stages n p × (p.dead ≡ false) × (p.id ≡ id) × (row_of n p ≡ row)
 
 -- ---- of the stages that are captured
 
 -- a place stands in a stage of a table, the closed one included
 abbrev pub StandsAnywhere : TableStages → Placed → Type 0
-StandsAnywhere t p = Contains t.l1 p ⊎ Contains t.l2 p ⊎ Contains (unwrap_or t.closed []) p ⊎ ((part : List Placed) × Contains t.parts part × Contains part p)
+StandsAnywhere t p =
+    Contains t.l1 p ⊎ Contains t.l2 p ⊎ Contains (unwrap_or t.closed []) p
+    ⊎ ((part : List Placed) × Contains t.parts part × Contains part p)
 
 -- a live place holds the row of its id, and each row has one
 pub record AreHeldBy (stages : Stages) (rows : Rows) : Type 0 where
   pub each : (n : ℕ) (p : Placed) → StandsAnywhere (stages_at stages n) p → is_live rows p ≡ true → finmap.get rows p.id ≡ Some (row_of n p)
-  pub only : (id : ℕ) (row : Stored) → finmap.get rows id ≡ Some row → (n : ℕ) × (p : Placed) × StandsAnywhere (stages_at stages n) p × (is_live rows p ≡ true) × (p.id ≡ id) × (row_of n p ≡ row)
+  pub only : (id : ℕ) (row : Stored) → finmap.get rows id ≡ Some row
+      → (n : ℕ) × (p : Placed) × StandsAnywhere (stages_at stages n) p × (is_live rows p ≡ true) × (p.id ≡ id) × (row_of n p ≡ row)
 
 -- ---- of the rows that stand in no part
 
+-- the ids of the rows in these places
 abbrev pub ids : List Placed → List ℕ
 ids places = map (λ (p : Placed). p.id) places
 
+-- the ids of the rows in the first and second stages of all tables
 abbrev pub ids_of : Stages → List ℕ
 ids_of [] = []
 ids_of (t ∷ ts) = ids t.l1 ++ (ids t.l2 ++ ids_of ts)

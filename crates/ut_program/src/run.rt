@@ -33,7 +33,7 @@ pub fn program<W: Words, S: Source<K>, K: Sink<D>, D: Disk + Send>(
     ExitCode::from(exit_of(status))
 }
 
-/// A run with the words.
+// A run with the words.
 fn run<W: Words, S: Source<K>, K: Sink<D>, D: Disk + Send>(
     rt: &(impl AllocGlobal + Threads + Wait + Sync),
     words: &W,
@@ -53,7 +53,7 @@ fn run<W: Words, S: Source<K>, K: Sink<D>, D: Disk + Send>(
     }
 }
 
-/// A run with these words, if there is memory to hand them on.
+// A run with these words, if there is memory to hand them on.
 fn run_words<S: Source<K>, K: Sink<D>, D: Disk + Send>(
     rt: &(impl Threads + Wait + Sync),
     alloc: Global,
@@ -73,7 +73,7 @@ fn run_words<S: Source<K>, K: Sink<D>, D: Disk + Send>(
     }
 }
 
-/// The words couldn't be had, and nothing is done.
+// The words couldn't be had, and nothing is done.
 fn unasked<S: Source<K>, K: Sink<D>, D: Disk>(
     status: Status,
     source: &mut S,
@@ -89,7 +89,7 @@ fn unasked<S: Source<K>, K: Sink<D>, D: Disk>(
     status
 }
 
-/// A run with these words.
+// A run with these words.
 fn answer<S: Source<K>, K: Sink<D>, D: Disk + Send>(
     rt: &(impl Threads + Wait + Sync),
     alloc: Global,
@@ -106,7 +106,7 @@ fn answer<S: Source<K>, K: Sink<D>, D: Disk + Send>(
     top(rt, alloc, words, source, sink, disk, &NoHook).status
 }
 
-/// The words as texts, each in its place.
+// The words as texts, each in its place.
 fn texts_of(alloc: Global, words: &[String]) -> Result<Vec<&str>, Status>
     ensures all { IfOk result (λ texts. map (λ w. w.now) texts.items ≡ map string_bytes words.now) }
     ensures says { IfErr result IsUnasked }

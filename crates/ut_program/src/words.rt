@@ -42,7 +42,7 @@ impl<'a, R: AllocGlobal + Env> Words for ProcessWords<'a, R> {
     }
 }
 
-/// All the words of a list, in order.
+// All the words of a list, in order.
 fn gathered(alloc: Global, args: env::Args<Global>) -> Result<Vec<String>, Status>
     ensures all { IfOk result (λ words. words.items ≡ into_iter_items args) }
     ensures says { IfErr result IsUnasked }

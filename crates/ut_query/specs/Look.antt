@@ -24,6 +24,7 @@ pub record Sight : Type 0 where
   pub snapshot : ℕ
   pub own : Option ℕ
 
+-- what a look in memory shows
 abbrev pub sight : Look → Sight
 sight look = record {
   tables = look.tables.now;

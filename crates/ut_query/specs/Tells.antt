@@ -21,7 +21,7 @@ use Rattle.ut_names.specs.Resolved.{IsSelection, Resolves}
 use Rattle.ut_query.specs.Look.{Sight, Sees}
 
 -- The question names what is there, and the reply is what it means on the rows that are seen, whichever these are.
-pub record IsTold (l : Sight) (query : Query) (reply : Reply) : Type 0 where
+pub record IsAnswer (l : Sight) (query : Query) (reply : Reply) : Type 0 where
   pub known : query_known l.tables query ≡ true
   pub fits : query_fits l.tables query ≡ true
   pub told : (rows : List (ℕ × Stored)) → Sees l rows → reply ≡ told l.tables rows query
@@ -43,20 +43,23 @@ pub record IsSelected (tables : List Table) (rows : Selection) : Type 0 where
 
 -- What was found are the rows of a selection, there and of the right kinds.
 pub record Shows (l : Sight) (rows : Selection) (s : Staged) (hits : List Found) : Type 0 where
-  pub found : (name : List ℕ) (asked : List Pred) (seen : List (ℕ × Stored)) → IsSelection l.tables name asked rows → Sees l seen → condition.found l.tables seen name asked ≡ rows_at rows.table s hits
+  pub found : (name : List ℕ) (asked : List Pred) (seen : List (ℕ × Stored)) → IsSelection l.tables name asked rows
+      → Sees l seen → condition.found l.tables seen name asked ≡ rows_at rows.table s hits
   pub columns : (name : List ℕ) (asked : List Pred) → IsSelection l.tables name asked rows → columns_in l.tables name ≡ s.columns
   pub fit : Fit s hits
   pub few : length hits ≤ 2 ^ 31
 
 -- so many rows of a selection are seen
 pub record ShowsCount (l : Sight) (rows : Selection) (count : ℕ) : Type 0 where
-  pub found : (name : List ℕ) (asked : List Pred) (seen : List (ℕ × Stored)) → IsSelection l.tables name asked rows → Sees l seen → count ≡ length (condition.found l.tables seen name asked)
+  pub found : (name : List ℕ) (asked : List Pred) (seen : List (ℕ × Stored)) → IsSelection l.tables name asked rows
+      → Sees l seen → count ≡ length (condition.found l.tables seen name asked)
   pub few : count ≤ 2 ^ 31
 
 -- The rows of a selection by the codes of a column: those that are in main are counted, the rest is listed.
 pub record ShowsTally (l : Sight) (rows : Selection) (s : Staged) (column : ℕ) (counts : List ℕ) (rest : List Found) : Type 0 where
   pub tally : (name : List ℕ) (asked : List Pred) (seen : List (ℕ × Stored)) → IsSelection l.tables name asked rows → Sees l seen
-      → (found : List Found) × (condition.found l.tables seen name asked ≡ rows_at rows.table s found) × Fit s found × IsTally s column found counts rest
+      → (found : List Found) × (condition.found l.tables seen name asked ≡ rows_at rows.table s found)
+      × Fit s found × IsTally s column found counts rest
   pub columns : (name : List ℕ) (asked : List Pred) → IsSelection l.tables name asked rows → columns_in l.tables name ≡ s.columns
   pub fit : Fit s rest
   pub few : length rest ≤ 2 ^ 31

@@ -59,7 +59,7 @@ pub(crate) fn sum_of(
     Ok(Reply::Sum(total))
 }
 
-/// The sum of a column by its codes.
+// The sum of a column by its codes.
 fn sum_of_codes(
     alloc: Global,
     look: &Look<'_>,
@@ -125,7 +125,7 @@ pub(crate) fn groups_of(
     Ok(Reply::Groups(groups))
 }
 
-/// One side of a join: all rows of a table.
+// One side of a join: all rows of a table.
 fn all_of(alloc: Global, table: usize) -> Selection
     ensures table { result.table ≡ table }
     ensures all { result.preds.items ≡ [] }

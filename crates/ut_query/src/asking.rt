@@ -4,7 +4,7 @@ ghost use Rattle.ut_plain.specs.Names.{query_known};
 ghost use Rattle.ut_plain.specs.Kinds.{query_fits};
 ghost use Rattle.ut_names.specs.Resolved.{Hinders};
 ghost use Rattle.ut_query.specs.Look.{CanLook, sight};
-ghost use Rattle.ut_query.specs.Tells.{IsAsked, IsTold, Tells};
+ghost use Rattle.ut_query.specs.Tells.{IsAsked, IsAnswer, Tells};
 
 use crate::answers::{count_rows, greatest_of, groups_of, least_of, pairs_of, select_rows, sum_of};
 use crate::look::Look;
@@ -16,7 +16,7 @@ use ut_plain::{Query, Refusal, Reply};
 /// doesn't suit, else that memory ran out. Reads what it is asked for and changes nothing.
 pub fn ask(alloc: Global, look: &Look<'_>, query: &Query) -> Result<Reply, Refusal>
     requires { CanLook (sight look.now) }
-    ensures ok { IfOk result (IsTold (sight look.now) query.now) }
+    ensures ok { IfOk result (IsAnswer (sight look.now) query.now) }
     ensures err { IfErr result (Hinders (query_known look.now.tables.now query.now) (query_fits look.now.tables.now query.now)) }
 {
     let question = question(alloc, look.tables, query)?;

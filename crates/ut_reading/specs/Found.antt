@@ -22,7 +22,9 @@ pub record Reaches (old new : Reader) (v : View) : Type 0 where
   pub more : IsTold v → ReachMore v.seen.pages old.pages.reached new.pages.reached
 
 -- a part was read behind main
-pub record FoundPart (columns : List Column) (main : MainValue) (ref : PartRef) (read : PartValue) (old new : Reader) (v : View) : Type 0 where
+pub record FoundPart
+    (columns : List Column) (main : MainValue) (ref : PartRef) (read : PartValue) (old new : Reader)
+    (v : View) : Type 0 where
   pub reaches : Reaches old new v
   pub stands : IsTold v → StandsPart columns main ref read.rows new.pages.reached v.seen.pages
   pub count : IsTold v → length new.pages.reached ≡ length old.pages.reached + pages_for ref.length

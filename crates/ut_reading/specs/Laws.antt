@@ -2,7 +2,7 @@
 use Rattle.std.specs.Prelude.{ℕ, ◌≡◌, ◌≤◌, List, length, IsTrue}
 use Rattle.std.specs.FinMap as finmap
 use Rattle.ut_outside.specs.Disk.{Image}
-use Rattle.ut_redo.specs.Appends.{Place}
+use Rattle.ut_redo.specs.Appends.{LogPlace}
 use Rattle.ut_plain.specs.State.{State}
 use Rattle.ut_plain.specs.Journal.{Journal, journal_len, load_of, can_all}
 use Rattle.ut_plain.specs.Reached.{MayOpen}
@@ -17,7 +17,7 @@ use Rattle.ut_durable.specs.Journals.{IsReading}
 
 -- Files are read in one way at most: they determine the journal, the directory and the log's end.
 abbrev pub OneStore : Type 0
-OneStore = (j j' : Journal) (d d' : Directory) (end end' : Place) (c : Image) → IsReading j d end c → IsReading j' d' end' c
+OneStore = (j j' : Journal) (d d' : Directory) (end end' : LogPlace) (c : Image) → IsReading j d end c → IsReading j' d' end' c
     → (j ≡ j') × (d ≡ d') × (end ≡ end')
 
 -- A page file has one image.
@@ -31,6 +31,7 @@ abbrev pub ImageIsBase : Type 0
 ImageIsBase = (slot : Slot) (reached : List ℕ) (root : Root) (d : Directory) (file : List ℕ) → HasImage slot reached root d file
     → (s : State) × IsBase root d s × (finmap.len s.rows ≡ length (image_ids d.stages))
 
+-- A root and its directory are the image of at most one state.
 abbrev pub OneBase : Type 0
 OneBase = (root : Root) (d : Directory) (s t : State) → IsBase root d s → IsBase root d t → s ≡ t
 

@@ -33,7 +33,8 @@ pub record IsImageIn (image : Image) (d : Directory) (file : List ℕ) : Type 0 
   pub there : AreThere image.pages.reached file
   pub shown : Show image.tables image.mains d
 
--- A root, and tables and mains in memory: they show a directory that an image of the root may have. With it the root is the image of one state (`base` of the laws).
+-- A root, and tables and mains in memory: they show a directory that an image of the root may have.
+-- With it the root is the image of one state (`base` of the laws).
 pub record Begins (root : Root) (tables : List Drawn) (mains : List MainValue) (d : Directory) : Type 0 where
   pub rules : IsRoot root
   pub shown : Show tables mains d

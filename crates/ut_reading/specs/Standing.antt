@@ -17,9 +17,11 @@ use Rattle.ut_durable.specs.Images.{StandsIn, IsWithin, AreThere}
 abbrev pub part_of : MainValue → List KeyRow → PartValue
 part_of main rows = record { before = dicts_behind main; rows = rows }
 
+-- main with one part more
 abbrev pub with_part : MainValue → List KeyRow → MainValue
 with_part main rows = record main { parts = main.parts ++ rows ∷ [] }
 
+-- main of a table with so many columns, without a part
 abbrev pub no_parts : ℕ → MainValue
 no_parts width = record { width = width; parts = [] }
 
@@ -48,20 +50,23 @@ abbrev pub PartsFit : (Chain → Type 0) → List Column → MainValue → List 
 PartsFit Stands columns main [] [] = Unit {0}
 PartsFit Stands columns main [] (rows ∷ parts) = ⊥
 PartsFit Stands columns main (ref ∷ refs) [] = ⊥
-PartsFit Stands columns main (ref ∷ refs) (rows ∷ parts) = PartFits Stands columns main ref rows × PartsFit Stands columns (with_part main rows) refs parts
+PartsFit Stands columns main (ref ∷ refs) (rows ∷ parts) =
+    PartFits Stands columns main ref rows × PartsFit Stands columns (with_part main rows) refs parts
 
 -- the parts of a table
 pub record MainFits (Stands : Chain → Type 0) (t : Drawn) (main : MainValue) : Type 0 where
   pub width : main.width ≡ length t.table.columns
   pub parts : PartsFit Stands t.table.columns (no_parts (length t.table.columns)) t.parts main.parts
 
--- the same in a page file
+-- the rows of a part stand on reached pages of a page file
 abbrev pub StandsPart : List Column → MainValue → PartRef → List KeyRow → (reached file : List ℕ) → Type 0
 StandsPart columns main ref rows reached file = PartFits (IsReached reached file) columns main ref rows
 
+-- the parts of a list stand there
 abbrev pub StandParts : List Column → MainValue → List PartRef → List (List KeyRow) → (reached file : List ℕ) → Type 0
 StandParts columns main refs parts reached file = PartsFit (IsReached reached file) columns main refs parts
 
+-- the parts of a table stand there
 abbrev pub StandsMain : (reached file : List ℕ) → Drawn → MainValue → Type 0
 StandsMain reached file t main = MainFits (IsReached reached file) t main
 
@@ -71,6 +76,7 @@ StandsMain reached file t main = MainFits (IsReached reached file) t main
 abbrev pub part_pages : List PartRef → ℕ
 part_pages refs = sum_by (λ (r : PartRef). pages_for r.length) refs
 
+-- the chains of all tables' parts take so many
 abbrev pub all_part_pages : List Drawn → ℕ
 all_part_pages tables = sum_by (λ (t : Drawn). part_pages t.parts) tables
 
@@ -80,6 +86,7 @@ all_part_pages tables = sum_by (λ (t : Drawn). part_pages t.parts) tables
 abbrev pub live_in : PartRef → List KeyRow → List ℕ
 live_in ref rows = map (λ (r : KeyRow). r.id) (items_where_true ref.live rows)
 
+-- those of the live rows of a table's parts
 abbrev pub live_in_parts : List PartRef → List (List KeyRow) → List ℕ
 live_in_parts [] parts = []
 live_in_parts (ref ∷ refs) [] = []

@@ -28,7 +28,7 @@ pub struct Image {
     pub mains: Seq<Main>,
 }
 
-/// The tables of a directory's bytes. No bytes are the directory without tables.
+// The tables of a directory's bytes. No bytes are the directory without tables.
 fn tables_from(alloc: Global, bytes: &[u8], root: &Root) -> Result<Option<Seq<Drawn>>, AllocError>
     ensures found { IfOk result (λ o. IfSome o (λ v. AreDrawnIn root.now bytes.now v)) }
     ensures none { IfOk result (λ o. IfNone o ((v : List Drawn) → AreDrawnIn root.now bytes.now v → ⊥)) }

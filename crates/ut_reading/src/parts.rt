@@ -24,7 +24,7 @@ pub(crate) struct Reader {
     pub(crate) live: Vec<u32>,
 }
 
-/// Adds the ids of a part's live rows.
+// Adds the ids of a part's live rows.
 fn add_live(live: &mut Vec<u32>, marks: &[bool], part: &Part) -> Result<(), AllocError>
     requires { length marks.now ≡ length part.now.rows }
     ensures { OnOk result (live.new.items ≡ live.old.items ++ map (λ r. r.id) (items_where_true marks.now part.now.rows)) }
@@ -37,7 +37,7 @@ fn add_live(live: &mut Vec<u32>, marks: &[bool], part: &Part) -> Result<(), Allo
     Ok(())
 }
 
-/// Adds a part that was read behind main.
+// Adds a part that was read behind main.
 fn add_part(alloc: Global, main: &mut Main, part: Part) -> Result<(), AllocError>
     requires fewer { length main.old.parts < 8 }
     requires behind { part.before ≡ dicts_behind main.old }
@@ -48,7 +48,7 @@ fn add_part(alloc: Global, main: &mut Main, part: Part) -> Result<(), AllocError
 }
 
 impl Reader {
-    /// The part that a directory names, behind main.
+    // The part that a directory names, behind main.
     fn read_part<D: Disk>(
         &mut self,
         alloc: Global,
@@ -76,7 +76,7 @@ impl Reader {
         Ok(read)
     }
 
-    /// The parts of a table.
+    // The parts of a table.
     fn read_main<D: Disk>(
         &mut self,
         alloc: Global,

@@ -9,7 +9,9 @@ IsBelow reach None = ⊥
 
 -- each code has an entry, below reach
 abbrev pub HaveEntries : List (Option ℕ) → ℕ → List ℕ → Type 0
-HaveEntries entries reach codes = (i : ℕ) → i < length codes → (get_or codes i 0 < length entries) × IsBelow reach (get_or entries (get_or codes i 0) None)
+HaveEntries entries reach codes =
+    (i : ℕ) → i < length codes
+    → (get_or codes i 0 < length entries) × IsBelow reach (get_or entries (get_or codes i 0) None)
 
 -- the entries of all codes, the first of which, so many, stay as they are
 abbrev pub with_staying : ℕ → List (Option ℕ) → List (Option ℕ)

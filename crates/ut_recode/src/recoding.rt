@@ -42,7 +42,7 @@ pub fn recode<R: Threads + Sync>(
     join_shares(alloc, codes, first, map, shares.as_slice())
 }
 
-/// All codes, on this thread.
+// All codes, on this thread.
 fn recode_all(
     alloc: Global,
     codes: &[u32],
@@ -56,7 +56,7 @@ fn recode_all(
     recode_span(alloc, codes, first, map, reach, 0, codes.len())
 }
 
-/// Share `k` of the codes.
+// Share `k` of the codes.
 fn recode_share(
     alloc: Global,
     codes: &[u32],
@@ -78,7 +78,7 @@ fn recode_share(
     recode_span(alloc, codes, first, map, reach, from as usize, to as usize)
 }
 
-/// A code by its map.
+// A code by its map.
 #[tactic(auto, using(crate::proofs::ShareLemmas::stays_at, crate::proofs::ShareLemmas::behind_at, crate::proofs::ShareLemmas::length_with_staying))]
 fn new_code(first: u32, map: &[Option<u32>], code: u32) -> u32
     requires { code < length (with_staying first map.now) }
@@ -91,7 +91,7 @@ fn new_code(first: u32, map: &[Option<u32>], code: u32) -> u32
     }
 }
 
-/// The codes from one place to another.
+// The codes from one place to another.
 fn recode_span(
     alloc: Global,
     codes: &[u32],
@@ -113,7 +113,7 @@ fn recode_span(
     Ok(out)
 }
 
-/// Lays the shares end to end.
+// Lays the shares end to end.
 fn join_shares(
     alloc: Global,
     codes: &[u32],

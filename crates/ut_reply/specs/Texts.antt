@@ -43,6 +43,7 @@ rows_text tuples = codes "rows " ++ decimal (length tuples) ++ flat_map (λ t. 1
 abbrev pub groups_text : List Group → List ℕ
 groups_text groups = codes "groups " ++ decimal (length groups) ++ flat_map (λ g. 10 ∷ group_text g) groups
 
+-- the word for a state in which a statement is refused
 abbrev pub why_text : Why → List ℕ
 why_text whys.TxnOpen = codes "open"
 why_text whys.TxnClosed = codes "closed"
@@ -54,6 +55,7 @@ why_text whys.Unwritten = codes "unwritten"
 why_text whys.Sealed = codes "sealed"
 why_text whys.Unsealed = codes "unsealed"
 
+-- the reason of a refusal
 abbrev pub refusal_text : Refusal → List ℕ
 refusal_text refusals.Syntax = codes "syntax"
 refusal_text refusals.Name = codes "name"
@@ -68,10 +70,12 @@ abbrev pub changed_text : ℕ → Option ℕ → List ℕ
 changed_text rows None = codes "ok " ++ decimal rows
 changed_text rows (Some n) = codes "ok " ++ decimal rows ++ codes " commit " ++ decimal n
 
+-- a number, or that there is none
 abbrev pub number_or_none : Option ℕ → List ℕ
 number_or_none None = codes "none"
 number_or_none (Some n) = decimal n
 
+-- a value, or that there is none
 abbrev pub value_or_none : Option Value → List ℕ
 value_or_none None = codes "none"
 value_or_none (Some v) = value_text v
@@ -84,7 +88,8 @@ parts_text (p ∷ ps) = flat_map (λ n. 32 ∷ decimal n) (p ∷ ps)
 -- how many rows stand in each stage
 abbrev pub shape_text : Shape → List ℕ
 shape_text s =
-    codes "shape l1 " ++ decimal s.l1 ++ codes " l2 " ++ decimal s.l2 ++ codes " closed " ++ number_or_none s.closed ++ codes " parts" ++ parts_text s.parts
+    codes "shape l1 " ++ decimal s.l1 ++ codes " l2 " ++ decimal s.l2 ++ codes " closed " ++ number_or_none s.closed
+    ++ codes " parts" ++ parts_text s.parts
 
 -- what stands behind the session
 abbrev pub reply_body : Reply → List ℕ
@@ -129,9 +134,11 @@ abbrev pub value_room : Value → ℕ
 value_room (Int n) = 20
 value_room (Text bytes) = 2 * length bytes + 2
 
+-- at most so many bytes have the texts of a row's values, each with a space
 abbrev pub tuple_room : List Value → ℕ
 tuple_room values = sum_by (λ v. value_room v + 1) values
 
+-- at most so many bytes has the text of a value that is there
 abbrev pub value_or_none_room : Option Value → ℕ
 value_or_none_room None = 0
 value_or_none_room (Some v) = value_room v

@@ -6,3 +6,5 @@ mod room;
 mod values;
 
 pub use reply::{put_reply, put_small};
+pub use room::SMALL_REPLY;
+pub use values::QUOTE;

@@ -97,7 +97,7 @@ fn add_body(out: &mut Vec<u8>, reply: &Reply)
     }
 }
 
-/// A word or two, and a number.
+// A word or two, and a number.
 fn add_named(out: &mut Vec<u8>, name: &[u8], number: u32)
     requires room { vec_len out.old + (length name.now + 10) ≤ vec_capacity out.old }
     ensures text { out.new.items ≡ out.old.items ++ name.now ++ decimal number }

@@ -6,15 +6,15 @@ use ut_plain::{Group, Reply};
 use ut_rows::Rows;
 use ut_value::Value;
 
-/// The bytes of a reply without rows, groups, values and parts.
-const SMALL: usize = 96;
+/// A reply without rows, groups, values and parts has at most so many bytes.
+pub const SMALL_REPLY: usize = 96;
 
 /// At most so many bytes has the text of a reply; none where the number is too large.
-pub fn room_of(reply: &Reply) -> Option<usize>
+pub(crate) fn room_of(reply: &Reply) -> Option<usize>
     ensures { SomeIff result (reply_room reply.now < 2 ^ 64) (reply_room reply.now) }
 {
     let items = items_room(reply)?;
-    items.checked_add(SMALL)
+    items.checked_add(SMALL_REPLY)
 }
 
 fn items_room(reply: &Reply) -> Option<usize>

@@ -7,10 +7,11 @@ use ut_plain::Group;
 use ut_rows::Rows;
 use ut_value::Value;
 
-const QUOTE: u8 = b'\'';
+/// The sign in front of a text and behind it; inside one it is doubled.
+pub const QUOTE: u8 = b'\'';
 
 /// The number of rows, and each row on a line of its own.
-pub fn add_rows(out: &mut Vec<u8>, rows: &Rows)
+pub(crate) fn add_rows(out: &mut Vec<u8>, rows: &Rows)
     requires room { vec_len out.old + (sum_by (λ t. tuple_room t + 1) rows.now + 25) ≤ vec_capacity out.old }
     ensures text { out.new.items ≡ out.old.items ++ rows_text rows.now }
     ensures len { vec_len out.new ≤ vec_len out.old + (sum_by (λ t. tuple_room t + 1) rows.now + 25) }
@@ -22,7 +23,7 @@ pub fn add_rows(out: &mut Vec<u8>, rows: &Rows)
 }
 
 /// The number of groups, and each group on a line of its own.
-pub fn add_groups(out: &mut Vec<u8>, groups: &[Group])
+pub(crate) fn add_groups(out: &mut Vec<u8>, groups: &[Group])
     requires room { vec_len out.old + (sum_by (λ g. value_room g.key + 42) groups.now + 27) ≤ vec_capacity out.old }
     ensures text { out.new.items ≡ out.old.items ++ groups_text groups.now }
     ensures len { vec_len out.new ≤ vec_len out.old + (sum_by (λ g. value_room g.key + 42) groups.now + 27) }
@@ -68,7 +69,7 @@ fn add_group(out: &mut Vec<u8>, group: &Group)
     add_number(out, group.sum);
 }
 
-/// The values of a row, those behind the first each behind a space.
+// The values of a row, those behind the first each behind a space.
 fn add_tuple(out: &mut Vec<u8>, rows: &Rows, row: usize)
     requires within { row < length rows.now }
     requires room { vec_len out.old + tuple_room (get_or rows.now row []) ≤ vec_capacity out.old }
@@ -88,7 +89,7 @@ fn add_tuple(out: &mut Vec<u8>, rows: &Rows, row: usize)
 }
 
 /// A number in decimal, or a text in quotes.
-pub fn add_value(out: &mut Vec<u8>, value: &Value)
+pub(crate) fn add_value(out: &mut Vec<u8>, value: &Value)
     requires room { vec_len out.old + value_room value.now ≤ vec_capacity out.old }
     ensures text { out.new.items ≡ out.old.items ++ value_text value.now }
     ensures len { vec_len out.new ≤ vec_len out.old + value_room value.now }
@@ -104,7 +105,7 @@ pub fn add_value(out: &mut Vec<u8>, value: &Value)
     }
 }
 
-/// Bytes with each quote doubled.
+// Bytes with each quote doubled.
 fn add_quoted(out: &mut Vec<u8>, bytes: &[u8])
     requires room { vec_len out.old + 2 * length bytes.now ≤ vec_capacity out.old }
     ensures text { out.new.items ≡ out.old.items ++ quoted bytes.now }
@@ -120,7 +121,7 @@ fn add_quoted(out: &mut Vec<u8>, bytes: &[u8])
 }
 
 /// The rows of each part.
-pub fn add_parts(out: &mut Vec<u8>, parts: &[u32])
+pub(crate) fn add_parts(out: &mut Vec<u8>, parts: &[u32])
     requires room { vec_len out.old + 11 * length parts.now ≤ vec_capacity out.old }
     ensures text { out.new.items ≡ out.old.items ++ flat_map (λ n. 32 ∷ decimal n) parts.now }
     ensures len { vec_len out.new ≤ vec_len out.old + 11 * length parts.now }

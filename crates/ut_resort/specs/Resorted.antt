@@ -35,7 +35,8 @@ code_at columns column row = get_or (get_or columns column []) row 0
 -- rows by their codes in these columns, the first column that tells them apart, and then by id
 abbrev pub row_cmp : List ℕ → List (List ℕ) → List ℕ → ℕ → ℕ → Ordering
 row_cmp [] columns ids a b = nat_cmp (get_or ids a 0) (get_or ids b 0)
-row_cmp (column ∷ by) columns ids a b = ordering_then (nat_cmp (code_at columns column a) (code_at columns column b)) (row_cmp by columns ids a b)
+row_cmp (column ∷ by) columns ids a b =
+    ordering_then (nat_cmp (code_at columns column a) (code_at columns column b)) (row_cmp by columns ids a b)
 
 -- rows by their keys in these columns, and then by id
 abbrev pub row_key_cmp : List ℕ → (ℕ → ℕ → List ℕ) → List ℕ → ℕ → ℕ → Ordering

@@ -38,7 +38,7 @@ fn columns_of(alloc: Global, counted: &[Counted]) -> Result<Vec<usize>, AllocErr
     counted.iter().map(|counted| counted.column).collect(alloc)
 }
 
-/// The columns by their number of different keys, on a tie by their place.
+// The columns by their number of different keys, on a tie by their place.
 fn order_columns(alloc: Global, distinct: &[u32]) -> Result<Vec<usize>, AllocError>
     ensures columns { IfOk result (λ by. by.items ≡ columns_by distinct.now) }
     ensures within { IfOk result (λ by. All (λ column. column < length distinct.now) by.items) }
@@ -49,7 +49,7 @@ fn order_columns(alloc: Global, distinct: &[u32]) -> Result<Vec<usize>, AllocErr
 }
 
 /// The codes of the columns in their order, and the ids behind them.
-pub fn lists_in_order<'a>(
+pub(crate) fn lists_in_order<'a>(
     alloc: Global,
     columns: &'a [Vec<u32>],
     distinct: &[u32],

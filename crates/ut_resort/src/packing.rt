@@ -2,7 +2,7 @@
 ghost use Rattle.std.specs.Prelude.{◌≡◌, ℕ, ◌+◌, ◌*◌, ◌^◌, ◌<◌, ◌≤◌, length, get_or, take, All, map};
 ghost use Rattle.ut_resort.specs.Sorting.{lists_now, ArePacked};
 
-/// More than each code of a list.
+// More than each code of a list.
 fn radix_of(codes: &[u32]) -> u64
     ensures some { 0 < result }
     ensures more { (i : ℕ) → get_or codes.now i 0 < result }
@@ -14,7 +14,7 @@ fn radix_of(codes: &[u32]) -> u64
     radix
 }
 
-/// Makes each code the last digit of its row's key.
+// Makes each code the last digit of its row's key.
 fn widen(keys: &mut [u64], codes: &[u32], radix: u64)
     requires length { length codes.now ≡ length keys.old }
     requires fits { (i : ℕ) → i < length keys.old → get_or keys.old i 0 * radix + get_or codes.now i 0 < 2 ^ 64 }
@@ -27,7 +27,7 @@ fn widen(keys: &mut [u64], codes: &[u32], radix: u64)
 }
 
 /// Puts the codes of as many lists into the keys as 64 bits hold, and gives their number.
-pub fn pack(keys: &mut [u64], lists: &[&[u32]]) -> usize
+pub(crate) fn pack(keys: &mut [u64], lists: &[&[u32]]) -> usize
     requires lengths { All (λ l. length l.now ≡ length keys.old) lists.now }
     requires zero { (i : ℕ) → get_or keys.old i 0 ≡ 0 }
     ensures within { result ≤ length lists.now }

@@ -26,7 +26,7 @@ fn code_of(codes: &[u32], row: u32) -> u32
     }
 }
 
-/// How the codes of two rows are ordered: the first list in which they differ decides.
+// How the codes of two rows are ordered: the first list in which they differ decides.
 fn compare_codes(lists: &[&[u32]], a: u32, b: u32) -> Ordering
     ensures { result ≡ codes_cmp (lists_now lists.now) a b }
 {

@@ -14,7 +14,7 @@ struct Entry {
     length: u32,
 }
 
-/// The entry that begins the bytes.
+// The entry that begins the bytes.
 fn read_entry(bytes: &[u8]) -> Entry
     requires { 8 ≤ length bytes.now }
     ensures code { result.code ≡ word_in bytes.now }
@@ -27,7 +27,7 @@ fn read_entry(bytes: &[u8]) -> Entry
     }
 }
 
-/// Whether the last run is of a code.
+// Whether the last run is of a code.
 fn is_last_code(runs: &[Run], code: u32) -> bool
     ensures { result ≡ is_last_code (lengths_from 0 runs.now) code }
 {
@@ -38,7 +38,7 @@ fn is_last_code(runs: &[Run], code: u32) -> bool
 }
 
 /// The runs of `rows` codes below `2 ^ width` that `count` entries spell, if they are such runs.
-pub fn read_runs(
+pub(crate) fn read_runs(
     alloc: Global,
     entries: &[u8],
     count: usize,

@@ -11,7 +11,7 @@ use ut_bits::{append_range, append_words, is_in};
 use ut_mask::Mask;
 
 /// The place of the run that holds a row.
-pub fn run_at(runs: &[Run], i: u32) -> usize
+pub(crate) fn run_at(runs: &[Run], i: u32) -> usize
     requires { i < end_from 0 runs.now }
     ensures within { result < length runs.now }
     ensures before { 0 < result → slice_index (map (λ r. r.end) runs.now) (result - 1) ≤ i }
@@ -31,14 +31,14 @@ pub fn run_at(runs: &[Run], i: u32) -> usize
 }
 
 /// Whether the code of every run is below a limit.
-pub fn codes_are_below(runs: &[Run], limit: u32) -> bool
+pub(crate) fn codes_are_below(runs: &[Run], limit: u32) -> bool
     ensures { result ≡ list_all (λ r. nat_lt r.code limit) runs.now }
 {
     runs.iter().all(|run| run.code < limit)
 }
 
 /// Appends the places whose code stands in one of the ranges.
-pub fn append_places_in(
+pub(crate) fn append_places_in(
     runs: &[Run],
     ranges: &[(u32, u32)],
     out: &mut Vec<u32>,
@@ -65,7 +65,7 @@ pub fn append_places_in(
 }
 
 /// Keeps of a mask the places whose code stands in one of the ranges, run by run.
-pub fn keep_runs(runs: &[Run], ranges: &[(u32, u32)], mask: &mut Mask)
+pub(crate) fn keep_runs(runs: &[Run], ranges: &[(u32, u32)], mask: &mut Mask)
     requires order { Ascend 0 runs.now }
     requires length { length mask.old ≡ length (expanded (lengths_from 0 runs.now)) }
     ensures { mask.new ≡ both mask.old (map (is_in ranges.now) (expanded (lengths_from 0 runs.now))) }
@@ -78,7 +78,7 @@ pub fn keep_runs(runs: &[Run], ranges: &[(u32, u32)], mask: &mut Mask)
 }
 
 /// Appends the codes that the runs stand for.
-pub fn append_codes(runs: &[Run], out: &mut Vec<u32>) -> Result<(), AllocError>
+pub(crate) fn append_codes(runs: &[Run], out: &mut Vec<u32>) -> Result<(), AllocError>
     requires { Ascend 0 runs.now }
     ensures ok { OnOk result (out.new.items ≡ out.old.items ++ expanded (lengths_from 0 runs.now)) }
     ensures err { OnErr result (out.new.items ≡ out.old.items) }
@@ -100,7 +100,7 @@ pub fn append_codes(runs: &[Run], out: &mut Vec<u32>) -> Result<(), AllocError>
 }
 
 /// Appends each run's code and length.
-pub fn append_entries(runs: &[Run], out: &mut Vec<u8>) -> Result<(), AllocError>
+pub(crate) fn append_entries(runs: &[Run], out: &mut Vec<u8>) -> Result<(), AllocError>
     requires { Ascend 0 runs.now }
     ensures ok { OnOk result (out.new.items ≡ out.old.items ++ entries_of (lengths_from 0 runs.now)) }
     ensures err { OnErr result (out.new.items ≡ out.old.items) }

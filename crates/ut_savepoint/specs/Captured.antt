@@ -16,6 +16,7 @@ pub record CapturesPart (width : ℕ) (earlier : List (List Placed)) (c : Captur
   pub same : arc_value c.part ≡ part_behind width earlier part
   pub live : c.live ≡ live_marks part
 
+-- parts, each behind those before it
 abbrev pub CaptureParts : ℕ → (earlier : List (List Placed)) → List CapturedPart → List (List Placed) → Type 0
 CaptureParts width earlier [] [] = Unit {0}
 CaptureParts width earlier [] (part ∷ parts) = ⊥
@@ -28,6 +29,7 @@ pub record CapturesTable (c : CapturedTable) (t : Table) (s : TableStages) : Typ
   pub parts : CaptureParts (length t.columns) [] c.parts.items s.parts
   pub deltas : c.deltas.items ≡ rows_bytes (map row_in s.l2) ++ rows_bytes (map row_in s.l1)
 
+-- tables, in order
 abbrev pub CaptureTables : List CapturedTable → List Table → Stages → Type 0
 CaptureTables [] [] [] = Unit {0}
 CaptureTables [] [] (s ∷ ss) = ⊥

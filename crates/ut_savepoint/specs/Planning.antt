@@ -18,13 +18,15 @@ use Rattle.ut_savepoint.specs.declared.captured.CapturedPart.{CapturedPart}
 use Rattle.ut_savepoint.specs.declared.captured.CapturedTable.{CapturedTable}
 use Rattle.ut_savepoint.specs.Captured.{Captures}
 
--- the bytes of a part, of those of a table, and of those of all tables in order
+-- the bytes of a part
 abbrev pub spelled : CapturedPart → List ℕ
 spelled c = part_bytes (arc_value c.part)
 
+-- the bytes of each part of a table
 abbrev pub spelled_in : List CapturedPart → List (List ℕ)
 spelled_in parts = map spelled parts
 
+-- the bytes of each part of all tables, in order
 abbrev pub spelled_all : List CapturedTable → List (List ℕ)
 spelled_all tables = flat_map (λ (t : CapturedTable). spelled_in t.parts.items) tables
 
@@ -38,12 +40,17 @@ pages_of parts = sum_by (λ (bytes : List ℕ). pages_for (length bytes)) parts
 abbrev pub refs_of : List ℕ → List CapturedPart → List PartRef
 refs_of pages [] = []
 refs_of pages (c ∷ cs) =
-    record { first = first_of pages; length = length (spelled c); rows = length (arc_value c.part).rows; live = c.live } ∷ refs_of (drop (pages_for (length (spelled c))) pages) cs
+    record { first = first_of pages; length = length (spelled c); rows = length (arc_value c.part).rows; live = c.live }
+    ∷ refs_of (drop (pages_for (length (spelled c))) pages) cs
 
+-- what it says of tables whose parts stand on these pages, one behind the other
 abbrev pub tables_bytes : List ℕ → List CapturedTable → List ℕ
 tables_bytes pages [] = []
-tables_bytes pages (t ∷ ts) = (head_bytes t.table ++ parts_bytes (refs_of pages t.parts.items)) ++ (t.deltas.items ++ tables_bytes (drop (pages_of (spelled_in t.parts.items)) pages) ts)
+tables_bytes pages (t ∷ ts) =
+    (head_bytes t.table ++ parts_bytes (refs_of pages t.parts.items))
+    ++ (t.deltas.items ++ tables_bytes (drop (pages_of (spelled_in t.parts.items)) pages) ts)
 
+-- the bytes of a directory whose parts stand on these pages
 abbrev pub directory_of : List ℕ → List CapturedTable → List ℕ
 directory_of pages tables = to_le_bytes w32 (length tables) ++ tables_bytes pages tables
 
@@ -52,7 +59,9 @@ directory_of pages tables = to_le_bytes w32 (length tables) ++ tables_bytes page
 -- each part's bytes on as many of the pages as they take
 abbrev pub drafts_of : List ℕ → List (List ℕ) → List Draft
 drafts_of pages [] = []
-drafts_of pages (bytes ∷ more) = record { pages = take (pages_for (length bytes)) pages; bytes = bytes } ∷ drafts_of (drop (pages_for (length bytes)) pages) more
+drafts_of pages (bytes ∷ more) =
+    record { pages = take (pages_for (length bytes)) pages; bytes = bytes }
+    ∷ drafts_of (drop (pages_for (length bytes)) pages) more
 
 -- ---- the savepoint
 

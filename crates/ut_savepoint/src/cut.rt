@@ -5,9 +5,7 @@ ghost use Rattle.ut_durable.specs.Plans.{Fills, plan, first_of};
 ghost use Rattle.ut_savepoint.specs.Writes.{planned_in};
 
 use std::alloc::{AllocError, Global};
-
-/// So many bytes fill a page.
-const PAYLOAD_LEN: usize = 4090;
+use ut_pages::PAYLOAD_LEN;
 
 /// A page that is to be written: its number, the next one's in its chain, and its bytes.
 #[derive(Drop)]
@@ -24,7 +22,7 @@ pub(crate) fn pages_for(len: usize) -> usize
     len / PAYLOAD_LEN + usize::from(len % PAYLOAD_LEN > 0)
 }
 
-// The first of these pages, 0 where there is none.
+/// The first of these pages, 0 where there is none.
 pub(crate) fn first_of(pages: &[u32]) -> u32
     ensures { result ≡ first_of pages.now }
 {
@@ -34,7 +32,7 @@ pub(crate) fn first_of(pages: &[u32]) -> u32
     }
 }
 
-// Adds the pages of a chain with these bytes.
+/// Adds the pages of a chain with these bytes.
 pub(crate) fn cut(
     alloc: Global,
     pages: &[u32],

@@ -9,7 +9,7 @@ use ut_image::{PartRef, image_front, image_start};
 use ut_main::part_bytes;
 use ut_value::Seq;
 
-/// Adds the bytes of each part of a table.
+// Adds the bytes of each part of a table.
 fn add_spelled(
     alloc: Global,
     parts: &[CapturedPart],
@@ -39,15 +39,15 @@ pub(crate) fn spell_parts(
     Ok(spelled)
 }
 
-/// The pages behind so many.
+// The pages behind so many.
 fn behind(pages: &[u32], count: usize) -> &[u32]
     ensures { result.now ≡ drop count pages.now }
 {
     &pages[count.min(pages.len())..]
 }
 
-/// What a directory says of parts whose chains stand on these pages, and the pages behind them.
-/// Without pages each chain begins at page 0.
+// What a directory says of parts whose chains stand on these pages, and the pages behind them.
+// Without pages each chain begins at page 0.
 fn refs_of<'a>(
     alloc: Global,
     parts: &[CapturedPart],

@@ -15,7 +15,7 @@ use ut_durable::Durable;
 use ut_pages::Root;
 use ut_value::Seq;
 
-/// How many pages these parts and so many more take. None where there are 2^32 or more.
+// How many pages these parts and so many more take. None where there are 2^32 or more.
 fn pages_of(parts: &[Seq<u8>], more: usize) -> Option<u32>
     ensures { SomeIff result (more + pages_of parts.now < 2 ^ 32) (more + pages_of parts.now) }
 {
@@ -27,7 +27,7 @@ fn pages_of(parts: &[Seq<u8>], more: usize) -> Option<u32>
     Some(count)
 }
 
-/// How many pages the directory takes, which is as long wherever the parts stand.
+// How many pages the directory takes, which is as long wherever the parts stand.
 fn own_pages(
     alloc: Global,
     tables: &[CapturedTable],
@@ -41,7 +41,7 @@ fn own_pages(
     Ok(pages_for(unplaced.len()))
 }
 
-/// Adds the chains of parts on these pages.
+// Adds the chains of parts on these pages.
 fn add_parts(
     alloc: Global,
     parts: &[Seq<u8>],
@@ -63,7 +63,7 @@ fn add_parts(
     Ok(())
 }
 
-/// The savepoint of a root and of what is captured, whose parts and directory stand on these pages.
+// The savepoint of a root and of what is captured, whose parts and directory stand on these pages.
 fn placed(
     alloc: Global,
     tables: &[CapturedTable],

@@ -20,6 +20,7 @@ abbrev pub said_by : ℕ → Option Statement → Parsed
 said_by session None = Bad session
 said_by session (Some st) = Good session st
 
+-- a line by its session number and its other words; with no such number it is a stranger's
 abbrev pub line_with : Option ℕ → List (List ℕ) → Parsed
 line_with None words = Stranger
 line_with (Some session) words = said_by session (statement_of session words)

@@ -41,7 +41,9 @@ TakesPiece old (Ok ended) new = MatchBool ended (EndsLine old new) (JoinsLine ol
 TakesPiece old (Err e) new = BreaksLine old
 
 -- Bytes are held now, where the input has any: those that were held, and then those that the source had left.
-pub record FillsFrom {E : Type 0} (old : Reading) (before : List ℕ) (result : Result Bool E) (new : Reading) (left : Option (List ℕ)) : Type 0 where
+pub record FillsFrom
+    {E : Type 0} (old : Reading) (before : List ℕ) (result : Result Bool E) (new : Reading)
+    (left : Option (List ℕ)) : Type 0 where
   pub after : List ℕ
   pub is_left : left ≡ Some after
   pub same : old.held ++ before ≡ new.held ++ after
@@ -50,6 +52,7 @@ pub record FillsFrom {E : Type 0} (old : Reading) (before : List ℕ) (result : 
   pub held : new.held ≡ old.held ++ took
   pub none : MatchResult result (λ some. MatchBool some (Unit {0}) ((old.held ++ before ≡ []) × (after ≡ []))) (λ _. Unit {0})
 
+-- the same where the source tells its bytes
 abbrev pub Fills : {E : Type 0} → Reading → Option (List ℕ) → Result Bool E → Reading → Option (List ℕ) → Type 0
 Fills old None result new left = Unit {0}
 Fills old (Some before) result new left = FillsFrom old before result new left
@@ -64,6 +67,7 @@ pub record PartOfLine (old : Reading) (before : List ℕ) (now : Reading) (left 
   pub read : old.held ++ took ≡ now.line ++ now.held
   pub no_feed : has_no_feed now.line ≡ true
 
+-- the same where the source tells its bytes
 abbrev pub ReadsLine : Reading → Option (List ℕ) → Reading → Option (List ℕ) → Type 0
 ReadsLine old None now left = Unit {0}
 ReadsLine old (Some before) now left = PartOfLine old before now left

@@ -69,10 +69,14 @@ FailsLine Read old before = Unit {0}
 FailsLine TooLong old before = is_past old (lines_of (old.held ++ before)) ≡ true
 
 -- the next line of an input that is told, its end, or why there is no line
-pub record TakesLine (old : Reading) (before : List ℕ) (result : Result Bool LineError) (new : Reading) (left : Option (List ℕ)) : Type 0 where
+pub record TakesLine
+    (old : Reading) (before : List ℕ) (result : Result Bool LineError) (new : Reading)
+    (left : Option (List ℕ)) : Type 0 where
   pub after : List ℕ
   pub is_left : left ≡ Some after
-  pub taken : MatchResult result (λ more. MatchBool more (HandsOut old before new after) (Ends old before after)) (λ e. FailsLine e old before)
+  pub taken : MatchResult result
+      (λ more. MatchBool more (HandsOut old before new after) (Ends old before after))
+      (λ e. FailsLine e old before)
 
 -- the same of any source, where no call has failed
 abbrev pub NextLine : Reading → Option (List ℕ) → Result Bool LineError → Reading → Option (List ℕ) → Type 0
@@ -141,6 +145,7 @@ pub record StepsOver (old : Reading) (before : List ℕ) (new : Reading) (left :
   pub parts : old.held ++ before ≡ piece ++ (new.held ++ after)
   pub one : ended_lines piece ≤ 1
 
+-- the same where the source tells its bytes
 abbrev pub StepsLine : Reading → Option (List ℕ) → Reading → Option (List ℕ) → Type 0
 StepsLine old None new left = Unit {0}
 StepsLine old (Some before) new left = StepsOver old before new left

@@ -17,7 +17,10 @@ number_from n (d ∷ digits) = number_from (10 * n + (d - 48)) digits
 -- a number in decimal digits without leading zeros, of at most 19 digits: with 20 it is past every range of the script
 abbrev pub number_of : List ℕ → Option ℕ
 number_of [] = None
-number_of (d ∷ digits) = if list_all is_digit (d ∷ digits) && nat_lt (length digits) 19 && not (nat_eq d 48 && nat_lt 0 (length digits)) then Some (number_from 0 (d ∷ digits)) else None
+number_of (d ∷ digits) =
+    if list_all is_digit (d ∷ digits) && nat_lt (length digits) 19 && not (nat_eq d 48 && nat_lt 0 (length digits))
+    then Some (number_from 0 (d ∷ digits))
+    else None
 
 -- a number that lies in a range
 abbrev pub within : ℕ → ℕ → Option ℕ → Option ℕ

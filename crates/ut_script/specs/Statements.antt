@@ -18,6 +18,7 @@ use Rattle.ut_script.specs.Conditions.{conditions_of}
 abbrev pub create_with : List ℕ → List Column → Option Statement
 create_with table columns = if nat_lt 0 (length columns) && nat_le (length columns) 64 then Some (statements.Create table columns) else None
 
+-- a table and its columns
 abbrev pub create_of : List (List ℕ) → Option Statement
 create_of [] = None
 create_of (table ∷ words) = if is_name table then option_and_then (create_with table) (all_of column_of words) else None
@@ -26,6 +27,7 @@ create_of (table ∷ words) = if is_name table then option_and_then (create_with
 abbrev pub some_values : List Value → Option (List Value)
 some_values values = if nat_lt 0 (length values) then Some values else None
 
+-- words as values, one or more
 abbrev pub values_of : List (List ℕ) → Option (List Value)
 values_of words = option_and_then some_values (all_of value_of words)
 
@@ -41,7 +43,9 @@ is_where word = same_bytes word (codes "where")
 -- the names in front of the conditions
 abbrev pub names_before : List (List ℕ) → Option (List (List ℕ))
 names_before [] = Some []
-names_before (word ∷ words) = if is_where word then Some [] else (if is_name word then option_map (λ names. word ∷ names) (names_before words) else None)
+names_before (word ∷ words) =
+    if is_where word then Some []
+    else (if is_name word then option_map (λ names. word ∷ names) (names_before words) else None)
 
 -- the words from the first `where` on
 abbrev pub from_where : List (List ℕ) → List (List ℕ)
@@ -51,11 +55,14 @@ from_where (word ∷ words) = if is_where word then word ∷ words else from_whe
 -- the columns by name, at least one
 abbrev pub select_with : List ℕ → List (List ℕ) → Option (List Pred) → Option Statement
 select_with table columns None = None
-select_with table columns (Some preds) = if nat_lt 0 (length columns) then Some (statements.Ask (queries.Select table (Some columns) preds)) else None
+select_with table columns (Some preds) =
+    if nat_lt 0 (length columns) then Some (statements.Ask (queries.Select table (Some columns) preds)) else None
 
+-- all columns, and conditions
 abbrev pub columns_of_all : List ℕ → List (List ℕ) → Option Statement
 columns_of_all table words = option_map (λ preds. statements.Ask (queries.Select table None preds)) (conditions_of words)
 
+-- columns by name, up to the conditions
 abbrev pub columns_named : List ℕ → List (List ℕ) → Option Statement
 columns_named table words = option_and_then (λ columns. select_with table columns (conditions_of (from_where words))) (names_before words)
 
@@ -64,6 +71,7 @@ abbrev pub columns_asked : List ℕ → List (List ℕ) → Option Statement
 columns_asked table [] = None
 columns_asked table (word ∷ words) = if same_bytes word (codes "*") then columns_of_all table words else columns_named table (word ∷ words)
 
+-- a table, columns and conditions
 abbrev pub select_of : List (List ℕ) → Option Statement
 select_of [] = None
 select_of (table ∷ words) = if is_name table then columns_asked table words else None
@@ -80,26 +88,36 @@ is_folded _ = false
 
 -- a table, a column and conditions
 abbrev pub folded_of : (List ℕ → List ℕ → List Pred → Statement) → List (List ℕ) → Option Statement
-folded_of say (table ∷ column ∷ words) = if is_name table && is_name column then option_map (say table column) (conditions_of words) else None
+folded_of say (table ∷ column ∷ words) =
+    if is_name table && is_name column then option_map (say table column) (conditions_of words) else None
 folded_of say _ = None
 
+-- a table, the column that groups its rows, `sum` with the column that is summed, and conditions
 abbrev pub group_of : List (List ℕ) → Option Statement
 group_of (table ∷ key ∷ verb ∷ sum ∷ words) =
-    if is_name table && is_name key && same_bytes verb (codes "sum") && is_name sum then option_map (λ preds. statements.Ask (queries.Group table key sum preds)) (conditions_of words) else None
+    if is_name table && is_name key && same_bytes verb (codes "sum") && is_name sum
+    then option_map (λ preds. statements.Ask (queries.Group table key sum preds)) (conditions_of words)
+    else None
 group_of _ = None
 
+-- two tables, each with the column that is compared
 abbrev pub join_of : List (List ℕ) → Option Statement
 join_of (left ∷ left_column ∷ right ∷ right_column ∷ []) =
-    if is_name left && is_name left_column && is_name right && is_name right_column then Some (statements.Ask (queries.Join left left_column right right_column)) else None
+    if is_name left && is_name left_column && is_name right && is_name right_column
+    then Some (statements.Ask (queries.Join left left_column right right_column))
+    else None
 join_of _ = None
 
+-- a new value and conditions, where the words are such
 abbrev pub update_with : List ℕ → List ℕ → Option Value → Option (List Pred) → Option Statement
 update_with table column None preds = None
 update_with table column (Some value) preds = option_map (λ ps. statements.Update table column value ps) preds
 
+-- a table, `set` with a column and its new value, and conditions
 abbrev pub update_of : List (List ℕ) → Option Statement
 update_of (table ∷ verb ∷ column ∷ value ∷ words) =
-    if is_name table && same_bytes verb (codes "set") && is_name column then update_with table column (value_of value) (conditions_of words) else None
+    if is_name table && same_bytes verb (codes "set") && is_name column then update_with table column (value_of value) (conditions_of words)
+    else None
 update_of _ = None
 
 -- the statements that ask
@@ -127,6 +145,7 @@ transaction_verb verb =
     else if same_bytes verb (codes "abort") then Some statements.Abort
     else None
 
+-- the statements that make a table, change its rows or ask
 abbrev pub table_statement_of : List ℕ → List (List ℕ) → Option Statement
 table_statement_of verb words =
     if same_bytes verb (codes "insert") then rows_of statements.Insert words
@@ -150,6 +169,7 @@ session_statement_of (verb ∷ words) = alone_or (transaction_verb verb) words (
 abbrev pub count_of : List ℕ → Option ℕ
 count_of word = within 1 1048576 (number_of word)
 
+-- the four kinds of merge
 abbrev pub merge_kind_of : List ℕ → Option MergeKind
 merge_kind_of word =
     if same_bytes word (codes "classic") then Some merges.Classic
@@ -158,14 +178,17 @@ merge_kind_of word =
     else if same_bytes word (codes "extend") then Some merges.Extend
     else None
 
+-- a table, and how many rows are to move
 abbrev pub merge_l1_of : List (List ℕ) → Option Statement
 merge_l1_of (table ∷ n ∷ []) = if is_name table then option_map (statements.MergeL1 table) (count_of n) else None
 merge_l1_of _ = None
 
+-- a table and a kind of merge
 abbrev pub merge_begin_of : List (List ℕ) → Option Statement
 merge_begin_of (table ∷ kind ∷ []) = if is_name table then option_map (statements.MergeBegin table) (merge_kind_of kind) else None
 merge_begin_of _ = None
 
+-- how many pages are to be written
 abbrev pub save_step_of : List (List ℕ) → Option Statement
 save_step_of (n ∷ []) = option_map statements.SaveStep (count_of n)
 save_step_of _ = None
@@ -194,6 +217,7 @@ merge_of (verb ∷ words) =
     else if same_bytes verb (codes "begin") then merge_begin_of words
     else None
 
+-- a table
 abbrev pub shape_of : List (List ℕ) → Option Statement
 shape_of (table ∷ []) = if is_name table then Some (statements.Shape table) else None
 shape_of _ = None

@@ -18,7 +18,8 @@ onto_piece b (piece ∷ pieces) = (b ∷ piece) ∷ pieces
 -- what stands between the spaces that part words, from a place inside or outside of quotes on
 abbrev pub pieces_of : Bool → List ℕ → List (List ℕ)
 pieces_of inside [] = [] ∷ []
-pieces_of inside (b ∷ bytes) = if parts_words inside b then [] ∷ pieces_of false bytes else onto_piece b (pieces_of (inside_after inside b) bytes)
+pieces_of inside (b ∷ bytes) =
+    if parts_words inside b then [] ∷ pieces_of false bytes else onto_piece b (pieces_of (inside_after inside b) bytes)
 
 -- whether a piece is a word: two spaces in a row have none between them
 abbrev pub has_bytes : List ℕ → Bool

@@ -12,7 +12,7 @@ use ut_value::{Name, Seq, Value, is_name, same_bytes};
 
 /// Whether the words that are left are conditions.
 #[tactic(auto, unfolding(crate::specs::Conditions::conditions_of))]
-pub fn are_conditions(line: &[u8]) -> bool
+pub(crate) fn are_conditions(line: &[u8]) -> bool
     ensures { result ≡ is_some (conditions_of (words_of line.now)) }
 {
     match next_word(line) {
@@ -23,7 +23,7 @@ pub fn are_conditions(line: &[u8]) -> bool
 
 /// The conditions that the words that are left spell.
 #[tactic(auto, unfolding(crate::specs::Conditions::conditions_of))]
-pub fn read_conditions(alloc: Global, line: &[u8]) -> Result<Seq<Pred>, AllocError>
+pub(crate) fn read_conditions(alloc: Global, line: &[u8]) -> Result<Seq<Pred>, AllocError>
     requires { is_some (conditions_of (words_of line.now)) ≡ true }
     ensures { IfOk result (λ preds. conditions_of (words_of line.now) ≡ Some preds) }
 {

@@ -11,11 +11,13 @@ use crate::words::next_word;
 use std::alloc::{AllocError, Global};
 use thiserror::Error;
 use ut_plain::{Parsed, Statement};
+use ut_value::LAST_SESSION;
 
 /// The sign of a comment, where a line begins with it.
 const COMMENT: u8 = b'#';
 
-const MAX_SESSION: u64 = 16;
+/// The greatest number of a session.
+const MAX_SESSION: u64 = LAST_SESSION as u64;
 
 /// No memory was there for a good line of this session.
 #[derive(Debug, Drop, Error)]
@@ -58,7 +60,7 @@ fn line_of(alloc: Global, line: &[u8], crowd: bool) -> Result<Parsed, LineMemory
     }
 }
 
-/// The session that a line begins with.
+// The session that a line begins with.
 fn session_of(word: &[u8], crowd: bool) -> Option<u8>
     ensures { result ≡ session_of crowd word.now }
 {

@@ -126,7 +126,7 @@ impl Lines {
         }
     }
 
-    /// Where no more lines may be handed out, one more is an error.
+    // Where no more lines may be handed out, one more is an error.
     fn next_past_limit<S: Source<K>, K: Taken>(
         &mut self,
         source: &mut S,
@@ -179,7 +179,7 @@ impl Lines {
         }
     }
 
-    /// The line that the end of the input ends, if it has a byte.
+    // The line that the end of the input ends, if it has a byte.
     fn end_line(&mut self) -> bool
         requires { self.old.number < self.old.limit }
         ensures some { result ≡ has_bytes self.old.line }
@@ -192,7 +192,7 @@ impl Lines {
         true
     }
 
-    /// Holds bytes, where the input has any more, and says whether it does.
+    // Holds bytes, where the input has any more, and says whether it does.
     fn fill<S: Source<K>, K: Taken>(&mut self, source: &mut S, sink: &K) -> Result<bool, LineError>
         ensures bytes { Fills self.old (S.left source.old) result self.new (S.left source.new) }
         ensures asks { AsksFew self.old (S.left source.old) (K.held sink.now) (S.asks source.old) (S.asks source.new) }
@@ -217,7 +217,7 @@ impl Lines {
         }
     }
 
-    /// Moves what is held to the line, up to a line feed, and says whether the line ended there.
+    // Moves what is held to the line, up to a line feed, and says whether the line ended there.
     fn take_piece(&mut self) -> Result<bool, LineError>
         ensures piece { TakesPiece self.old result self.new }
         ensures same { SameCounts self.old self.new }
@@ -246,7 +246,7 @@ impl Lines {
     }
 }
 
-/// Puts bytes behind those of a line, which has room for them.
+// Puts bytes behind those of a line, which has room for them.
 fn put(line: &mut Vec<u8>, bytes: &[u8])
     requires { vec_len line.old + length bytes.now ≤ vec_capacity line.old }
     ensures items { line.new.items ≡ line.old.items ++ bytes.now }
@@ -255,11 +255,11 @@ fn put(line: &mut Vec<u8>, bytes: &[u8])
 {
     match line.extend_from_slice(bytes) {
         Ok(()) => {}
-        Err(_) => {}
+        Err(_) => unreachable!(),
     }
 }
 
-/// Where the first line feed stands.
+// Where the first line feed stands.
 fn line_end(bytes: &[u8]) -> Option<usize>
     ensures { IsLineEnd bytes.now result }
 {

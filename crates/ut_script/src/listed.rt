@@ -8,12 +8,11 @@ use crate::literals::{int_of, text_of};
 use crate::spelled::count_all;
 use crate::words::next_word;
 use std::alloc::{AllocError, Global};
+use ut_reply::QUOTE;
 use ut_value::{Seq, Value};
 
-const QUOTE: u8 = b'\'';
-
 /// One or more values, where each of the words that are left spells one.
-pub fn values_of(alloc: Global, line: &[u8]) -> Result<Option<Seq<Value>>, AllocError>
+pub(crate) fn values_of(alloc: Global, line: &[u8]) -> Result<Option<Seq<Value>>, AllocError>
     ensures says { IfOk result (λ o. o ≡ values_of (words_of line.now)) }
     ensures memory { OnErr result (is_some (values_of (words_of line.now)) ≡ true) }
 {
@@ -35,7 +34,7 @@ pub fn values_of(alloc: Global, line: &[u8]) -> Result<Option<Seq<Value>>, Alloc
     }
 }
 
-/// Whether the words that are left are one or more values.
+// Whether the words that are left are one or more values.
 #[tactic(auto, using(crate::proofs::ListedLemmas::counted))]
 fn are_values(line: &[u8]) -> bool
     ensures { result ≡ is_some (values_of (words_of line.now)) }
@@ -46,7 +45,7 @@ fn are_values(line: &[u8]) -> bool
     }
 }
 
-/// The values of the words that are left, where each of them spells one.
+// The values of the words that are left, where each of them spells one.
 fn each_value(alloc: Global, line: &[u8]) -> Result<Option<Seq<Value>>, AllocError>
     ensures { IfOk result (λ o. o ≡ all_of value_of (words_of line.now)) }
 {
@@ -62,7 +61,7 @@ fn each_value(alloc: Global, line: &[u8]) -> Result<Option<Seq<Value>>, AllocErr
     Ok(Some(Seq::from_vec(values)))
 }
 
-/// The value that a word spells.
+// The value that a word spells.
 #[tactic(auto, unfolding(crate::specs::Literals::value_of))]
 fn value_of(alloc: Global, word: &[u8]) -> Result<Option<Value>, AllocError>
     ensures { IfOk result (λ o. o ≡ value_of word.now) }

@@ -7,9 +7,8 @@ ghost use Rattle.ut_script.specs.Literals.{number_from, number_of, within, int_o
 ghost use Rattle.ut_script.specs.Unquoted.{is_plain};
 
 use std::alloc::{AllocError, Global};
+use ut_reply::QUOTE;
 use ut_value::{Text, is_digit};
-
-const QUOTE: u8 = b'\'';
 
 const MINUS: u8 = b'-';
 
@@ -22,7 +21,7 @@ const MAX_DIGITS: usize = 19;
 const MAX_TEXT: usize = 255;
 
 /// A number in decimal digits without leading zeros.
-pub fn number_of(word: &[u8]) -> Option<u64>
+pub(crate) fn number_of(word: &[u8]) -> Option<u64>
     ensures { result ≡ number_of word.now }
 {
     match word {
@@ -66,7 +65,7 @@ fn with_digit(number: u64, digit: u8) -> u64
 }
 
 /// The number, where it lies in a range.
-pub fn within(least: u64, most: u64, number: Option<u64>) -> Option<u64>
+pub(crate) fn within(least: u64, most: u64, number: Option<u64>) -> Option<u64>
     ensures { result ≡ within least most number }
 {
     match number {
@@ -83,7 +82,7 @@ pub fn within(least: u64, most: u64, number: Option<u64>) -> Option<u64>
 
 /// An INT.
 #[tactic(auto, unfolding(crate::specs::Literals::int_of))]
-pub fn int_of(word: &[u8]) -> Option<i64>
+pub(crate) fn int_of(word: &[u8]) -> Option<i64>
     ensures { result ≡ int_of word.now }
 {
     match word {
@@ -119,7 +118,7 @@ fn negative(number: Option<u64>) -> Option<i64>
 }
 
 /// Whether the bytes behind a quote are the rest of a text literal.
-pub fn is_text_literal(bytes: &[u8]) -> bool
+pub(crate) fn is_text_literal(bytes: &[u8]) -> bool
     ensures { result ≡ is_some (text_of bytes.now) }
 {
     let mut count = 0usize;
@@ -152,7 +151,7 @@ fn is_text_byte(b: u8) -> bool
 }
 
 /// The text of a literal whose first quote was read.
-pub fn read_text(alloc: Global, bytes: &[u8]) -> Result<Text, AllocError>
+pub(crate) fn read_text(alloc: Global, bytes: &[u8]) -> Result<Text, AllocError>
     requires { is_some (text_of bytes.now) ≡ true }
     ensures { IfOk result (λ text. text_of bytes.now ≡ Some text) }
 {
@@ -163,7 +162,7 @@ pub fn read_text(alloc: Global, bytes: &[u8]) -> Result<Text, AllocError>
 
 /// The text of a literal whose first quote was read, where these bytes are one.
 #[tactic(auto, using(crate::proofs::StatementLemmas::statements))]
-pub fn text_of(alloc: Global, bytes: &[u8]) -> Result<Option<Text>, AllocError>
+pub(crate) fn text_of(alloc: Global, bytes: &[u8]) -> Result<Option<Text>, AllocError>
     ensures { IfOk result (λ o. o ≡ text_of bytes.now) }
 {
     if let Some(text) = plain_text(bytes) {
@@ -175,7 +174,7 @@ pub fn text_of(alloc: Global, bytes: &[u8]) -> Result<Option<Text>, AllocError>
     Ok(Some(read_text(alloc, bytes)?))
 }
 
-/// The text of a literal that ends at its first quote.
+// The text of a literal that ends at its first quote.
 #[tactic(auto, using(crate::proofs::UnquotedLemmas::plain))]
 fn plain_text(bytes: &[u8]) -> Option<&[u8]>
     ensures text { IfSome result (λ text. text_of bytes.now ≡ Some text.now) }
@@ -199,14 +198,14 @@ fn are_plain(bytes: &[u8]) -> bool
     bytes.iter().all(|b| is_plain(*b))
 }
 
-/// Whether a byte stands for itself in a literal.
+// Whether a byte stands for itself in a literal.
 fn is_plain(b: u8) -> bool
     ensures { result ≡ is_plain b }
 {
     is_text_byte(b) && b != QUOTE
 }
 
-/// The bytes of a literal, each doubled quote once.
+// The bytes of a literal, each doubled quote once.
 fn unquoted(alloc: Global, bytes: &[u8]) -> Result<Vec<u8>, AllocError>
     requires { is_some (unquoted false bytes.now) ≡ true }
     ensures { IfOk result (λ text. unquoted false bytes.now ≡ Some text.items) }

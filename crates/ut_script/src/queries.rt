@@ -16,7 +16,11 @@ use ut_plain::{Query, Statement};
 use ut_value::{Name, is_name, same_bytes};
 
 /// `count T [W]` and the other statements that ask.
-pub fn query_of(alloc: Global, verb: &[u8], line: &[u8]) -> Result<Option<Statement>, AllocError>
+pub(crate) fn query_of(
+    alloc: Global,
+    verb: &[u8],
+    line: &[u8],
+) -> Result<Option<Statement>, AllocError>
     ensures { Reads result (query_of verb.now (words_of line.now)) }
 {
     if same_bytes(verb, b"select") {
@@ -38,7 +42,7 @@ pub fn query_of(alloc: Global, verb: &[u8], line: &[u8]) -> Result<Option<Statem
     }
 }
 
-/// `T [W]`
+// `T [W]`
 fn count_of(alloc: Global, line: &[u8]) -> Result<Option<Statement>, AllocError>
     ensures { Reads result
         (chosen_of (λ table preds. Statement.Ask (Query.Count table preds)) (words_of line.now)) }
@@ -54,7 +58,7 @@ fn count_of(alloc: Global, line: &[u8]) -> Result<Option<Statement>, AllocError>
     Ok(Some(Statement::Ask(Query::Count { table, preds })))
 }
 
-/// `T c [W]`
+// `T c [W]`
 fn sum_of(alloc: Global, line: &[u8]) -> Result<Option<Statement>, AllocError>
     ensures { Reads result
         (folded_of (λ table column preds. Statement.Ask (Query.Sum table column preds)) (words_of line.now)) }
@@ -72,7 +76,7 @@ fn sum_of(alloc: Global, line: &[u8]) -> Result<Option<Statement>, AllocError>
     })))
 }
 
-/// `T c [W]`
+// `T c [W]`
 fn min_of(alloc: Global, line: &[u8]) -> Result<Option<Statement>, AllocError>
     ensures { Reads result
         (folded_of (λ table column preds. Statement.Ask (Query.Min table column preds)) (words_of line.now)) }
@@ -90,7 +94,7 @@ fn min_of(alloc: Global, line: &[u8]) -> Result<Option<Statement>, AllocError>
     })))
 }
 
-/// `T c [W]`
+// `T c [W]`
 fn max_of(alloc: Global, line: &[u8]) -> Result<Option<Statement>, AllocError>
     ensures { Reads result
         (folded_of (λ table column preds. Statement.Ask (Query.Max table column preds)) (words_of line.now)) }
@@ -136,7 +140,7 @@ fn next_folded(line: &[u8]) -> Option<Folded<'_>>
     }
 }
 
-/// `T c sum d [W]`
+// `T c sum d [W]`
 fn group_of(alloc: Global, line: &[u8]) -> Result<Option<Statement>, AllocError>
     ensures { Reads result (group_of (words_of line.now)) }
 {
@@ -170,7 +174,7 @@ fn group_of(alloc: Global, line: &[u8]) -> Result<Option<Statement>, AllocError>
     })))
 }
 
-/// `T c U d`
+// `T c U d`
 fn join_of(alloc: Global, line: &[u8]) -> Result<Option<Statement>, AllocError>
     ensures { Reads result (join_of (words_of line.now)) }
 {

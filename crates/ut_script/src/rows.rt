@@ -11,13 +11,13 @@ use crate::spelled::{Spelled, count_all, read_all};
 use crate::words::next_word;
 use std::alloc::{AllocError, Global};
 use ut_plain::Statement;
-use ut_value::{Column, Name, Value, is_name, same_bytes};
+use ut_value::{COLUMNS_LIMIT, Column, Name, Value, is_name, same_bytes};
 
 /// The greatest number of columns of a table.
-const MAX_COLUMNS: usize = 64;
+const MAX_COLUMNS: usize = COLUMNS_LIMIT as usize;
 
 /// `T c:int d:text ..`
-pub fn create_of(alloc: Global, line: &[u8]) -> Result<Option<Statement>, AllocError>
+pub(crate) fn create_of(alloc: Global, line: &[u8]) -> Result<Option<Statement>, AllocError>
     ensures { Reads result (create_of (words_of line.now)) }
 {
     let Some((table, rest)) = next_word(line) else {
@@ -38,7 +38,7 @@ pub fn create_of(alloc: Global, line: &[u8]) -> Result<Option<Statement>, AllocE
 }
 
 /// `T v ..`, into L1.
-pub fn insert_of(alloc: Global, line: &[u8]) -> Result<Option<Statement>, AllocError>
+pub(crate) fn insert_of(alloc: Global, line: &[u8]) -> Result<Option<Statement>, AllocError>
     ensures { Reads result (rows_of Statement.Insert (words_of line.now)) }
 {
     let Some((table, rest)) = next_word(line) else {
@@ -55,7 +55,7 @@ pub fn insert_of(alloc: Global, line: &[u8]) -> Result<Option<Statement>, AllocE
 }
 
 /// `T v ..`, into L2.
-pub fn bulk_of(alloc: Global, line: &[u8]) -> Result<Option<Statement>, AllocError>
+pub(crate) fn bulk_of(alloc: Global, line: &[u8]) -> Result<Option<Statement>, AllocError>
     ensures { Reads result (rows_of Statement.Bulk (words_of line.now)) }
 {
     let Some((table, rest)) = next_word(line) else {
@@ -72,7 +72,7 @@ pub fn bulk_of(alloc: Global, line: &[u8]) -> Result<Option<Statement>, AllocErr
 }
 
 /// `T set c v [W]`
-pub fn update_of(alloc: Global, line: &[u8]) -> Result<Option<Statement>, AllocError>
+pub(crate) fn update_of(alloc: Global, line: &[u8]) -> Result<Option<Statement>, AllocError>
     ensures { Reads result (update_of (words_of line.now)) }
 {
     let Some((table, rest)) = next_word(line) else {
@@ -106,7 +106,7 @@ pub fn update_of(alloc: Global, line: &[u8]) -> Result<Option<Statement>, AllocE
 }
 
 /// `T [W]`
-pub fn delete_of(alloc: Global, line: &[u8]) -> Result<Option<Statement>, AllocError>
+pub(crate) fn delete_of(alloc: Global, line: &[u8]) -> Result<Option<Statement>, AllocError>
     ensures { Reads result (chosen_of Statement.Delete (words_of line.now)) }
 {
     let Some((table, rest)) = next_word(line) else {

@@ -16,7 +16,7 @@ use ut_plain::{Query, Statement};
 use ut_value::{Name, Seq, is_name, same_bytes};
 
 /// `T * [W]` or `T c .. [W]`
-pub fn select_of(alloc: Global, line: &[u8]) -> Result<Option<Statement>, AllocError>
+pub(crate) fn select_of(alloc: Global, line: &[u8]) -> Result<Option<Statement>, AllocError>
     ensures { Reads result (select_of (words_of line.now)) }
 {
     let Some((table, rest)) = next_word(line) else {
@@ -35,7 +35,7 @@ pub fn select_of(alloc: Global, line: &[u8]) -> Result<Option<Statement>, AllocE
     }
 }
 
-/// All columns.
+// All columns.
 fn columns_of_all(alloc: Global, table: &[u8], line: &[u8]) -> Result<Option<Statement>, AllocError>
     requires { is_name table.now ≡ true }
     ensures { Reads result (columns_of_all table.now (words_of line.now)) }
@@ -52,7 +52,7 @@ fn columns_of_all(alloc: Global, table: &[u8], line: &[u8]) -> Result<Option<Sta
     })))
 }
 
-/// The columns that are named.
+// The columns that are named.
 fn columns_named(alloc: Global, table: &[u8], line: &[u8]) -> Result<Option<Statement>, AllocError>
     requires { is_name table.now ≡ true }
     ensures { Reads result (columns_named table.now (words_of line.now)) }
@@ -82,7 +82,7 @@ fn is_where(word: &[u8]) -> bool
     same_bytes(word, b"where")
 }
 
-/// How many names stand before the conditions, and the conditions.
+// How many names stand before the conditions, and the conditions.
 fn names_before(line: &[u8]) -> Option<(usize, &[u8])>
     ensures count { option_map (λ r. r.0) result ≡ option_map length (names_before (words_of line.now)) }
     ensures rest { IfSome result (λ r. words_of r.1.now ≡ from_where (words_of line.now)) }

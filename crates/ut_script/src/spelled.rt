@@ -8,14 +8,13 @@ ghost use Rattle.ut_script.specs.Literals.{name_of, column_of, kind_of, colon_at
 use crate::literals::{int_of, is_text_literal, read_text};
 use crate::words::next_word;
 use std::alloc::{AllocError, Global};
+use ut_reply::QUOTE;
 use ut_value::{Column, Kind, Name, Seq, Value, is_name, same_bytes};
-
-const QUOTE: u8 = b'\'';
 
 const COLON: u8 = b':';
 
 /// What one word can spell. A word is tested without memory, and read once it is known to spell something.
-pub trait Spelled: Drop {
+pub(crate) trait Spelled: Drop {
     /// What a word spells.
     ghost spelled: { List ℕ → Option Self };
 
@@ -87,7 +86,7 @@ impl Spelled for Value {
     }
 }
 
-/// The kind that stands behind a column's name, with its colon.
+// The kind that stands behind a column's name, with its colon.
 fn kind_of(word: &[u8]) -> Option<Kind>
     ensures { result ≡ kind_of word.now }
 {
@@ -113,7 +112,7 @@ fn colon_at(word: &[u8]) -> usize
 }
 
 /// How many words are left, where each of them spells a thing of this kind.
-pub fn count_all<T: Spelled>(line: &[u8]) -> Option<usize>
+pub(crate) fn count_all<T: Spelled>(line: &[u8]) -> Option<usize>
     ensures { result ≡ option_map length (all_of T.spelled (words_of line.now)) }
 {
     let mut count = 0usize;
@@ -129,7 +128,11 @@ pub fn count_all<T: Spelled>(line: &[u8]) -> Option<usize>
 }
 
 /// What the words that are left spell.
-pub fn read_all<T: Spelled>(alloc: Global, line: &[u8], count: usize) -> Result<Seq<T>, AllocError>
+pub(crate) fn read_all<T: Spelled>(
+    alloc: Global,
+    line: &[u8],
+    count: usize,
+) -> Result<Seq<T>, AllocError>
     requires { option_map length (all_of T.spelled (words_of line.now)) ≡ Some count }
     ensures { IfOk result (λ items. all_of T.spelled (words_of line.now) ≡ Some items) }
 {

@@ -11,7 +11,10 @@ use ut_plain::Statement;
 use ut_value::same_bytes;
 
 /// The statements of sessions 1 to 16.
-pub fn session_statement_of(alloc: Global, line: &[u8]) -> Result<Option<Statement>, AllocError>
+pub(crate) fn session_statement_of(
+    alloc: Global,
+    line: &[u8],
+) -> Result<Option<Statement>, AllocError>
     ensures { ReadsStatement result (session_statement_of (words_of line.now)) }
 {
     let Some((verb, rest)) = next_word(line) else {
@@ -60,7 +63,7 @@ fn table_statement_of(
 }
 
 /// A statement that no word follows.
-pub fn alone(st: Statement, line: &[u8]) -> Option<Statement>
+pub(crate) fn alone(st: Statement, line: &[u8]) -> Option<Statement>
     ensures { result ≡ alone st (words_of line.now) }
 {
     match next_word(line) {

@@ -12,13 +12,16 @@ use crate::statements::alone;
 use crate::words::next_word;
 use std::alloc::{AllocError, Global};
 use ut_plain::Statement;
-use ut_value::{MergeKind, Name, is_name, same_bytes};
+use ut_value::{COUNT_LIMIT, MergeKind, Name, is_name, same_bytes};
 
 /// The greatest number of rows or pages that a statement names.
-const MAX_COUNT: u64 = 1048576;
+const MAX_COUNT: u64 = COUNT_LIMIT as u64;
 
 /// The statements of session 0.
-pub fn store_statement_of(alloc: Global, line: &[u8]) -> Result<Option<Statement>, AllocError>
+pub(crate) fn store_statement_of(
+    alloc: Global,
+    line: &[u8],
+) -> Result<Option<Statement>, AllocError>
     ensures { ReadsStatement result (store_statement_of (words_of line.now)) }
 {
     let Some((verb, rest)) = next_word(line) else {
@@ -38,7 +41,7 @@ pub fn store_statement_of(alloc: Global, line: &[u8]) -> Result<Option<Statement
     }
 }
 
-/// The statements of the savepoint. They take no memory.
+// The statements of the savepoint. They take no memory.
 fn save_of(line: &[u8]) -> Option<Statement>
     ensures { result ≡ save_of (words_of line.now) }
 {
@@ -95,7 +98,7 @@ fn merge_of(alloc: Global, line: &[u8]) -> Result<Option<Statement>, AllocError>
     }
 }
 
-/// `T n`
+// `T n`
 fn merge_l1_of(alloc: Global, line: &[u8]) -> Result<Option<Statement>, AllocError>
     ensures { Reads result (merge_l1_of (words_of line.now)) }
 {
@@ -118,7 +121,7 @@ fn merge_l1_of(alloc: Global, line: &[u8]) -> Result<Option<Statement>, AllocErr
     Ok(Some(Statement::MergeL1 { table, n }))
 }
 
-/// `T k`
+// `T k`
 fn merge_begin_of(alloc: Global, line: &[u8]) -> Result<Option<Statement>, AllocError>
     ensures { Reads result (merge_begin_of (words_of line.now)) }
 {
@@ -141,7 +144,7 @@ fn merge_begin_of(alloc: Global, line: &[u8]) -> Result<Option<Statement>, Alloc
     Ok(Some(Statement::MergeBegin { table, kind }))
 }
 
-/// `T`
+// `T`
 fn shape_of(alloc: Global, line: &[u8]) -> Result<Option<Statement>, AllocError>
     ensures { Reads result (shape_of (words_of line.now)) }
 {
@@ -158,7 +161,7 @@ fn shape_of(alloc: Global, line: &[u8]) -> Result<Option<Statement>, AllocError>
     Ok(Some(Statement::Shape { table }))
 }
 
-/// A number of rows or pages.
+// A number of rows or pages.
 fn count_of(word: &[u8]) -> Option<u32>
     ensures { result ≡ count_of word.now }
 {

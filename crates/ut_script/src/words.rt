@@ -3,13 +3,12 @@ ghost use Rattle.std.specs.Prelude.{◌≡◌, ◌+◌, ◌<◌, ◌≤◌, ◌�
 ghost use Rattle.ut_script.specs.Words.{words_of, piece_len, BeginsWord};
 
 use memchr::memchr;
+use ut_reply::QUOTE;
 
 const SPACE: u8 = b' ';
 
-const QUOTE: u8 = b'\'';
-
 /// The first word of a line, and what stands behind it.
-pub fn next_word(line: &[u8]) -> Option<(&[u8], &[u8])>
+pub(crate) fn next_word(line: &[u8]) -> Option<(&[u8], &[u8])>
     ensures found { IfSome result (λ r. words_of line.now ≡ r.0.now ∷ words_of r.1.now) }
     ensures shorter { IfSome result (λ r. length r.1.now < length line.now) }
     ensures none { IfNone result (words_of line.now ≡ []) }
@@ -26,7 +25,7 @@ pub fn next_word(line: &[u8]) -> Option<(&[u8], &[u8])>
     }
 }
 
-/// What stands behind the spaces at the front.
+// What stands behind the spaces at the front.
 fn after_spaces(line: &[u8]) -> &[u8]
     ensures same { words_of result.now ≡ words_of line.now }
     ensures shorter { length result.now ≤ length line.now }
@@ -39,7 +38,7 @@ fn after_spaces(line: &[u8]) -> &[u8]
     rest
 }
 
-/// How long the piece at the front is.
+// How long the piece at the front is.
 fn piece_len(bytes: &[u8]) -> usize
     ensures value { result ≡ piece_len false bytes.now }
     ensures within { result ≤ length bytes.now }
@@ -58,7 +57,7 @@ fn piece_len(bytes: &[u8]) -> usize
     at
 }
 
-/// How many bytes behind a quote are inside of it, the next quote included.
+// How many bytes behind a quote are inside of it, the next quote included.
 fn quoted_len(bytes: &[u8]) -> usize
     ensures value { piece_len true bytes.now ≡ result + piece_len false (drop result bytes.now) }
     ensures within { result ≤ length bytes.now }

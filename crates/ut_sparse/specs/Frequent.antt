@@ -8,7 +8,9 @@ count_of c codes = count_by (λ d. d == c) codes
 
 -- the one of two codes that stands more often in a list, the smaller on a tie
 abbrev pub more_frequent : List ℕ → ℕ → ℕ → ℕ
-more_frequent all a b = if nat_lt (count_of a all) (count_of b all) then b else (if nat_lt (count_of b all) (count_of a all) then a else min a b)
+more_frequent all a b =
+    if nat_lt (count_of a all) (count_of b all) then b
+    else (if nat_lt (count_of b all) (count_of a all) then a else min a b)
 
 -- the one of some codes that stands most often in a list
 abbrev pub most_frequent_of : List ℕ → List ℕ → ℕ

@@ -22,7 +22,9 @@ merged left (m ∷ ms) others = if m == 0 then left ∷ merged left ms others el
 
 -- the bytes of codes with one left out: that code, the marks as bits, then the others at their width
 abbrev pub sparse_bytes : ℕ → List ℕ → List ℕ
-sparse_bytes width codes = let left = most_frequent codes in word_bytes left ++ (packed_bytes 1 (marks_of left codes) ++ packed_bytes width (others_of left codes))
+sparse_bytes width codes =
+    let left = most_frequent codes in
+    word_bytes left ++ (packed_bytes 1 (marks_of left codes) ++ packed_bytes width (others_of left codes))
 
 -- how many rows are marked
 abbrev pub marked : List ℕ → ℕ
@@ -31,7 +33,9 @@ marked (m ∷ ms) = m + marked ms
 
 -- for each 64 rows, and behind the last, how many rows are marked before them
 abbrev pub AreRanks : List ℕ → List ℕ → Type 0
-AreRanks marks ranks = (length ranks ≡ length marks / 64 + 2) × ((k : ℕ) → k < length ranks → slice_index ranks k ≡ marked (take (64 * k) marks))
+AreRanks marks ranks =
+    (length ranks ≡ length marks / 64 + 2)
+    × ((k : ℕ) → k < length ranks → slice_index ranks k ≡ marked (take (64 * k) marks))
 
 -- marks of 0 and 1 and as many other codes as are marked, none of them the one that is left out
 pub record AreSparse (left : ℕ) (marks others : List ℕ) : Type 0 where

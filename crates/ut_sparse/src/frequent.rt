@@ -28,7 +28,7 @@ pub fn most_frequent(alloc: Global, codes: &[u32]) -> Result<Frequency, AllocErr
     by_sort(alloc, codes)
 }
 
-/// The greatest code, or 0.
+// The greatest code, or 0.
 fn greatest_of(codes: &[u32]) -> u32
     ensures { AllBelow (result + 1) codes.now }
 {
@@ -59,7 +59,7 @@ fn by_table(alloc: Global, codes: &[u32], limit: usize) -> Result<Frequency, All
     })
 }
 
-/// How often each code below the limit stands.
+// How often each code below the limit stands.
 fn tally(alloc: Global, codes: &[u32], limit: usize) -> Result<Vec<u32>, AllocError>
     requires count { length codes.now ≤ 2 ^ 31 }
     requires below { AllBelow limit codes.now }
@@ -72,7 +72,7 @@ fn tally(alloc: Global, codes: &[u32], limit: usize) -> Result<Vec<u32>, AllocEr
     Ok(counts)
 }
 
-/// Adds one to the count of each code.
+// Adds one to the count of each code.
 fn add_counts(counts: &mut [u32], codes: &[u32])
     requires count { length codes.now ≤ 2 ^ 31 }
     requires zero { (d : ℕ) → slice_index counts.old d ≡ 0 }
@@ -84,7 +84,7 @@ fn add_counts(counts: &mut [u32], codes: &[u32])
     }
 }
 
-/// The first place of the greatest number.
+// The first place of the greatest number.
 fn first_greatest(counts: &[u32]) -> usize
     requires { 0 < length counts.now }
     ensures within { result < length counts.now }
@@ -111,7 +111,7 @@ fn by_sort(alloc: Global, codes: &[u32]) -> Result<Frequency, AllocError>
     Ok(longest_run(sorted.as_slice()))
 }
 
-/// The first code of those with the longest run of equal codes.
+// The first code of those with the longest run of equal codes.
 fn longest_run(sorted: &[u32]) -> Frequency
     requires count { length sorted.now ≤ 2 ^ 31 }
     requires sorted { IsSorted nat_cmp sorted.now }
@@ -127,7 +127,7 @@ fn longest_run(sorted: &[u32]) -> Frequency
     best
 }
 
-/// The run that ends with a code, behind the run before it.
+// The run that ends with a code, behind the run before it.
 fn lengthened(run: Frequency, code: u32) -> Frequency
     requires { run.count ≤ 2 ^ 31 }
     ensures code { result.code ≡ code }
@@ -138,7 +138,7 @@ fn lengthened(run: Frequency, code: u32) -> Frequency
     Frequency { code, count }
 }
 
-/// The longer of two runs, the first on a tie.
+// The longer of two runs, the first on a tie.
 fn longer(best: Frequency, run: Frequency) -> Frequency
     ensures stays { run.count ≤ best.count → result ≡ best }
     ensures grows { best.count < run.count → result ≡ run }

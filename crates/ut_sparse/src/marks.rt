@@ -6,7 +6,7 @@ use std::alloc::{AllocError, Global};
 use ut_bits::BitList;
 
 /// For each 64 rows, and behind the last, how many rows are marked before them.
-pub fn ranks_of(alloc: Global, marks: &BitList) -> Result<Vec<u32>, AllocError>
+pub(crate) fn ranks_of(alloc: Global, marks: &BitList) -> Result<Vec<u32>, AllocError>
     requires width { marks.now.width ≡ 1 }
     requires bits { AllBelow 2 marks.now.codes }
     ensures { IfOk result (λ v. AreRanks marks.now.codes v.items) }
@@ -23,7 +23,7 @@ pub fn ranks_of(alloc: Global, marks: &BitList) -> Result<Vec<u32>, AllocError>
 }
 
 /// The code of a row, before which `rank` rows are marked.
-pub fn code_here(left_out: u32, marks: &BitList, others: &BitList, i: u32, rank: u32) -> u32
+pub(crate) fn code_here(left_out: u32, marks: &BitList, others: &BitList, i: u32, rank: u32) -> u32
     requires bits { AllBelow 2 marks.now.codes }
     requires paired { marked marks.now.codes ≡ length others.now.codes }
     requires within { i < length marks.now.codes }
@@ -37,7 +37,7 @@ pub fn code_here(left_out: u32, marks: &BitList, others: &BitList, i: u32, rank:
 }
 
 /// All codes in order, written from one mark to the next.
-pub fn merged_codes(
+pub(crate) fn merged_codes(
     alloc: Global,
     left_out: u32,
     marks: &BitList,
@@ -62,7 +62,7 @@ pub fn merged_codes(
 }
 
 /// How many rows before a row are marked.
-pub fn rank_at(marks: &BitList, ranks: &[u32], i: u32) -> u32
+pub(crate) fn rank_at(marks: &BitList, ranks: &[u32], i: u32) -> u32
     requires width { marks.now.width ≡ 1 }
     requires bits { AllBelow 2 marks.now.codes }
     requires ranks { AreRanks marks.now.codes ranks.now }
@@ -75,7 +75,7 @@ pub fn rank_at(marks: &BitList, ranks: &[u32], i: u32) -> u32
     block + before.count_ones()
 }
 
-/// The marks of the rows from one on to the end of its block of 64, the first as the lowest bit.
+// The marks of the rows from one on to the end of its block of 64, the first as the lowest bit.
 fn marks_from(marks: &BitList, row: u32) -> u64
     requires width { marks.now.width ≡ 1 }
     requires bits { AllBelow 2 marks.now.codes }
@@ -86,7 +86,7 @@ fn marks_from(marks: &BitList, row: u32) -> u64
 }
 
 /// The first marked row from a row on.
-pub fn next_mark(marks: &BitList, row: u32) -> u32
+pub(crate) fn next_mark(marks: &BitList, row: u32) -> u32
     requires few { length marks.now.codes ≤ 2 ^ 31 }
     requires width { marks.now.width ≡ 1 }
     requires bits { AllBelow 2 marks.now.codes }
@@ -106,7 +106,7 @@ pub fn next_mark(marks: &BitList, row: u32) -> u32
 }
 
 /// How many rows are marked.
-pub fn marked_rows(marks: &BitList, ranks: &[u32]) -> u32
+pub(crate) fn marked_rows(marks: &BitList, ranks: &[u32]) -> u32
     requires { AreRanks marks.now.codes ranks.now }
     ensures { result ≡ marked marks.now.codes }
 {

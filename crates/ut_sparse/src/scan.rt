@@ -10,7 +10,7 @@ use ut_mask::Mask;
 
 /// Appends the places whose code stands in one of the ranges, one of which holds the code that is
 /// left out: from one mark to the next, with all rows between them.
-pub fn append_all_in(
+pub(crate) fn append_all_in(
     left_out: u32,
     marks: &BitList,
     others: &BitList,
@@ -46,8 +46,8 @@ pub fn append_all_in(
     }
 }
 
-/// Appends the places of word `k` of the marks whose code stands in one of the ranges, none of
-/// which holds the code that is left out: from one mark to the next.
+// Appends the places of word `k` of the marks whose code stands in one of the ranges, none of
+// which holds the code that is left out: from one mark to the next.
 fn append_marked_in(
     left_out: u32,
     marks: &BitList,
@@ -88,7 +88,7 @@ fn append_marked_in(
 
 /// Appends the places whose code stands in one of the ranges, none of which holds the code that
 /// is left out: word by word of the marks, past those without any.
-pub fn append_others_in(
+pub(crate) fn append_others_in(
     left_out: u32,
     marks: &BitList,
     others: &BitList,
@@ -117,7 +117,7 @@ pub fn append_others_in(
 }
 
 /// Keeps of a mask the places whose code stands in one of the ranges: from one mark to the next.
-pub fn keep_marked(
+pub(crate) fn keep_marked(
     left_out: u32,
     marks: &BitList,
     others: &BitList,

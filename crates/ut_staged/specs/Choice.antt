@@ -6,11 +6,13 @@ use Rattle.ut_stamps.specs.declared.place.Place.{Place}
 use Rattle.ut_stamps.specs.declared.place.Place.TheVariants.{L1, L2, Closed, Main}
 use Rattle.ut_staged.specs.Staged.{Staged, row_at, is_rebuilt}
 
+-- the old places of a new part, in its order: all that aren't dropped, none of them twice
 pub record IsChoice (stay : ℕ) (s : Staged) (dropped : Place → Type 0) (olds : List Place) : Type 0 where
   pub parts : stay ≤ length s.parts
   pub rebuilt : (i : ℕ) (p : Place) → slice_get olds i ≡ Some p → is_rebuilt stay p ≡ true
   pub there : (i : ℕ) (p : Place) → slice_get olds i ≡ Some p → (r : StagedRow) × (row_at s p ≡ Some r)
-  pub all : (p : Place) (r : StagedRow) → row_at s p ≡ Some r → is_rebuilt stay p ≡ true → dropped p ⊎ ((i : ℕ) × (slice_get olds i ≡ Some p))
+  pub all : (p : Place) (r : StagedRow) → row_at s p ≡ Some r → is_rebuilt stay p ≡ true
+      → dropped p ⊎ ((i : ℕ) × (slice_get olds i ≡ Some p))
   pub apart : (i k : ℕ) (p : Place) → slice_get olds i ≡ Some p → slice_get olds k ≡ Some p → i ≡ k
 
 -- where the row of a place stood before the switch

@@ -11,13 +11,15 @@ use Rattle.ut_staged.specs.Staged.{Staged, no_row}
 abbrev pub all_of : List StagedRow → List Bool
 all_of rows = map (λ (row : StagedRow). true) rows
 
+-- of a list that is merged, a place is kept where the stamp of its row says so
 abbrev pub needed_of : List Fate → List ℕ → List StagedRow → List Bool
 needed_of fates snapshots rows = map (λ (row : StagedRow). stamp_keeps fates snapshots row.stamp) rows
 
 -- the places of main and of the second stage that a merge keeps which begins now, with these snapshots open
 abbrev pub stamp_flags : List Fate → List ℕ → MergeKind → Staged → List (List Bool)
 stamp_flags fates snapshots kind s =
-    map all_of (take (staying kind (length s.parts)) (s.parts ++ s.l2 ∷ [])) ++ map (needed_of fates snapshots) (drop (staying kind (length s.parts)) (s.parts ++ s.l2 ∷ []))
+    map all_of (take (staying kind (length s.parts)) (s.parts ++ s.l2 ∷ []))
+    ++ map (needed_of fates snapshots) (drop (staying kind (length s.parts)) (s.parts ++ s.l2 ∷ []))
 
 -- the rows that a merge takes over which begins with these flags, in their old order
 abbrev pub taken_over : MergeKind → List (List Bool) → Staged → List StagedRow

@@ -11,6 +11,7 @@ use Rattle.ut_stamps.specs.declared.place.Place.{Place}
 use Rattle.ut_stamps.specs.declared.place.Place.TheVariants.{L1, L2, Closed, Main}
 use Rattle.ut_exact.specs.Places.{StagedRow, is_dead, ended_row}
 
+-- one table: its columns, the rows in each stage, and its pending merge
 pub record Staged : Type 0 where
   pub columns : List Column
   pub l1 : List StagedRow
@@ -24,6 +25,7 @@ pub record Staged : Type 0 where
   -- the pending merge of this table
   pub merge : Option PendingMerge
 
+-- a table without rows
 abbrev pub no_rows : List Column → Staged
 no_rows columns = record { columns = columns; l1 = []; l2 = []; closed = None; parts = []; keep = []; merge = None }
 
@@ -60,7 +62,13 @@ placed_of row = record { id = row.id; values = row.values; dead = is_dead row.st
 
 -- the stages of a table
 abbrev pub stages_of : Staged → TableStages
-stages_of s = record { l1 = map placed_of s.l1; l2 = map placed_of s.l2; closed = option_map (map placed_of) s.closed; parts = map (map placed_of) s.parts; keep = s.keep }
+stages_of s = record {
+  l1 = map placed_of s.l1;
+  l2 = map placed_of s.l2;
+  closed = option_map (map placed_of) s.closed;
+  parts = map (map placed_of) s.parts;
+  keep = s.keep;
+}
 
 -- ---- rows that enter and end
 

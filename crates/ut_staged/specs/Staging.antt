@@ -17,7 +17,9 @@ use Rattle.ut_staged.specs.Tables.{place_at}
 
 -- The stages after these operations of a running transaction, with new rows in the first stage or loaded in bulk into the second.
 pub record Staging (old new : List Staged) (number : ℕ) (bulk : Bool) (next : ℕ) (os : List Op) : Type 0 where
-  pub places : (fates : List Fate) (sessions : Sessions) (held : ℕ → Option Stamped) → AreFree held next → AreHeld (place_at old) (IsGone fates sessions) held → AreHeld (place_at new) (IsGone fates sessions) (applied number held os)
+  pub places : (fates : List Fate) (sessions : Sessions) (held : ℕ → Option Stamped) → AreFree held next
+      → AreHeld (place_at old) (IsGone fates sessions) held
+      → AreHeld (place_at new) (IsGone fates sessions) (applied number held os)
   pub free : (held : ℕ → Option Stamped) → AreFree held next → AreFree (applied number held os) (next + inserts_of os)
   pub stages : map stages_of new ≡ with_inserts bulk (map stages_of old) os
   pub columns : map (λ (s : Staged). s.columns) new ≡ map (λ (s : Staged). s.columns) old
@@ -41,7 +43,8 @@ ended_all number (e ∷ es) s = ended_all number es (ended_in number e.1 s)
 abbrev pub updated_all : ℕ → ℕ → List (ℕ × Place) → List (List Value) → Staged → Staged
 updated_all number id [] rows s = s
 updated_all number id (e ∷ es) [] s = s
-updated_all number id (e ∷ es) (values ∷ rows) s = updated_all number (id + 1) es rows (entered_l1 (new_row number id values) (ended_in number e.1 s))
+updated_all number id (e ∷ es) (values ∷ rows) s =
+    updated_all number (id + 1) es rows (entered_l1 (new_row number id values) (ended_in number e.1 s))
 
 -- each place that was found holds the row of its id, and is somebody's
 abbrev pub AreFound : Staged → List (ℕ × Place) → Type 0

@@ -9,6 +9,7 @@ use Rattle.ut_stamps.specs.declared.place.Place.TheVariants.{L1, L2, Closed, Mai
 use Rattle.ut_staged.specs.Staged.{Staged, row_at, rows_at, placed_of, stages_of}
 use Rattle.ut_staged.specs.Choice.{IsChoice, IsDropped}
 
+-- the row in a place of table n
 abbrev pub place_at : List Staged → ℕ → Place → Option StagedRow
 place_at staged n p = option_and_then (λ s. row_at s p) (slice_get staged n)
 
@@ -26,4 +27,6 @@ opened (Main p i) = Main p i
 -- these are the old places of a new part: each that is kept, once, and in the order of the kind of merge
 pub record IsArranged (kind : MergeKind) (s : Staged) (olds : List Place) : Type 0 where
   pub choice : IsChoice (staying kind (length s.parts)) s (IsDropped s) olds
-  pub order : map placed_of (rows_at s olds) ≡ arranged kind (flagged_all (rebuilt kind (stages_of s).parts (unwrap_or (stages_of s).closed [])) (drop (staying kind (length s.parts)) s.keep))
+  pub order : map placed_of (rows_at s olds)
+      ≡ arranged kind (flagged_all (rebuilt kind (stages_of s).parts (unwrap_or (stages_of s).closed []))
+      (drop (staying kind (length s.parts)) s.keep))

@@ -17,7 +17,7 @@ pub fn keeps(fates: &Fates, stamp: &Stamp, snapshots: &[u32]) -> bool
     }
 }
 
-/// Whether somebody needs a row that was committed at length `begun`, by who ended it.
+// Whether somebody needs a row that was committed at length `begun`, by who ended it.
 fn end_keeps(fates: &Fates, end: Option<u64>, snapshots: &[u32], begun: u32) -> bool
     ensures { result ≡ end_keeps fates.now snapshots.now begun end }
 {
@@ -27,7 +27,7 @@ fn end_keeps(fates: &Fates, end: Option<u64>, snapshots: &[u32], begun: u32) -> 
     }
 }
 
-/// The same, by the fate of who ended it.
+// The same, by the fate of who ended it.
 fn is_needed_still(snapshots: &[u32], begun: u32, ended: Fate) -> bool
     ensures { result ≡ is_needed_still snapshots.now begun ended }
 {
@@ -38,7 +38,7 @@ fn is_needed_still(snapshots: &[u32], begun: u32, ended: Fate) -> bool
     }
 }
 
-/// Whether one of these snapshots holds the entry of length `begun` and not that of `ended`.
+// Whether one of these snapshots holds the entry of length `begun` and not that of `ended`.
 fn is_between(snapshots: &[u32], begun: u32, ended: u32) -> bool
     ensures { result ≡ is_between snapshots.now begun ended }
 {

@@ -30,11 +30,12 @@ spare_at seats session = unwrap_or (option_map (λ (seat : Seat). seat.spare) (s
 abbrev pub number_at : List Seat → ℕ → ℕ
 number_at seats session = unwrap_or (option_map (λ (o : Opened). o.number) (opened_at seats session)) 0
 
--- where a transaction looks, and where the open ones look, by the number of the session
+-- where a transaction looks, if one is open
 abbrev pub looks_of : Option Opened → List ℕ
 looks_of None = []
 looks_of (Some o) = o.snapshot ∷ []
 
+-- where the open ones look, by the number of the session
 abbrev pub snapshots_of : List Seat → List ℕ
 snapshots_of seats = flat_map (λ (seat : Seat). looks_of seat.opened) seats
 

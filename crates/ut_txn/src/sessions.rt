@@ -11,10 +11,7 @@ use crate::seated::Seated;
 use std::alloc::{AllocError, Global};
 use std::marker::Model;
 use ut_redo::Frame;
-use ut_value::Op;
-
-/// Sixteen sessions, and a first seat that is nobody's.
-const SEATS: usize = 17;
+use ut_value::{Op, SEATS};
 
 /// The seats, by the number of the session.
 #[derive(Drop)]

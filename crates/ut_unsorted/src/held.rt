@@ -15,7 +15,7 @@ pub enum Held {
 }
 
 /// The place of a word, which goes last where it is new.
-pub fn intern_word(words: &mut IndexSet<Word>, word: Word) -> Result<u32, AllocError>
+pub(crate) fn intern_word(words: &mut IndexSet<Word>, word: Word) -> Result<u32, AllocError>
     requires { length words.old.keys < 2 ^ 31 }
     ensures code { IfOk result (λ c. c ≡ position_or_len (key_eq word) words.old.keys) }
     ensures keys { OnOk result (words.new.keys ≡ note words.old.keys word) }
@@ -30,7 +30,11 @@ pub fn intern_word(words: &mut IndexSet<Word>, word: Word) -> Result<u32, AllocE
 }
 
 /// The place of a text, which goes last where it is new.
-pub fn intern_text(alloc: Global, texts: &mut IndexSet<Text>, key: &[u8]) -> Result<u32, AllocError>
+pub(crate) fn intern_text(
+    alloc: Global,
+    texts: &mut IndexSet<Text>,
+    key: &[u8],
+) -> Result<u32, AllocError>
     requires short { length key.now ≤ 255 }
     requires count { length texts.old.keys < 2 ^ 31 }
     ensures code { IfOk result (λ c. c ≡ position_or_len (key_eq key.now) texts.old.keys) }
@@ -46,7 +50,7 @@ pub fn intern_text(alloc: Global, texts: &mut IndexSet<Text>, key: &[u8]) -> Res
 }
 
 /// The same keys in the other form.
-pub fn texts_of(alloc: Global, words: &IndexSet<Word>) -> Result<IndexSet<Text>, AllocError>
+pub(crate) fn texts_of(alloc: Global, words: &IndexSet<Word>) -> Result<IndexSet<Text>, AllocError>
     ensures { IfOk result (λ t. t.keys ≡ words.now.keys) }
 {
     let words = words.as_slice();
@@ -58,7 +62,7 @@ pub fn texts_of(alloc: Global, words: &IndexSet<Word>) -> Result<IndexSet<Text>,
 }
 
 /// The place of a word that is held.
-pub fn word_code(words: &IndexSet<Word>, key: &[u8]) -> Option<u32>
+pub(crate) fn word_code(words: &IndexSet<Word>, key: &[u8]) -> Option<u32>
     requires { length words.now.keys < 2 ^ 32 }
     ensures { result ≡ position (key_eq key.now) words.now.keys }
 {
@@ -69,7 +73,7 @@ pub fn word_code(words: &IndexSet<Word>, key: &[u8]) -> Option<u32>
 }
 
 /// The place of a text that is held.
-pub fn text_code(texts: &IndexSet<Text>, key: &[u8]) -> Option<u32>
+pub(crate) fn text_code(texts: &IndexSet<Text>, key: &[u8]) -> Option<u32>
     requires { length texts.now.keys < 2 ^ 32 }
     ensures { result ≡ position (key_eq key.now) texts.now.keys }
 {

@@ -62,7 +62,7 @@ fn text_codes(alloc: Global, all: &[CodedText<'_>]) -> Result<Vec<u32>, AllocErr
 }
 
 /// The codes of words, which are compared as numbers.
-pub fn order_words(alloc: Global, words: &[Word]) -> Result<Vec<u32>, AllocError>
+pub(crate) fn order_words(alloc: Global, words: &[Word]) -> Result<Vec<u32>, AllocError>
     requires few { length words.now < 2 ^ 32 }
     requires differ { IsDistinct key_eq words.now }
     ensures all { IfOk result (λ codes. IsPermutation (range_with_len 0 (length words.now)) codes.items) }
@@ -74,7 +74,7 @@ pub fn order_words(alloc: Global, words: &[Word]) -> Result<Vec<u32>, AllocError
 }
 
 /// The codes of texts, which are compared by their bytes.
-pub fn order_texts(alloc: Global, texts: &[Text]) -> Result<Vec<u32>, AllocError>
+pub(crate) fn order_texts(alloc: Global, texts: &[Text]) -> Result<Vec<u32>, AllocError>
     requires few { length texts.now < 2 ^ 32 }
     requires differ { IsDistinct key_eq texts.now }
     ensures all { IfOk result (λ codes. IsPermutation (range_with_len 0 (length texts.now)) codes.items) }

@@ -11,4 +11,6 @@ BeginsNone {X} spelling keeps bytes = (x : X) (rest : List ℕ) → Begins spell
 
 -- bytes begin with one spelling at most
 abbrev pub BeginsOnce : {X : Type 0} → (X → List ℕ) → (X → Bool) → Type 0
-BeginsOnce {X} spelling keeps = (a b : X) (x y bytes : List ℕ) → Begins spelling keeps bytes a x → Begins spelling keeps bytes b y → (a ≡ b) × (x ≡ y)
+BeginsOnce {X} spelling keeps =
+    (a b : X) (x y bytes : List ℕ) → Begins spelling keeps bytes a x → Begins spelling keeps bytes b y
+    → (a ≡ b) × (x ≡ y)

@@ -5,7 +5,9 @@ use Rattle.ut_value.specs.Spelling.{spelling, has_spelling}
 
 -- an entry has one spelling, and no entry's spelling begins another's
 abbrev pub OneSpelling : Type 0
-OneSpelling = (a b : Entry) (x y : List ℕ) → IsTrue (has_spelling a) → IsTrue (has_spelling b) → spelling a ++ x ≡ spelling b ++ y → (a ≡ b) × (x ≡ y)
+OneSpelling =
+    (a b : Entry) (x y : List ℕ) → IsTrue (has_spelling a) → IsTrue (has_spelling b) → spelling a ++ x ≡ spelling b ++ y
+    → (a ≡ b) × (x ≡ y)
 
 -- a spelling has a byte
 abbrev pub SpellingsHaveBytes : Type 0

@@ -10,40 +10,40 @@ static MODES: [&str; 3] = ["run", "crowd", "bench"];
 
 /// The numbers that an option takes.
 #[derive(Clone, Copy)]
-pub struct Limits {
+pub(crate) struct Limits {
     pub least: u32,
     pub most: u32,
 }
 
-pub const ROWS: Limits = Limits {
+pub(crate) const ROWS: Limits = Limits {
     least: 1,
     most: 1 << 31,
 };
 
-pub const LINES: Limits = Limits {
+pub(crate) const LINES: Limits = Limits {
     least: 1,
     most: 1 << 20,
 };
 
-pub const L1: Limits = Limits {
+pub(crate) const L1: Limits = Limits {
     least: 1,
     most: 1 << 20,
 };
 
-pub const PIECES: Limits = Limits { least: 1, most: 64 };
+pub(crate) const PIECES: Limits = Limits { least: 1, most: 64 };
 
-pub const SEED: Limits = Limits {
+pub(crate) const SEED: Limits = Limits {
     least: 0,
     most: 1 << 31,
 };
 
-pub const SIZE: Limits = Limits {
+pub(crate) const SIZE: Limits = Limits {
     least: 1,
     most: 500,
 };
 
 /// The command with all its arguments.
-pub fn command<'a>(alloc: Global) -> Result<Command<'a>, AllocError>
+pub(crate) fn command<'a>(alloc: Global) -> Result<Command<'a>, AllocError>
     ensures { IfOk result (λ c. IsCommand (app_of c)) }
 {
     let command = Command::new(alloc, "ut_app")
@@ -74,7 +74,7 @@ fn flag_arg<'a>(alloc: Global, name: &'a str) -> Arg<'a>
     Arg::new(alloc, name).long(name).action(ArgAction::SetTrue)
 }
 
-/// The command with one more option, which takes a number.
+// The command with one more option, which takes a number.
 fn with_number<'a>(
     alloc: Global,
     command: Command<'a>,
