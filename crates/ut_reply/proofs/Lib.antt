@@ -1,2 +1,5 @@
 pub mod RoomLemmas
 pub mod RowLemmas
+pub mod RunLemmas
+pub mod ShowLemmas
+pub mod TextsLemmas

@@ -1,6 +1,7 @@
 //! The texts of replies.
 #![tactic(auto)]
 
+mod columns;
 mod reply;
 mod room;
 mod values;

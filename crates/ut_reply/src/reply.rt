@@ -16,7 +16,7 @@ pub fn put_reply(out: &mut Vec<u8>, session: Option<u8>, reply: &Reply) -> Resul
     ensures full { OnErr result (vec_capacity out.old < vec_len out.old + reply_room reply.now) }
     ensures capacity { vec_capacity out.old ≤ vec_capacity out.new }
 {
-    let Some(room) = room_of(reply) else {
+    let Some(room) = room_of(*out.allocator(), reply) else {
         return Err(AllocError);
     };
     out.reserve(room)?;

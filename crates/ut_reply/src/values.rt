@@ -2,6 +2,7 @@
 ghost use Rattle.std.specs.Prelude.{◌≡◌, ◌<◌, ◌≤◌, ◌+◌, ◌*◌, ◌++◌, ◌∷◌, [], length, get_or, vec_len, vec_capacity, flat_map, sum_by, decimal};
 ghost use Rattle.ut_reply.specs.Texts.{quoted, value_text, tuple_text, rows_text, group_text, groups_text, value_room, tuple_room};
 
+use crate::columns::{add_by_columns, columns_of};
 use ut_digits::{add, add_number};
 use ut_plain::Group;
 use ut_rows::Rows;
@@ -19,7 +20,10 @@ pub(crate) fn add_rows(out: &mut Vec<u8>, rows: &Rows)
 {
     add(out, b"rows ");
     add_number(out, rows.len());
-    add_tuples(out, rows);
+    match columns_of(*out.allocator(), rows) {
+        Some(columns) => add_by_columns(out, rows, &columns),
+        None => add_tuples(out, rows),
+    }
 }
 
 /// The number of groups, and each group on a line of its own.
@@ -105,19 +109,22 @@ pub(crate) fn add_value(out: &mut Vec<u8>, value: &Value)
     }
 }
 
-// Bytes with each quote doubled.
+// Bytes with each quote doubled: each run that ends in a quote, and that quote once more.
 fn add_quoted(out: &mut Vec<u8>, bytes: &[u8])
     requires room { vec_len out.old + 2 * length bytes.now ≤ vec_capacity out.old }
     ensures text { out.new.items ≡ out.old.items ++ quoted bytes.now }
     ensures len { vec_len out.new ≤ vec_len out.old + 2 * length bytes.now }
     ensures capacity { vec_capacity out.old ≤ vec_capacity out.new }
 {
-    for b in bytes {
+    let mut start = 0;
+    for (i, b) in bytes.iter().enumerate() {
         if *b == QUOTE {
+            add(out, &bytes[start..i + 1]);
             out.push_reserved(QUOTE);
+            start = i + 1;
         }
-        out.push_reserved(*b);
     }
+    add(out, &bytes[start..]);
 }
 
 /// The rows of each part.

@@ -63,3 +63,14 @@ list_value now rows seen row values i j v is view there own held below inside =
       where
         get_or_from_some : slice_get xs i ≡ Some d → d ≡ get_or xs i e
         get_or_from_some found = sym (get_or_from_slice_get xs i d e found)
+
+-- the columns by which rows are held
+pub columns_are : (form : Form) (n : ℕ) (columns : Vec Cells Global) (now seen : List (List Value)) → rows_in form ≡ now → IsWhole form → form ≡ forms.Columns n columns → seen ≡ columns.items
+    → (now ≡ rows_of (length now) seen) × All (λ column. length column ≡ length now) seen
+columns_are form n columns now seen view whole is same =
+    let held : now ≡ rows_of n columns.items = rows_by_columns form n columns now view is in
+    let many : length now ≡ n = count_is n columns.items now held in
+    let each : All (λ column. length column ≡ n) columns.items = subst (λ (it : Form). All (λ column. length column ≡ count_in it) (columns_in it)) is whole.each in (
+      subst (λ (m : ℕ). now ≡ rows_of m seen) (sym many) (held ∙ ap (λ them. rows_of n them) (sym same)),
+      subst (λ (them : List (List Value)). All (λ column. length column ≡ length now) them) (sym same) (subst (λ (m : ℕ). All (λ column. length column ≡ m) columns.items) (sym many) each),
+    )

@@ -41,6 +41,14 @@ impl Cells {
         self.places.len()
     }
 
+    /// The values, and for each row the place of its own among them.
+    pub fn shared(&self) -> (&[Value], &[u32])
+        ensures rows { self.now ≡ values_at result.0.now result.1.now }
+        ensures within { All (λ p. p < length result.0.now) result.1.now }
+    {
+        (&self.values, &self.places)
+    }
+
     /// The value of a row.
     pub fn value(&self, row: usize) -> &Value
         requires { row < length self.now }

@@ -1,5 +1,5 @@
 //! Rows of values, each a list of its own, or column by column.
-ghost use Rattle.std.specs.Prelude.{◌≡◌, ◌<◌, [], length, get_or, slice_get, Some, All};
+ghost use Rattle.std.specs.Prelude.{◌≡◌, ◌<◌, [], length, get_or, slice_get, Some, All, IfSome};
 ghost use Rattle.ut_rows.specs.Columns.{rows_of};
 
 use crate::Cells;
@@ -57,6 +57,17 @@ impl Rows {
         match &self.form {
             Form::Lists(rows) => rows.len(),
             Form::Columns { len, .. } => *len,
+        }
+    }
+
+    /// The columns, where the rows are held by them.
+    pub fn columns(&self) -> Option<&[Cells]>
+        ensures rows { IfSome result (λ columns. self.now ≡ rows_of (length self.now) columns.now) }
+        ensures each { IfSome result (λ columns. All (λ column. length column ≡ length self.now) columns.now) }
+    {
+        match &self.form {
+            Form::Lists(_) => None,
+            Form::Columns { columns, .. } => Some(columns),
         }
     }
 

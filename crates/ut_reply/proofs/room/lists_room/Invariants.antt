@@ -1,7 +1,7 @@
 use Rattle.std.proofs.Common.{◌≡◌, ◌+◌, ◌<◌, ◌^◌, drop}
 use Rattle.std.specs.Prelude.{sum_by}
 use Rattle.ut_reply.specs.Texts.{tuple_room}
-use Rattle.ut_reply.proofs.room.tuples_room.Given as goal
+use Rattle.ut_reply.proofs.room.lists_room.Given as goal
 
 abbrev pub invariant-loop-row : goal.invariant-loop-row
 invariant-loop-row l = record {
