@@ -66,7 +66,7 @@ fn read_txn(alloc: Global, bytes: &[u8]) -> Result<Option<(Entry, &[u8])>, Alloc
     if count < LEAST_OPS {
         return Ok(None);
     }
-    let Some((ops, behind)) = read_list(alloc, count as usize, rest)? else {
+    let Some((ops, behind)) = read_list(alloc, &(), count as usize, rest)? else {
         return Ok(None);
     };
     Ok(Some((Entry::Txn { ops }, behind)))

@@ -1,11 +1,10 @@
-//! Reads the parts of an entry: values, columns and operations, and lists of these.
+//! Reads the parts of an entry: texts, names, values, columns and operations, and lists of these.
 ghost use Rattle.std.specs.Prelude.{◌≡◌, ◌<◌, ◌∷◌, IfOk, IfSome, IfNone};
 ghost use Rattle.ut_value.specs.declared.value.Kind.{Kind};
 ghost use Rattle.ut_value.specs.KeyBytes.{is_value};
 ghost use Rattle.ut_value.specs.Text.{is_name, is_text};
 ghost use Rattle.ut_value.specs.Spelling.{value_spelling, column_spelling, text_spelling, values_spelling, columns_spelling, op_spelling, kind_byte, has_column, names_differ, is_column, are_values, are_columns, is_op};
 ghost use Rattle.ut_value.specs.Reading.{Begins, BeginsNone};
-ghost use Rattle.ut_value.proofs.OneSpelling.{one_value, one_column, one_op};
 
 use crate::read::{Place, Spelled, counted, first_byte, read_int, read_list, read_place};
 use std::alloc::{AllocError, Global};
@@ -13,7 +12,8 @@ use ut_value::{
     COLUMNS_LIMIT, Column, Kind, Name, Op, Seq, Text, Value, is_name, is_text, same_bytes,
 };
 
-pub(crate) fn read_text(alloc: Global, bytes: &[u8]) -> Result<Option<(Text, &[u8])>, AllocError>
+/// The text whose spelling begins the bytes, and what stands behind it.
+pub fn read_text(alloc: Global, bytes: &[u8]) -> Result<Option<(Text, &[u8])>, AllocError>
     ensures found { IfOk result (λ o. IfSome o (λ r. Begins text_spelling is_text bytes.now r.0 r.1.now)) }
     ensures none { IfOk result (λ o. IfNone o (BeginsNone text_spelling is_text bytes.now)) }
 {
@@ -27,7 +27,8 @@ pub(crate) fn read_text(alloc: Global, bytes: &[u8]) -> Result<Option<(Text, &[u
     Ok(Some((text, rest)))
 }
 
-pub(crate) fn read_name(alloc: Global, bytes: &[u8]) -> Result<Option<(Name, &[u8])>, AllocError>
+/// The name whose spelling begins the bytes, and what stands behind it.
+pub fn read_name(alloc: Global, bytes: &[u8]) -> Result<Option<(Name, &[u8])>, AllocError>
     ensures found { IfOk result (λ o. IfSome o (λ r. Begins text_spelling is_name bytes.now r.0 r.1.now)) }
     ensures none { IfOk result (λ o. IfNone o (BeginsNone text_spelling is_name bytes.now)) }
 {
@@ -41,14 +42,16 @@ pub(crate) fn read_name(alloc: Global, bytes: &[u8]) -> Result<Option<(Name, &[u
     Ok(Some((name, rest)))
 }
 
-impl Spelled for Value {
+impl Spelled<()> for Value {
     ghost spelling = { value_spelling };
 
-    ghost keeps = { is_value };
+    ghost keeps = { λ _. is_value };
 
-    ghost once = { one_value };
-
-    fn read(alloc: Global, bytes: &[u8]) -> Result<Option<(Self, &[u8])>, AllocError> {
+    fn read<'a>(
+        alloc: Global,
+        _context: &(),
+        bytes: &'a [u8],
+    ) -> Result<Option<(Self, &'a [u8])>, AllocError> {
         let Some((kind, rest)) = first_byte(bytes) else {
             return Ok(None);
         };
@@ -77,14 +80,16 @@ fn kind_of(byte: u8) -> Option<Kind>
     }
 }
 
-impl Spelled for Column {
+impl Spelled<()> for Column {
     ghost spelling = { column_spelling };
 
-    ghost keeps = { is_column };
+    ghost keeps = { λ _. is_column };
 
-    ghost once = { one_column };
-
-    fn read(alloc: Global, bytes: &[u8]) -> Result<Option<(Self, &[u8])>, AllocError> {
+    fn read<'a>(
+        alloc: Global,
+        _context: &(),
+        bytes: &'a [u8],
+    ) -> Result<Option<(Self, &'a [u8])>, AllocError> {
         let Some((byte, rest)) = first_byte(bytes) else {
             return Ok(None);
         };
@@ -109,14 +114,11 @@ fn read_values(alloc: Global, bytes: &[u8]) -> Result<Option<(Seq<Value>, &[u8])
     if count == 0 || count > COLUMNS_LIMIT {
         return Ok(None);
     }
-    read_list(alloc, usize::from(count), rest)
+    read_list(alloc, &(), usize::from(count), rest)
 }
 
 /// A table's columns: their number, then each.
-pub(crate) fn read_columns(
-    alloc: Global,
-    bytes: &[u8],
-) -> Result<Option<(Seq<Column>, &[u8])>, AllocError>
+pub fn read_columns(alloc: Global, bytes: &[u8]) -> Result<Option<(Seq<Column>, &[u8])>, AllocError>
     ensures found { IfOk result (λ o. IfSome o (λ r. Begins columns_spelling are_columns bytes.now r.0 r.1.now)) }
     ensures none { IfOk result (λ o. IfNone o (BeginsNone columns_spelling are_columns bytes.now)) }
 {
@@ -126,7 +128,7 @@ pub(crate) fn read_columns(
     if count == 0 || count > COLUMNS_LIMIT {
         return Ok(None);
     }
-    let Some((columns, behind)) = read_list(alloc, usize::from(count), rest)? else {
+    let Some((columns, behind)) = read_list(alloc, &(), usize::from(count), rest)? else {
         return Ok(None);
     };
     if !names_differ(columns.as_slice()) {
@@ -152,14 +154,16 @@ fn names_differ(columns: &[Column]) -> bool
     }
 }
 
-impl Spelled for Op {
+impl Spelled<()> for Op {
     ghost spelling = { op_spelling };
 
-    ghost keeps = { is_op };
+    ghost keeps = { λ _. is_op };
 
-    ghost once = { one_op };
-
-    fn read(alloc: Global, bytes: &[u8]) -> Result<Option<(Self, &[u8])>, AllocError> {
+    fn read<'a>(
+        alloc: Global,
+        _context: &(),
+        bytes: &'a [u8],
+    ) -> Result<Option<(Self, &'a [u8])>, AllocError> {
         let Some((tag, rest)) = first_byte(bytes) else {
             return Ok(None);
         };

@@ -1,5 +1,5 @@
-//! Reads entries. A length is never trusted for more than the bytes that are there.
-ghost use Rattle.std.specs.Prelude.{◌≡◌, ◌+◌, ◌<◌, ◌++◌, ◌∷◌, ℕ, List, Bool, length, IsTrue, IfOk, IfSome, IfNone};
+//! Reads numbers, counted bytes and lists. A length is never trusted for more than the bytes that are there.
+ghost use Rattle.std.specs.Prelude.{◌≡◌, ◌<◌, ◌++◌, ◌∷◌, ℕ, List, Bool, length, IsTrue, IfOk, IfSome, IfNone};
 ghost use Rattle.std.specs.Int.{w16, w32, to_le_bytes};
 ghost use Rattle.std.specs.List.{flat_map, list_all};
 ghost use Rattle.ut_value.specs.KeyBytes.{is_int, int_key};
@@ -9,36 +9,40 @@ ghost use Rattle.ut_value.specs.Reading.{Begins, BeginsNone, BeginsOnce};
 use std::alloc::{AllocError, Global};
 use ut_value::{Seq, int_of};
 
-/// A thing that has a spelling, with the reader of it.
-pub(crate) trait Spelled: Drop {
+/// A thing that has a spelling, with the reader of it. The context says which things may be.
+pub trait Spelled<C>: Drop {
     ghost spelling: { Self → List ℕ };
 
-    ghost keeps: { Self → Bool };
+    ghost keeps: { C → Self → Bool };
 
     /// The thing whose spelling begins the bytes, and what stands behind it.
-    fn read(alloc: Global, bytes: &[u8]) -> Result<Option<(Self, &[u8])>, AllocError>
-        ensures found { IfOk result (λ o. IfSome o (λ r. Begins spelling keeps bytes.now r.0 r.1.now)) }
-        ensures none { IfOk result (λ o. IfNone o (BeginsNone spelling keeps bytes.now)) };
-
-    ghost once: { BeginsOnce spelling keeps };
+    fn read<'a>(
+        alloc: Global,
+        context: &C,
+        bytes: &'a [u8],
+    ) -> Result<Option<(Self, &'a [u8])>, AllocError>
+        ensures found { IfOk result (λ o. IfSome o (λ r. Begins spelling (keeps context.now) bytes.now r.0 r.1.now)) }
+        ensures none { IfOk result (λ o. IfNone o (BeginsNone spelling (keeps context.now) bytes.now)) };
 }
 
 /// At most so many places are taken for a list before its items are read.
 const FIRST_ROOM: usize = 64;
 
 /// A list of so many things, and what stands behind them.
-pub(crate) fn read_list<T: Spelled>(
+pub fn read_list<'a, C, T: Spelled<C>>(
     alloc: Global,
+    context: &C,
     count: usize,
-    bytes: &[u8],
-) -> Result<Option<(Seq<T>, &[u8])>, AllocError>
-    ensures found { IfOk result (λ o. IfSome o (λ r. (length r.0 ≡ count) × IsTrue (list_all T.keeps r.0) × (bytes.now ≡ flat_map T.spelling r.0 ++ r.1.now))) }
-    ensures none { IfOk result (λ o. IfNone o ((xs : List T) (rest : List ℕ) → length xs ≡ count → IsTrue (list_all T.keeps xs) → bytes.now ≡ flat_map T.spelling xs ++ rest → ⊥)) }
+    bytes: &'a [u8],
+) -> Result<Option<(Seq<T>, &'a [u8])>, AllocError>
+    requires { BeginsOnce T.spelling (T.keeps context.now) }
+    ensures found { IfOk result (λ o. IfSome o (λ r. (length r.0 ≡ count) × IsTrue (list_all (T.keeps context.now) r.0) × (bytes.now ≡ flat_map T.spelling r.0 ++ r.1.now))) }
+    ensures none { IfOk result (λ o. IfNone o ((xs : List T) (rest : List ℕ) → length xs ≡ count → IsTrue (list_all (T.keeps context.now) xs) → bytes.now ≡ flat_map T.spelling xs ++ rest → ⊥)) }
 {
     let mut items = Vec::with_capacity(alloc, count.min(FIRST_ROOM).min(bytes.len()))?;
     let mut rest = bytes;
     for _ in 0..count {
-        let Some((item, behind)) = T::read(alloc, rest)? else {
+        let Some((item, behind)) = T::read(alloc, context, rest)? else {
             return Ok(None);
         };
         items.push(item)?;
@@ -48,7 +52,7 @@ pub(crate) fn read_list<T: Spelled>(
 }
 
 /// The first byte, and what stands behind it.
-pub(crate) fn first_byte(bytes: &[u8]) -> Option<(u8, &[u8])>
+pub fn first_byte(bytes: &[u8]) -> Option<(u8, &[u8])>
     ensures found { IfSome result (λ r. bytes.now ≡ r.0 ∷ r.1.now) }
     ensures none { IfNone result ((byte : ℕ) (rest : List ℕ) → bytes.now ≡ byte ∷ rest → ⊥) }
 {
@@ -59,7 +63,7 @@ pub(crate) fn first_byte(bytes: &[u8]) -> Option<(u8, &[u8])>
 }
 
 /// The bytes whose length stands before them, and what stands behind these.
-pub(crate) fn counted(bytes: &[u8]) -> Option<(&[u8], &[u8])>
+pub fn counted(bytes: &[u8]) -> Option<(&[u8], &[u8])>
     ensures found { IfSome result (λ r. bytes.now ≡ text_spelling r.0.now ++ r.1.now) }
     ensures none { IfNone result ((text rest : List ℕ) → bytes.now ≡ text_spelling text ++ rest → ⊥) }
 {
@@ -72,7 +76,7 @@ pub(crate) fn counted(bytes: &[u8]) -> Option<(&[u8], &[u8])>
 }
 
 /// A number's eight key bytes, and what stands behind these.
-pub(crate) fn read_int(bytes: &[u8]) -> Option<(i64, &[u8])>
+pub fn read_int(bytes: &[u8]) -> Option<(i64, &[u8])>
     ensures found { IfSome result (λ r. IsTrue (is_int r.0) × (bytes.now ≡ int_key r.0 ++ r.1.now)) }
     ensures none { IfNone result (length bytes.now < 8) }
 {
@@ -98,7 +102,7 @@ pub(crate) fn read_u16(bytes: &[u8]) -> Option<(u16, &[u8])>
 }
 
 /// Four bytes of a number, the lowest first, and what stands behind these.
-pub(crate) fn read_u32(bytes: &[u8]) -> Option<(u32, &[u8])>
+pub fn read_u32(bytes: &[u8]) -> Option<(u32, &[u8])>
     ensures found { IfSome result (λ r. bytes.now ≡ to_le_bytes w32 r.0 ++ r.1.now) }
     ensures none { IfNone result (length bytes.now < 4) }
 {

@@ -17,6 +17,10 @@ pub record AreTables (bytes : List ℕ) (count : ℕ) (rest : List ℕ) (ds : Li
   pub each : IsTrue (list_all is_drawn ds)
   pub spelled : rest ≡ flat_map drawn_bytes ds ++ behind
 
+pub tables_read : (bytes : List ℕ) (count : ℕ) (rest : List ℕ) (ds : List Drawn) (behind : List ℕ) → bytes ≡ to_le_bytes w32 count ++ rest → count < 2 ^ 32
+    → (length ds ≡ count) × IsTrue (list_all is_drawn ds) × (rest ≡ flat_map drawn_bytes ds ++ behind) → AreTables bytes count rest ds behind
+tables_read bytes count rest ds behind is fits found = record { is = is; fits = fits; many = found.0; each = found.1; spelled = found.2 }
+
 module _ (next commits : ℕ) (bytes : List ℕ) where
   abbrev pub NoImage : Type 0
   NoImage = (v : List Drawn) → AreDrawn next commits v → bytes ≡ image_bytes v → ⊥

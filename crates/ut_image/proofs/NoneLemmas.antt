@@ -1,25 +1,22 @@
 -- What is no field, row, part or table, by the part that fails.
-use Rattle.std.proofs.Common.{◌≡◌, ℕ, ◌<◌, ◌^◌, List, [], ◌∷◌, ◌++◌, length, Bool, IsTrue, refl, sym, ◌∙◌, ap, arith, append_assoc, true≢false, length-append}
+use Rattle.std.proofs.Common.{◌≡◌, ℕ, ◌<◌, ◌^◌, List, [], ◌∷◌, ◌++◌, length, IsTrue, refl, sym, ◌∙◌, ap, append_assoc, true≢false}
 use Rattle.std.specs.Prelude.{◌&&◌}
-use Rattle.std.specs.Int.{w32, w64, to_le_bytes}
+use Rattle.std.specs.Int.{w32, to_le_bytes}
 use Rattle.std.specs.List.{flat_map, list_all}
 use Rattle.std.proofs.lemmas.List.{append-nil, flat_map_more}
-use Rattle.ut_value.specs.declared.value.Kind.TheVariants as kinds
 use Rattle.ut_value.specs.declared.value.Value.{Value}
-use Rattle.ut_value.specs.declared.value.Value.TheVariants as values
 use Rattle.ut_value.specs.declared.value.Column.{Column}
 use Rattle.ut_value.specs.declared.value.Row.{Row}
-use Rattle.ut_value.specs.KeyBytes.{int_key}
-use Rattle.ut_value.specs.Text.{is_name, is_text}
+use Rattle.ut_value.specs.Text.{is_name}
 use Rattle.ut_value.specs.Spelling.{text_spelling, columns_spelling, are_columns}
 use Rattle.ut_value.specs.Reading.{Begins, BeginsNone}
 use Rattle.ut_value.proofs.OneSpelling.{first, others, one_text, one_u32}
 use Rattle.ut_plain.specs.declared.table.Table.{Table}
 use Rattle.ut_image.specs.declared.drawn.PartRef.{PartRef}
 use Rattle.ut_image.specs.declared.drawn.Drawn.{Drawn}
-use Rattle.ut_image.specs.Bytes.{cell_bytes, row_bytes, rows_bytes, mark_bytes, part_bytes, parts_bytes, head_bytes, drawn_bytes}
+use Rattle.ut_image.specs.Bytes.{cell_bytes, row_bytes, rows_bytes, part_bytes, parts_bytes, head_bytes, drawn_bytes}
 use Rattle.ut_image.specs.Rules.{is_cell, are_cells, is_row, are_rows, is_part, are_parts, is_head, is_drawn}
-use Rattle.ut_image.proofs.OneLemmas.{row_rule, row_parts, rows_rule, rows_parts, part_rule, part_parts, parts_rule, one_span, head_rule, head_parts, one_head, one_parts, one_rows, Split, split, cells_split, cells_join, one_cell}
+use Rattle.ut_image.proofs.OneLemmas.{row_rule, row_parts, rows_rule, rows_parts, parts_rule, head_rule, head_parts, one_head, one_parts, one_rows, Split, split, cells_split, cells_join, one_cell}
 
 -- ---- heads
 

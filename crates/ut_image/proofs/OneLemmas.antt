@@ -1,5 +1,5 @@
 -- Bytes begin with the spelling of one row, part or table at most.
-use Rattle.std.proofs.Common.{◌≡◌, ℕ, ◌<◌, ◌≤◌, ◌^◌, List, [], ◌∷◌, ◌++◌, length, Bool, true, false, IsTrue, refl, sym, ◌∙◌, ap, arith, append_assoc, true≢false, ltb-true, leb-true, nat_eq}
+use Rattle.std.proofs.Common.{◌≡◌, ℕ, ◌<◌, ◌≤◌, ◌^◌, List, [], ◌∷◌, ◌++◌, length, true, IsTrue, refl, sym, ◌∙◌, ap, arith, append_assoc, true≢false, ltb-true, leb-true, nat_eq}
 use Rattle.std.specs.Prelude.{◌&&◌, nat_le}
 use Rattle.std.specs.Int.{w32, w64, to_le_bytes, from_le_bytes}
 use Rattle.std.specs.List.{flat_map, list_all}

@@ -6,8 +6,8 @@ ghost use Rattle.ut_image.specs.Rules.{AreDrawn, AreOwnIds, has_drawn, drawn_dif
 
 use crate::Drawn;
 use crate::ids::{are_own_ids, ids_of};
-use crate::read::{read_list, read_u32};
 use std::alloc::{AllocError, Global};
+use ut_entry::{read_list, read_u32};
 use ut_value::{Seq, TABLES_LIMIT, same_bytes};
 
 /// The tables of a directory, where `next` is the next row id and there were so many commits.

@@ -9,7 +9,6 @@ mod laws;
 mod length;
 mod marks;
 mod put;
-mod read;
 mod tables;
 mod write;
 

@@ -7,9 +7,9 @@ ghost use Rattle.ut_image.specs.Rules.{is_part, are_parts, is_drawn};
 
 use crate::fields::{read_head, read_rows};
 use crate::marks::read_marks;
-use crate::read::{Spelled, first_byte, read_list, read_u32, read_u64};
 use crate::{Drawn, PartRef};
 use std::alloc::{AllocError, Global};
+use ut_entry::{Spelled, first_byte, read_list, read_u32};
 use ut_value::{PARTS_LIMIT, Seq};
 
 /// Where the bytes of a part begin, and how many bytes and rows it has.
@@ -18,6 +18,20 @@ struct Span {
     first: u32,
     length: u64,
     rows: u32,
+}
+
+// Eight bytes of a number, the lowest first, and what stands behind these.
+fn read_u64(bytes: &[u8]) -> Option<(u64, &[u8])>
+    ensures found { IfSome result (λ r. bytes.now ≡ to_le_bytes w64 r.0 ++ r.1.now) }
+    ensures none { IfNone result (length bytes.now < 8) }
+{
+    match bytes {
+        [a, b, c, d, e, f, g, h, rest @ ..] => {
+            let number = u64::from_le_bytes([*a, *b, *c, *d, *e, *f, *g, *h]);
+            Some((number, rest))
+        }
+        _ => None,
+    }
 }
 
 fn read_span(bytes: &[u8]) -> Option<(Span, &[u8])>

@@ -1,6 +1,10 @@
 use Rattle.std.proofs.Common.{◌≡◌, ◌<◌, ◌^◌, rules, arith}
 use Rattle.ut_entry.proofs.EntryLemmas.{no_count, no_ops}
+use Rattle.ut_value.proofs.OneSpelling.{one_op}
 use Rattle.ut_entry.proofs.entry.read_txn.Goals as goal
+
+pub read_list-requires : goal.read_list-requires
+read_list-requires c = one_op
 
 pub returns-then-count-lt-LEAST_OPS-clause-none : goal.returns-then-count-lt-LEAST_OPS-clause-none
 returns-then-count-lt-LEAST_OPS-clause-none c =

@@ -1,7 +1,11 @@
 use Rattle.std.proofs.Common.{sym, ◌∙◌, ap}
 use Rattle.ut_entry.proofs.EntryLemmas.{columns_refused}
 use Rattle.ut_value.specs.Spelling.{names_differ}
+use Rattle.ut_value.proofs.OneSpelling.{one_column}
 use Rattle.ut_entry.proofs.parts.read_columns.Goals as goal
+
+pub read_list-requires : goal.read_list-requires
+read_list-requires c = one_column
 
 pub returns-then-not-names_differ-clause-none : goal.returns-then-not-names_differ-clause-none
 returns-then-not-names_differ-clause-none c =

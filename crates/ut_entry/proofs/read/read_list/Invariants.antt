@@ -5,5 +5,5 @@ use Rattle.ut_entry.proofs.read.read_list.Given as goal
 abbrev pub invariant-loop : goal.invariant-loop
 invariant-loop g l = record {
   count : length l.items.items ≡ l.counter;
-  read : IsReadTo g.T.Spelled.spelling g.T.Spelled.keeps l.count l.bytes l.items.items l.rest;
+  read : IsReadTo g.T.Spelled.spelling (g.T.Spelled.keeps l.context) l.count l.bytes l.items.items l.rest;
 }
