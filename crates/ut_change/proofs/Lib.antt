@@ -2,3 +2,4 @@ pub mod WriteLemmas
 pub mod ConflictLemmas
 pub mod LoadLemmas
 pub mod MadeLemmas
+mod BulkLemmas

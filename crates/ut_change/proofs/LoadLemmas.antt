@@ -1,4 +1,4 @@
--- The inserts of rows, and the rows that a bulk cuts out of values.
+-- The rows that a bulk cuts out of values, and their inserts.
 use Rattle.std.proofs.Common.{ℕ, zero, suc, ◌+◌, ◌<◌, ◌≤◌, ◌≡◌, ◌&&◌, List, [], ◌∷◌, length, map, None, refl, ap, arith, All, IsTrue, lt-ltb}
 use Rattle.std.specs.List.{list_all}
 use Rattle.std.proofs.lemmas.List.Sums.{sum_by-cons}
@@ -10,7 +10,6 @@ use Rattle.ut_value.specs.declared.entry.Op.TheVariants as ops
 use Rattle.ut_value.specs.KeyBytes.{is_value}
 use Rattle.ut_value.specs.Spelling.{is_op, is_u16, is_u32, are_values, are_columns}
 use Rattle.ut_plain.specs.Tables.{fits_columns}
-use Rattle.ut_plain.specs.Rows.{op_inserts, inserts_of}
 use Rattle.ut_plain.specs.Made.{cut, inserts}
 use Rattle.ut_plain.proofs.BoolLemmas.{and_left, and_right, and_both}
 use Rattle.ut_plain.proofs.ListLemmas.{list_all_take, list_all_drop}
@@ -18,36 +17,29 @@ use Rattle.ut_plain.proofs.TableLemmas.{are_values-fit}
 use Rattle.ut_staged.specs.Staged.{begun_row}
 use Rattle.ut_staged.specs.Staging.{new_rows}
 use Rattle.ut_change.specs.Writes.{op_fits, op_ends, ends_of}
-use Rattle.ut_change.specs.Loads.{inserted, numbered, inserts_all}
+use Rattle.ut_change.specs.Loads.{inserted, numbered}
 
--- ---- the inserts of rows
+-- ---- rows under their ids
 
-pub rows-fit : (columns : List Column) (n : ℕ) (rows : List Row) → IsTrue (list_all (op_fits columns) (inserts_all n rows)) → All (λ (r : Row). IsTrue (fits_columns columns r.values)) rows
-rows-fit columns n [] h k d lt = absurd (omega arith)
-rows-fit columns n (r ∷ rs) h zero d lt = and_left _ _ h
-rows-fit columns n (r ∷ rs) h (suc k) d lt = rows-fit columns n rs (and_right (fits_columns columns r.values) _ h) k d (omega arith)
+pub length-numbered : (id : ℕ) (rows : List (List Value)) → length (numbered id rows) ≡ length rows
+length-numbered id [] = refl
+length-numbered id (vs ∷ rows) = ap suc (length-numbered (id + 1) rows)
 
-pub inserts-all : (n : ℕ) (rows : List Row) → inserts_of (inserts_all n rows) ≡ length rows
-inserts-all n [] = refl
-inserts-all n (r ∷ rs) = let rest = inserts-all n rs in let one = sum_by-cons op_inserts (ops.Insert n r.id r.values) (inserts_all n rs) in omega (arith, rest, one)
-
-pub ends-all : (n : ℕ) (rows : List Row) → ends_of (inserts_all n rows) ≡ 0
-ends-all n [] = refl
-ends-all n (r ∷ rs) = let rest = ends-all n rs in let one = sum_by-cons op_ends (ops.Insert n r.id r.values) (inserts_all n rs) in omega (arith, rest, one)
-
-pub inserted-all : (n : ℕ) (rows : List Row) → inserted (inserts_all n rows) ≡ rows
-inserted-all n [] = refl
-inserted-all n (r ∷ rs) = ap (λ (xs : List Row). r ∷ xs) (inserted-all n rs)
-
--- ---- the rows that values are cut into, under their ids
-
-pub inserts-numbered : (n id : ℕ) (rows : List (List Value)) → inserts_all n (numbered id rows) ≡ inserts n id rows
-inserts-numbered n id [] = refl
-inserts-numbered n id (vs ∷ rows) = ap (λ os. ops.Insert n id vs ∷ os) (inserts-numbered n (id + 1) rows)
+pub numbered-fit : (columns : List Column) (n id : ℕ) (rows : List (List Value)) → IsTrue (list_all (op_fits columns) (inserts n id rows))
+    → All (λ (r : Row). IsTrue (fits_columns columns r.values)) (numbered id rows)
+numbered-fit columns n id [] h k d lt = absurd (omega arith)
+numbered-fit columns n id (vs ∷ rows) h zero d lt = and_left _ _ h
+numbered-fit columns n id (vs ∷ rows) h (suc k) d lt = numbered-fit columns n (id + 1) rows (and_right (fits_columns columns vs) _ h) k d (omega arith)
 
 pub begun-numbered : (t id : ℕ) (rows : List (List Value)) → map (begun_row t) (numbered id rows) ≡ new_rows t id rows
 begun-numbered t id [] = refl
 begun-numbered t id (vs ∷ rows) = ap (λ rs. record { id = id; values = vs; stamp = record { begin = t; end = None } } ∷ rs) (begun-numbered t (id + 1) rows)
+
+-- ---- their inserts
+
+pub inserted-inserts : (n id : ℕ) (rows : List (List Value)) → inserted (inserts n id rows) ≡ numbered id rows
+inserted-inserts n id [] = refl
+inserted-inserts n id (vs ∷ rows) = ap (λ (rs : List Row). record { id = id; values = vs } ∷ rs) (inserted-inserts n (id + 1) rows)
 
 pub inserts-fit : (columns : List Column) (n id : ℕ) (rows : List (List Value)) → IsTrue (list_all (fits_columns columns) rows) → IsTrue (list_all (op_fits columns) (inserts n id rows))
 inserts-fit columns n id [] h = refl

@@ -16,4 +16,5 @@ stamp_in (Some row) = row.stamp
 
 -- the first of these rows of a table that is taken
 abbrev pub first_taken_in : Staged → List Fate → ℕ → Option ℕ → List (ℕ × Place) → Option ℕ
-first_taken_in s fates snapshot own hits = option_map (λ (x : ℕ × Place). x.0) (lists.find (λ (x : ℕ × Place). is_taken fates snapshot own (stamp_in (row_at s x.1))) hits)
+first_taken_in s fates snapshot own hits =
+    option_map (λ (x : ℕ × Place). x.0) (lists.find (λ (x : ℕ × Place). is_taken fates snapshot own (stamp_in (row_at s x.1))) hits)

@@ -2,3 +2,4 @@ pub mod Writes
 pub mod Conflicts
 pub mod Loads
 pub mod Made
+pub mod Bulks

@@ -1,4 +1,4 @@
--- The rows that a bulk loads, the inserts that it makes of them, and what loading and writing make of a table.
+-- Rows under their ids, the rows that operations insert, and what loading and writing make of a table.
 use Rattle.std.specs.Prelude.{ℕ, ◌+◌, Bool, true, false, List, [], ◌∷◌, map}
 use Rattle.std.specs.List.{flat_map}
 use Rattle.ut_value.specs.declared.value.Value.{Value}
@@ -13,10 +13,6 @@ use Rattle.ut_staged.specs.Staging.{written}
 abbrev pub numbered : ℕ → List (List Value) → List Row
 numbered id [] = []
 numbered id (values ∷ rows) = record { id = id; values = values } ∷ numbered (id + 1) rows
-
--- the inserts of rows
-abbrev pub inserts_all : ℕ → List Row → List Op
-inserts_all n rows = map (λ (r : Row). ops.Insert n r.id r.values) rows
 
 -- the row that an operation inserts
 abbrev pub inserted_by : Op → List Row

@@ -10,4 +10,7 @@ use Rattle.ut_staged.specs.Staged.{Staged, row_at}
 -- the row in each place is deleted, and a copy with another value in a column inserted
 abbrev pub updated_ops : Staged → ℕ → ℕ → ℕ → Value → List (ℕ × Place) → List Op
 updated_ops s n id column value [] = []
-updated_ops s n id column value (h ∷ hits) = ops.Delete n h.0 ∷ ops.Insert n id (slice_set (stored_in n (row_at s h.1)).values column value) ∷ updated_ops s n (id + 1) column value hits
+updated_ops s n id column value (h ∷ hits) =
+    ops.Delete n h.0
+    ∷ ops.Insert n id (slice_set (stored_in n (row_at s h.1)).values column value)
+    ∷ updated_ops s n (id + 1) column value hits

@@ -41,7 +41,8 @@ abbrev pub AreThere : Staged → List (ℕ × Place) → Type 0
 AreThere s [] = Unit {0}
 AreThere s (h ∷ hits) = IsSome (row_at s h.1) × AreThere s hits
 
--- The stages can take these operations: the inserts fit the columns, there are places for them, and there is a place with a row for each delete.
+-- The stages can take these operations: the inserts fit the columns, there are places for them, and there is a place
+-- with a row for each delete.
 pub record CanWrite (s : Staged) (hits : List (ℕ × Place)) (os : List Op) : Type 0 where
   pub fits : IsTrue (list_all (op_fits s.columns) os)
   pub few : count_of s + inserts_of os ≤ 2147483648

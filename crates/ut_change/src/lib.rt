@@ -1,12 +1,14 @@
 //! The operations of a statement that changes rows: made of what was found, looked over for conflicts, spelled and written.
 #![tactic(auto)]
 
+mod bulk;
 mod conflict;
 mod loads;
 mod made;
 mod write;
 
+pub use bulk::Bulk;
 pub use conflict::first_taken_in;
-pub use loads::{insert_all, into_rows, row_list, rows_copied, rows_in};
+pub use loads::rows_in;
 pub use made::{Change, delete_ops, insert_ops, update_ops};
 pub use write::{bytes_of, framed, inserts_of, note_all, ops_len, write_all};

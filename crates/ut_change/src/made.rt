@@ -84,7 +84,8 @@ fn changed_values(
     value: &Value,
 ) -> Result<Seq<Value>, AllocError>
     requires { IsSome (row_at stages.now.stages place) }
-    ensures { IfOk result (λ values. values ≡ slice_set (stored_in change.table (row_at stages.now.stages place)).values change.column value.now) }
+    ensures { IfOk result (λ values. values
+        ≡ slice_set (stored_in change.table (row_at stages.now.stages place)).values change.column value.now) }
 {
     let values = stages.values(alloc, place)?;
     let value = value.copy(alloc)?;

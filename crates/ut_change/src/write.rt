@@ -17,7 +17,7 @@ use ut_scan::Found;
 use ut_stamps::Stamp;
 use ut_table::Table as Stages;
 use ut_txn::Sessions;
-use ut_value::{Op, Row};
+use ut_value::{ENTRY_LIMIT, Op, Row};
 
 /// How many rows operations insert.
 pub fn inserts_of(ops: &[Op]) -> usize
@@ -62,7 +62,7 @@ pub fn bytes_of(ops: &[Op]) -> u32
     requires short { ops_len ops.now ≤ 2 ^ 30 }
     ensures { result ≡ ops_len ops.now }
 {
-    match ops_len(ops, 1 << 30) {
+    match ops_len(ops, ENTRY_LIMIT) {
         Some(bytes) => bytes,
         None => 0,
     }
@@ -74,7 +74,8 @@ pub fn note_all(sessions: &mut Sessions, session: u8, ops: &[Op])
     requires rule { IsTrue (list_all is_op ops.now) }
     requires room { ops_len ops.now ≤ spare_at sessions.old session }
     requires size { length (payload_at sessions.old session) + ops_len ops.now ≤ 2 ^ 30 }
-    ensures grown { (ps : List Op) → payload_at sessions.old session ≡ spelling (Txn ps) → payload_at sessions.new session ≡ spelling (Txn (ps ++ ops.now)) }
+    ensures grown { (ps : List Op) → payload_at sessions.old session ≡ spelling (Txn ps)
+        → payload_at sessions.new session ≡ spelling (Txn (ps ++ ops.now)) }
     ensures set { SeatSet sessions.old sessions.new session (opened_at sessions.old session) (payload_at sessions.new session) }
 {
     for op in ops {

@@ -1,3 +1,4 @@
 pub mod ColumnLemmas
 pub mod DeltaLemmas
 pub mod PieceLemmas
+pub mod SourceLemmas

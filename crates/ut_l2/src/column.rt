@@ -1,15 +1,16 @@
 //! A column: the code of each cell, the keys of the codes, and the places of each key.
-ghost use Rattle.std.specs.Prelude.{◌≡◌, ◌+◌, ◌-◌, ◌^◌, ◌<◌, ◌≤◌, ◌++◌, [], ◌∷◌, List, ℕ, length, take, slice_index_or, map, All, OnOk, OnErr};
+ghost use Rattle.std.specs.Prelude.{◌≡◌, ◌+◌, ◌-◌, ◌^◌, ◌<◌, ◌≤◌, ◌++◌, [], ◌∷◌, List, ℕ, length, take, slice_index_or, All, OnOk, OnErr};
 ghost use Rattle.ut_value.specs.KeyBytes.{key_of};
 ghost use Rattle.ut_unsorted.specs.FirstSeen.{key_eq, first_seen};
 ghost use Rattle.ut_l2.specs.Cells.{cells_of};
 ghost use Rattle.ut_l2.specs.Places.{places_where};
-ghost use Rattle.ut_l2.specs.KeyRows.{cell};
+ghost use Rattle.ut_l2.specs.Sources.{cells_in, count_in, HasColumn};
 
+use crate::source::Source;
 use std::alloc::{AllocError, Global};
 use std::marker::Model;
 use ut_unsorted::{Postings, UnsortedDict};
-use ut_value::{Row, Value, key_bytes};
+use ut_value::{Value, key_bytes};
 
 /// The keys of at most 2^31 rows in a column.
 #[derive(Drop)]
@@ -103,16 +104,23 @@ impl Column {
         self.push(key_bytes(value, &mut room))
     }
 
-    /// Appends the rows' values in a column: all or none.
-    pub fn append(&mut self, rows: &[Row], column: usize) -> Result<(), AllocError>
-        requires wide { All (λ r. column < length r.values) rows.now }
-        requires count { length self.old + length rows.now ≤ 2 ^ 31 }
-        ensures ok { OnOk result (self.new ≡ self.old ++ map (cell column) rows.now) }
+    /// Appends the keys in a column of n rows from one on: all or none.
+    pub(crate) fn append(
+        &mut self,
+        source: Source<'_>,
+        column: usize,
+        from: usize,
+        n: usize,
+    ) -> Result<(), AllocError>
+        requires column { HasColumn source column }
+        requires rows { from + n ≤ count_in source }
+        requires count { length self.old + n ≤ 2 ^ 31 }
+        ensures ok { OnOk result (self.new ≡ self.old ++ cells_in source.entry column from n) }
         ensures err { OnErr result (self.new ≡ self.old) }
     {
         let before = self.len();
-        for row in rows {
-            match self.push_value(&row.values.as_slice()[column]) {
+        for i in 0..n {
+            match self.push_value(source.value(column, from + i)) {
                 Ok(()) => {}
                 Err(failed) => {
                     self.cut(before);

@@ -3,17 +3,21 @@ ghost use Rattle.std.specs.Prelude.{◌≡◌, ◌+◌, ◌^◌, ◌<◌, ◌≤
 ghost use Rattle.ut_l2.specs.KeyRows.{KeyRow, keyed};
 ghost use Rattle.ut_key.specs.Keys.{meets};
 ghost use Rattle.ut_unsorted.specs.FirstSeen.{key_eq, first_seen};
-ghost use Rattle.ut_l2.specs.KeyRows.{cell, cells_at, no_row};
+ghost use Rattle.ut_l2.specs.KeyRows.{cells_at, no_row};
+ghost use Rattle.ut_l2.specs.Sources.{AreFlat, cells_in, count_in, HasColumn, IsSource};
+ghost use Rattle.ut_value.specs.declared.value.Row.{Row};
+ghost use Rattle.std.specs.List.{range_with_len};
 ghost use Rattle.ut_l2.specs.Cells.{cells_of};
 ghost use Rattle.ut_l2.specs.Places.{places_where};
 
 use crate::column::Column;
+use crate::source::Source;
 use std::alloc::{AllocError, Global};
 use std::marker::Model;
 use std::sync::ledger::Ledger;
 use ut_key::{Cmp, Key, Steps};
 use ut_unsorted::UnsortedDict;
-use ut_value::Row;
+use ut_value::{Row, Value};
 
 /// So many rows at a time go into one column after the other, while their values are at hand in the processor's cache.
 const PIECE: usize = 256;
@@ -36,14 +40,21 @@ impl Model for L2 {
     ghost invariant = { λ l. IsDelta l.ids.items l.columns.items };
 }
 
-// Appends the rows' values to the columns from `first` on: to each or to none.
-fn append_from(columns: &mut Vec<Column>, first: usize, rows: &[Row]) -> Result<(), AllocError>
+// Appends the keys of n rows from one on to the columns from `first` on: to each or to none.
+fn append_from(
+    columns: &mut Vec<Column>,
+    first: usize,
+    source: Source<'_>,
+    from: usize,
+    n: usize,
+) -> Result<(), AllocError>
     requires first { first ≤ length columns.old.items }
-    requires wide { All (λ r. length r.values ≡ length columns.old.items) rows.now }
-    requires count { (j : ℕ) → first ≤ j → j < length columns.old.items → length (get_or columns.old.items j []) + length rows.now ≤ 2 ^ 31 }
+    requires wide { (j : ℕ) → j < length columns.old.items → HasColumn source j }
+    requires rows { from + n ≤ count_in source }
+    requires count { (j : ℕ) → first ≤ j → j < length columns.old.items → length (get_or columns.old.items j []) + n ≤ 2 ^ 31 }
     ensures width { length columns.new.items ≡ length columns.old.items }
     ensures earlier { (j : ℕ) → j < first → get_or columns.new.items j [] ≡ get_or columns.old.items j [] }
-    ensures ok { OnOk result ((j : ℕ) → first ≤ j → j < length columns.old.items → get_or columns.new.items j [] ≡ get_or columns.old.items j [] ++ map (cell j) rows.now) }
+    ensures ok { OnOk result ((j : ℕ) → first ≤ j → j < length columns.old.items → get_or columns.new.items j [] ≡ get_or columns.old.items j [] ++ cells_in source.entry j from n) }
     ensures err { OnErr result (columns.new.items ≡ columns.old.items) }
 {
     if first == columns.len() {
@@ -51,8 +62,8 @@ fn append_from(columns: &mut Vec<Column>, first: usize, rows: &[Row]) -> Result<
     }
     let column = &mut columns[first];
     let before = column.len();
-    column.append(rows, first)?;
-    match append_from(columns, first + 1, rows) {
+    column.append(source, first, from, n)?;
+    match append_from(columns, first + 1, source, from, n) {
         Ok(()) => Ok(()),
         Err(failed) => {
             columns[first].cut(before);
@@ -76,26 +87,32 @@ fn cut_from(columns: &mut Vec<Column>, first: usize, n: u32)
     cut_from(columns, first + 1, n);
 }
 
-// Appends the rows' values to columns of n cells each, some rows at a time: to each column or to none.
-fn append_pieces(columns: &mut Vec<Column>, n: u32, rows: &[Row]) -> Result<(), AllocError>
-    requires wide { All (λ r. length r.values ≡ length columns.old.items) rows.now }
-    requires equal { (j : ℕ) → j < length columns.old.items → length (get_or columns.old.items j []) ≡ n }
-    requires count { n + length rows.now ≤ 2 ^ 31 }
+// Appends the rows' keys to columns of so many cells each, some rows at a time: to each column or to none.
+fn append_pieces(
+    columns: &mut Vec<Column>,
+    before: u32,
+    source: Source<'_>,
+) -> Result<(), AllocError>
+    requires is { IsSource source }
+    requires wide { (j : ℕ) → j < length columns.old.items → HasColumn source j }
+    requires equal { (j : ℕ) → j < length columns.old.items → length (get_or columns.old.items j []) ≡ before }
+    requires count { before + count_in source ≤ 2 ^ 31 }
     ensures width { length columns.new.items ≡ length columns.old.items }
-    ensures ok { OnOk result ((j : ℕ) → j < length columns.old.items → get_or columns.new.items j [] ≡ get_or columns.old.items j [] ++ map (cell j) rows.now) }
+    ensures ok { OnOk result ((j : ℕ) → j < length columns.old.items → get_or columns.new.items j [] ≡ get_or columns.old.items j [] ++ cells_in source.entry j 0 (count_in source.entry)) }
     ensures err { OnErr result (columns.new.items ≡ columns.old.items) }
 {
-    let mut rest = rows;
-    while rest.len() > 0 {
-        let (piece, others) = rest.split_at(PIECE.min(rest.len()));
-        match append_from(columns, 0, piece) {
+    let count = source.len();
+    let mut at = 0;
+    while at < count {
+        let n = PIECE.min(count - at);
+        match append_from(columns, 0, source, at, n) {
             Ok(()) => {}
             Err(failed) => {
-                cut_from(columns, 0, n);
+                cut_from(columns, 0, before);
                 return Err(failed);
             }
         }
-        rest = others;
+        at += n;
     }
     Ok(())
 }
@@ -107,6 +124,17 @@ fn append_ids(ids: &mut Vec<u32>, rows: &[Row])
 {
     for row in rows {
         ids.push_reserved(row.id);
+    }
+}
+
+// Appends n ids from one on.
+fn append_numbers(ids: &mut Vec<u32>, first: u32, n: u32)
+    requires room { vec_len ids.old + n ≤ vec_capacity ids.old }
+    requires ids { first + n ≤ 2 ^ 32 }
+    ensures { ids.new.items ≡ ids.old.items ++ range_with_len first n }
+{
+    for i in 0..n {
+        ids.push_reserved(first + i);
     }
 }
 
@@ -135,8 +163,28 @@ impl L2 {
     {
         let before = self.len();
         self.ids.reserve(rows.len())?;
-        append_pieces(&mut self.columns, before, rows)?;
+        append_pieces(&mut self.columns, before, Source::Rows(rows))?;
         append_ids(&mut self.ids, rows);
+        Ok(())
+    }
+
+    /// Appends the rows that these values are, one row's behind the other's, under the ids from one on: all or none.
+    pub fn append_values(&mut self, first_id: u32, values: &[Value]) -> Result<(), AllocError>
+        ghost rows: { List Row }
+        requires are { AreFlat rows first_id self.old.width values.now }
+        requires width { 0 < self.old.width }
+        requires ids { first_id + length rows ≤ 2 ^ 32 }
+        requires count { length self.old.rows + length rows ≤ 2 ^ 31 }
+        ensures width { self.new.width ≡ self.old.width }
+        ensures ok { OnOk result (self.new.rows ≡ self.old.rows ++ map keyed rows) }
+        ensures err { OnErr result (self.new.rows ≡ self.old.rows) }
+    {
+        let before = self.len();
+        let source = Source::Flat(self.columns.len(), values);
+        let count = source.len();
+        self.ids.reserve(count)?;
+        append_pieces(&mut self.columns, before, source)?;
+        append_numbers(&mut self.ids, first_id, count as u32);
         Ok(())
     }
 

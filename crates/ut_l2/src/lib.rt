@@ -4,6 +4,7 @@
 
 mod column;
 mod l2;
+mod source;
 
 pub use column::Column;
 pub use l2::L2;

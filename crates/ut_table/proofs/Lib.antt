@@ -21,3 +21,4 @@ pub mod LentLemmas
 pub mod NumberedLemmas
 pub mod CodedLemmas
 pub mod TallyLemmas
+mod FlatLemmas

@@ -1,13 +1,14 @@
 //! A table: the rows of its stages, each with its stamp.
-ghost use Rattle.std.specs.Prelude.{◌≡◌, ◌+◌, ◌<◌, ◌≤◌, ◌^◌, ℕ, length, map, min, Some, IsSome, IsTrue, IfOk, OnOk, OnErr, All};
+ghost use Rattle.std.specs.Prelude.{◌≡◌, ◌+◌, ◌<◌, ◌≤◌, ◌^◌, ℕ, length, map, min, Some, IsSome, IsTrue, IfOk, OnOk, OnErr, All, List};
 ghost use Rattle.ut_value.specs.declared.value.Row.{Row};
 ghost use Rattle.ut_plain.specs.Tables.{fits_columns};
+ghost use Rattle.ut_l2.specs.Sources.{AreFlat};
 ghost use Rattle.ut_exact.specs.Places.{StagedRow};
 ghost use Rattle.ut_staged.specs.Staged.{no_rows, row_at, count_of, stamped_row, begun_row, entered_l1, entered_l2, ended_in, merged_l1};
 
 use crate::kept::{begin_all, rows_keep_rules};
 use crate::pending::Pending;
-use crate::shared::append;
+use crate::shared::{append, append_values};
 use std::alloc::{AllocError, Global};
 use std::marker::Model;
 use std::sync::Arc;
@@ -16,7 +17,7 @@ use ut_l2::L2;
 use ut_main::Main;
 use ut_scan::{Place, StampTable};
 use ut_stamps::Stamp;
-use ut_value::{Column, Row, Seq, values_keep_rules};
+use ut_value::{Column, Row, Seq, Value, values_keep_rules};
 
 /// The stages of a table of at most 64 columns. The first, the second and a closed one hold at
 /// most 2^31 rows together.
@@ -114,6 +115,26 @@ impl Table {
         let count = rows.len() as u32;
         self.stamps.room(0, count)?;
         append(&mut self.l2, rows)?;
+        begin_all(&mut self.stamps, count, t);
+        Ok(())
+    }
+
+    /// Rows that a transaction begins enter the second stage, their values one row's behind the other's, under the ids
+    /// from one on: all or none.
+    pub fn load_values(&mut self, first_id: u32, values: &[Value], t: u64) -> Result<(), AllocError>
+        ghost rows: { List Row }
+        requires are { AreFlat rows first_id (length self.old.stages.columns) values.now }
+        requires columns { 0 < length self.old.stages.columns }
+        requires fit { All (λ (r : Row). IsTrue (fits_columns self.old.stages.columns r.values)) rows }
+        requires ids { first_id + length rows ≤ 2 ^ 32 }
+        requires few { count_of self.old.stages + length rows ≤ 2 ^ 31 }
+        ensures ok { OnOk result (self.new.stages ≡ entered_l2 (map (begun_row t) rows) self.old.stages) }
+        ensures err { OnErr result (self.new.stages ≡ self.old.stages) }
+    {
+        values_keep_rules(values);
+        let count = (values.len() / self.columns.as_slice().len()) as u32;
+        self.stamps.room(0, count)?;
+        append_values(&mut self.l2, first_id, values)?;
         begin_all(&mut self.stamps, count, t);
         Ok(())
     }

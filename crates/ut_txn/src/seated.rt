@@ -1,6 +1,7 @@
 //! What one session has: its transaction, and its own operations as the frame that a commit will append.
 ghost use Rattle.std.specs.Prelude.{◌≡◌, ◌+◌, ◌≤◌, ◌^◌, ◌++◌, ◌∷◌, [], List, length, nat_lt, IsTrue, IfOk, OnOk};
 ghost use Rattle.ut_value.specs.declared.entry.Op.{Op};
+ghost use Rattle.ut_value.specs.declared.entry.Op.TheVariants.{Insert};
 ghost use Rattle.ut_value.specs.declared.entry.Entry.TheVariants.{Txn};
 ghost use Rattle.ut_value.specs.Spelling.{spelling, is_op, op_len};
 
@@ -9,7 +10,7 @@ use std::alloc::{AllocError, Global};
 use std::marker::Model;
 use std::mem;
 use ut_redo::Frame;
-use ut_value::Op;
+use ut_value::{Op, Value};
 
 /// The bytes of a transaction without operations.
 const NO_OPERATIONS_LEN: u32 = 5;
@@ -84,6 +85,18 @@ impl Seated {
         ensures spare { self.old.spare ≤ self.new.spare + op_len op.now }
     {
         self.frame.add(op);
+    }
+
+    pub(crate) fn note_insert(&mut self, table: u16, id: u32, values: &[Value])
+        requires rule { IsTrue (is_op (Insert table id values.now)) }
+        requires room { op_len (Insert table id values.now) ≤ self.old.spare }
+        requires size { length self.old.payload + op_len (Insert table id values.now) ≤ 2 ^ 30 }
+        ensures grown { (os : List Op) → self.old.payload ≡ spelling (Txn os) → self.new.payload ≡ spelling (Txn (os ++ Insert table id values.now ∷ [])) }
+        ensures len { length self.new.payload ≡ length self.old.payload + op_len (Insert table id values.now) }
+        ensures opened { self.new.opened ≡ self.old.opened }
+        ensures spare { self.old.spare ≤ self.new.spare + op_len (Insert table id values.now) }
+    {
+        self.frame.add_insert(table, id, values);
     }
 
     pub(crate) fn take_frame(&mut self, out: &mut Frame)

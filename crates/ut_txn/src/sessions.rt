@@ -2,6 +2,7 @@
 //! operations of each stand as the frame that its commit hands to the log.
 ghost use Rattle.std.specs.Prelude.{◌≡◌, ◌≢◌, ◌+◌, ◌<◌, ◌≤◌, ◌^◌, ◌++◌, ◌∷◌, ◌↔◌, [], List, length, nat_lt, IsTrue, IfOk, OnOk};
 ghost use Rattle.ut_value.specs.declared.entry.Op.{Op};
+ghost use Rattle.ut_value.specs.declared.entry.Op.TheVariants.{Insert};
 ghost use Rattle.ut_value.specs.declared.entry.Entry.TheVariants.{Txn};
 ghost use Rattle.ut_value.specs.Spelling.{spelling, is_op, op_len};
 ghost use Rattle.ut_txn.specs.Seats.{opened_at, payload_at, spare_at, snapshots_of, AreEmpty, SeatSet, SeatsStay};
@@ -11,7 +12,7 @@ use crate::seated::Seated;
 use std::alloc::{AllocError, Global};
 use std::marker::Model;
 use ut_redo::Frame;
-use ut_value::{Op, SEATS};
+use ut_value::{Op, SEATS, Value};
 
 /// The seats, by the number of the session.
 #[derive(Drop)]
@@ -109,6 +110,20 @@ impl Sessions {
         ensures spare { spare_at self.old session ≤ spare_at self.new session + op_len op.now }
     {
         self.seats[session as usize].note(op);
+    }
+
+    /// Adds an own insert of these values, in the room that was made. Takes no memory.
+    pub fn note_insert(&mut self, session: u8, table: u16, id: u32, values: &[Value])
+        requires seat { session < 17 }
+        requires rule { IsTrue (is_op (Insert table id values.now)) }
+        requires room { op_len (Insert table id values.now) ≤ spare_at self.old session }
+        requires size { length (payload_at self.old session) + op_len (Insert table id values.now) ≤ 2 ^ 30 }
+        ensures grown { (os : List Op) → payload_at self.old session ≡ spelling (Txn os) → payload_at self.new session ≡ spelling (Txn (os ++ Insert table id values.now ∷ [])) }
+        ensures len { length (payload_at self.new session) ≡ length (payload_at self.old session) + op_len (Insert table id values.now) }
+        ensures set { SeatSet self.old self.new session (opened_at self.old session) (payload_at self.new session) }
+        ensures spare { spare_at self.old session ≤ spare_at self.new session + op_len (Insert table id values.now) }
+    {
+        self.seats[session as usize].note_insert(table, id, values);
     }
 
     /// Hands out the frame of a session's operations for the log, and ends the transaction. Takes no memory.

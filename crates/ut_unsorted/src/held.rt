@@ -21,11 +21,7 @@ pub(crate) fn intern_word(words: &mut IndexSet<Word>, word: Word) -> Result<u32,
     ensures keys { OnOk result (words.new.keys ≡ note words.old.keys word) }
     ensures err { OnErr result (words.new.keys ≡ words.old.keys) }
 {
-    if let Some(code) = words.get_index_of(&word) {
-        return Ok(code as u32);
-    }
-    let code = words.as_slice().len();
-    words.insert_full(word)?;
+    let (code, _) = words.insert_full(word)?;
     Ok(code as u32)
 }
 

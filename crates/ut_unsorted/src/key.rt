@@ -109,7 +109,7 @@ impl PartialEq for Word {
     ghost laws = { partial_equiv_from_equiv nat_list_eq_equiv };
 
     fn eq(&self, other: &Self) -> bool {
-        self.as_slice() == other.as_slice()
+        self.number() == other.number()
     }
 }
 

@@ -1,6 +1,6 @@
-use Rattle.std.proofs.Common.{◌≡◌, ◌++◌, map, take}
-use Rattle.ut_l2.specs.KeyRows.{cell}
+use Rattle.std.proofs.Common.{◌≡◌, ◌++◌}
+use Rattle.ut_l2.specs.Sources.{cells_in}
 use Rattle.ut_l2.proofs.column.Column.append.Given as goal
 
-abbrev pub invariant-loop-row : goal.invariant-loop-row
-invariant-loop-row l = l.self ≡ l.fn.self ++ map (cell l.column) (take l.row-index l.rows)
+abbrev pub invariant-loop-i : goal.invariant-loop-i
+invariant-loop-i l = l.self ≡ l.fn.self ++ cells_in l.source l.column l.from l.i

@@ -1,0 +1,41 @@
+use Rattle.std.proofs.Common.{◌++◌, ◌-◌, ◌∙◌, IsTrue, take, subst, arith}
+use Rattle.std.specs.List.{list_all}
+use Rattle.ut_value.specs.declared.entry.Op.TheVariants.{Insert}
+use Rattle.ut_value.specs.Spelling.{is_op}
+use Rattle.ut_plain.proofs.BoolLemmas.{and_left}
+use Rattle.ut_change.specs.Bulks.{bulk_ops}
+use Rattle.ut_change.proofs.BulkLemmas.{first-len, left-behind, done-next, done-spelled}
+use Rattle.ut_change.proofs.bulk.Bulk.add.Goals as goal
+
+pub add_insert-requires-clause-rule : goal.add_insert-requires-clause-rule
+add_insert-requires-clause-rule c =
+    let at = c.loop-rest in
+    and_left (is_op (Insert at.rest.table at.rest.id c.split.result.0.now)) (list_all is_op (bulk_ops c.split.result.1))
+    (subst (λ os. IsTrue (list_all is_op os)) c.split.ensures.ops at.invariant.is.rule)
+
+pub add_insert-requires-clause-room : goal.add_insert-requires-clause-room
+add_insert-requires-clause-room c =
+    let at = c.loop-rest in
+    omega (arith, first-len c.args.self at.rest c.split.result.1 _ c.split.ensures.ops c.split.ensures.id at.invariant.from at.invariant.left, at.invariant.room)
+
+pub add_insert-requires-clause-size : goal.add_insert-requires-clause-size
+add_insert-requires-clause-size c =
+    let at = c.loop-rest in
+    omega (arith, first-len c.args.self at.rest c.split.result.1 _ c.split.ensures.ops c.split.ensures.id at.invariant.from at.invariant.left, at.invariant.size)
+
+pub loop-rest-preserved : goal.loop-rest-preserved
+loop-rest-preserved c =
+    let at = c.loop-rest in
+    let first = first-len c.args.self at.rest c.split.result.1 _ c.split.ensures.ops c.split.ensures.id at.invariant.from at.invariant.left in
+    record {
+      is = c.split.ensures.behind;
+      from = omega (arith, c.split.ensures.id, at.invariant.from);
+      left = left-behind c.args.self at.rest c.split.result.1 _ c.split.ensures.ops c.split.ensures.id at.invariant.from at.invariant.left;
+      room = omega (arith, first, at.invariant.room, c.add_insert.ensures.spare);
+      size = omega (arith, first, at.invariant.size, c.add_insert.ensures.len);
+      grown = λ ps is. c.add_insert.ensures.added (ps ++ take (at.rest.id - c.args.self.id) (bulk_ops c.args.self)) (at.invariant.grown ps is)
+          ∙ done-next c.args.self at.rest c.split.result.1 _ c.split.ensures.ops c.split.ensures.id at.invariant.from at.invariant.left ps;
+    }
+
+pub returns : goal.returns
+returns c = λ ps is. let at = c.loop-rest in at.invariant.grown ps is ∙ done-spelled c.args.self at.rest ps at.invariant.left (omega arith)
