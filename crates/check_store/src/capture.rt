@@ -2,6 +2,7 @@
 ghost use Rattle.std.specs.Prelude.{◌≡◌, ◌+◌, ◌<◌, length, OnOk, IfOk};
 ghost use Rattle.ut_staged.specs.Staged.{count_of};
 
+use crate::calls::name;
 use std::alloc::{AllocError, Global};
 use std::process::Abort;
 use std::test::Fail;
@@ -10,20 +11,14 @@ use ut_plain::{Table, fits_columns};
 use ut_stamps::{Fate, Fates, Stamp};
 use ut_store::Store;
 use ut_table::Table as Stages;
-use ut_value::{Column, Duplicate, Kind, Name, Row, Seq, Value, is_name, same_bytes};
+use ut_value::{Column, Duplicate, Kind, Row, Seq, Value, same_bytes};
 
 /// Row 1 of the second stage, and rows 3 and 6 of the first, each with its id as its number.
 const DELTAS: &[u8] = b"\x01\0\0\0\x01\0\0\0\x80\0\0\0\0\0\0\x01\
 \x02\0\0\0\x03\0\0\0\x80\0\0\0\0\0\0\x03\x06\0\0\0\x80\0\0\0\0\0\0\x06";
 
-fn name(rt: &impl Abort, alloc: Global, bytes: &[u8]) -> Result<Name, AllocError> {
-    let bytes = Vec::from_slice(alloc, bytes)?;
-    assert!(rt; is_name(&bytes));
-    Ok(Name::of(bytes))
-}
-
 /// A column of numbers.
-fn columns(rt: &impl Abort, alloc: Global) -> Result<Seq<Column>, AllocError>
+pub(crate) fn columns(rt: &impl Abort, alloc: Global) -> Result<Seq<Column>, AllocError>
     ensures { IfOk result (λ columns. length columns ≡ 1) }
 {
     let name = name(rt, alloc, b"k")?;

@@ -2,6 +2,8 @@
 #![tactic(auto)]
 
 #[cfg(test)]
+mod bulk;
+#[cfg(test)]
 mod calls;
 #[cfg(test)]
 mod capture;
@@ -9,3 +11,5 @@ mod capture;
 mod engine;
 #[cfg(test)]
 mod restart;
+#[cfg(test)]
+mod tables;

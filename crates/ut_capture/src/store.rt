@@ -18,9 +18,10 @@ pub fn captured(alloc: Global, store: &Store) -> Result<Vec<CapturedTable>, Allo
     requires { Stands store.now }
     ensures { IfOk result (λ tables. (p : Plain) → StandsFor store.now p → Captures tables.items (capture (current p.journal) p.stages)) }
 {
-    let tables = store.tables();
-    let stages = store.stages();
-    let fates = store.fates();
+    let rows = store.all_rows();
+    let tables = rows.tables();
+    let stages = rows.stages();
+    let fates = rows.fates();
     let entries = store.entries();
     let mut captured = Vec::with_capacity(alloc, tables.len())?;
     for n in 0..tables.len() {

@@ -24,8 +24,8 @@ use Rattle.ut_plain.specs.View as views
 use Rattle.ut_plain.proofs.JournalLaws.{journal_len-appended}
 use Rattle.ut_merge.specs.Jobs.{JobValue}
 use Rattle.ut_staged.proofs.ListLemmas.{some_same}
-use Rattle.ut_store.specs.declared.turn.Turn.{Turn}
-use Rattle.ut_store.specs.declared.turn.Turn.TheVariants.{Answered}
+use Rattle.ut_store.specs.declared.response.Response.{Response}
+use Rattle.ut_store.specs.declared.response.Response.TheVariants.{Answered}
 use Rattle.ut_store.specs.Held.{Held}
 use Rattle.ut_store.specs.Stands.{StandsFor}
 use Rattle.ut_store.specs.Answers.{Answers}
@@ -107,31 +107,31 @@ no_begin p name n q same (WantsMemory r) = cc
 not_merge : (n : ℕ) → replies.DiskFault ≡ replies.Merge n → ⊥
 not_merge n e = cc
 
-brought : (old new : Logged) (store : Held) (turn : Turn) (before after : View) (session : ℕ) (name : List ℕ) (kind : MergeKind) (n : ℕ) (reply : Reply) (job : Option JobValue) (p : Plain) → StandsFor old.store p → Answers old.store session (MergeBegin name kind) turn store
-    → jobs.HandsOut (MergeBegin name kind) turn job store → reply ≡ replies.Merge n → HandsOut turn (record old { store = store }) before reply new after → IsSome job × (job ≡ pending_job new.store)
-brought old new store turn before after session name kind n reply job p stands answers hands is (AtOnce said same reads) =
+brought : (old new : Logged) (store : Held) (response : Response) (before after : View) (session : ℕ) (name : List ℕ) (kind : MergeKind) (n : ℕ) (reply : Reply) (job : Option JobValue) (p : Plain) → StandsFor old.store p → Answers old.store session (MergeBegin name kind) response store
+    → jobs.HandsOut (MergeBegin name kind) response job store → reply ≡ replies.Merge n → HandsOut response (record old { store = store }) before reply new after → IsSome job × (job ≡ pending_job new.store)
+brought old new store response before after session name kind n reply job p stands answers hands is (AtOnce said same reads) =
     let st = MergeBegin name kind in
-    let begun = subst (λ (t : Turn). Answers old.store session st t store) (said ∙ ap Answered is) answers in
+    let begun = subst (λ (t : Response). Answers old.store session st t store) (said ∙ ap Answered is) answers in
     let answer = begun.each p stands in
     absurd (no_begin p name n answer.after answer.logs (begins p session name kind (replies.Merge n) answer.after answer.may))
-brought old new store turn before after session name kind n reply job p stands answers hands is (Logs said same moments done) =
-    let has = subst (λ (t : Turn). jobs.HandsOut (MergeBegin name kind) t job store) said hands in
+brought old new store response before after session name kind n reply job p stands answers hands is (Logs said same moments done) =
+    let has = subst (λ (t : Response). jobs.HandsOut (MergeBegin name kind) t job store) said hands in
     (has.0, has.1 ∙ ap (λ (e : Logged). pending_job e.store) (sym same))
-brought old new store turn before after session name kind n reply job p stands answers hands is (Fails kept said fault down moments failed) = absurd (not_merge n (sym fault ∙ is))
+brought old new store response before after session name kind n reply job p stands answers hands is (Fails kept said fault down moments failed) = absurd (not_merge n (sym fault ∙ is))
 
 brings : (st : Statement) (reply : Reply) (job : Option JobValue) (e : Held) → ((name : List ℕ) (kind : MergeKind) (n : ℕ) → st ≡ MergeBegin name kind → reply ≡ replies.Merge n → IsSome job × (job ≡ pending_job e)) → BringsJob st reply job e
 brings (MergeBegin name kind) (replies.Merge n) job e each = each name kind n refl refl
 brings (MergeBegin name kind) reply job e each = tt
 brings st reply job e each = tt
 
-pub job_brought : (old new : Logged) (store : Held) (turn : Turn) (first : ℕ) (before after : View) (session : ℕ) (st : Statement) (reply : Reply) (job : Option JobValue) (p : Plain) → StandsFor old.store p → Answers old.store session st turn store
-    → jobs.HandsOut st turn job store → Concludes turn session st first (record old { store = store }) before reply new after → BringsJob st reply job new.store
-job_brought old new store turn first before after session st reply job p stands answers hands done =
+pub job_brought : (old new : Logged) (store : Held) (response : Response) (first : ℕ) (before after : View) (session : ℕ) (st : Statement) (reply : Reply) (job : Option JobValue) (p : Plain) → StandsFor old.store p → Answers old.store session st response store
+    → jobs.HandsOut st response job store → Concludes response session st first (record old { store = store }) before reply new after → BringsJob st reply job new.store
+job_brought old new store response first before after session st reply job p stands answers hands done =
     subst (λ (e : Held). BringsJob st reply job e) (sym (ap (λ (e : Logged). e.store) done.notes))
     (brings st reply job done.handed.store (λ name kind n is told.
-    brought old done.handed store turn before after session name kind n reply job p stands
-    (subst (λ (s : Statement). Answers old.store session s turn store) is answers)
-    (subst (λ (s : Statement). jobs.HandsOut s turn job store) is hands) told done.hands))
+    brought old done.handed store response before after session name kind n reply job p stands
+    (subst (λ (s : Statement). Answers old.store session s response store) is answers)
+    (subst (λ (s : Statement). jobs.HandsOut s response job store) is hands) told done.hands))
 
 -- ---- the answer that tells a reply
 

@@ -28,8 +28,8 @@ use Rattle.ut_durable.specs.Saving.{IsStored}
 use Rattle.ut_durable.proofs.CallLemmas.{settled}
 use Rattle.ut_durable.proofs.MomentLemmas.{append_leaves}
 use Rattle.ut_durable.proofs.SavingLemmas.{append_is_stored}
-use Rattle.ut_store.specs.declared.turn.Turn.{Turn}
-use Rattle.ut_store.specs.declared.turn.Turn.TheVariants.{Answered, Append}
+use Rattle.ut_store.specs.declared.response.Response.{Response}
+use Rattle.ut_store.specs.declared.response.Response.TheVariants.{Answered, Append}
 use Rattle.ut_store.specs.Held.{Held}
 use Rattle.ut_store.specs.Standing.{Stands}
 use Rattle.ut_store.specs.Stands.{StandsFor}
@@ -220,22 +220,22 @@ module _ (old : Logged) (before after : View) (session : ℕ) (low : session < 1
     }
 
 -- the store does its work in memory, then hands out the reply, and notes the next id
-serves_handed : (old mid : Logged) (store : Held) (turn : Turn) (before after : View) (session : ℕ) (st : Statement) (reply : Reply) → session < 17 → is_save st ≡ false → IsTrue (is_spelled st) → (p : Plain) → Runs old before p → Answers old.store session st turn store
-    → HandsOut turn (record old { store = store }) before reply mid after → Serves old before session st reply (with_noted mid old.store session st reply) after
-serves_handed old mid store turn before after session st reply low served spelled p runs answers (AtOnce said same reads) =
+serves_handed : (old mid : Logged) (store : Held) (response : Response) (before after : View) (session : ℕ) (st : Statement) (reply : Reply) → session < 17 → is_save st ≡ false → IsTrue (is_spelled st) → (p : Plain) → Runs old before p → Answers old.store session st response store
+    → HandsOut response (record old { store = store }) before reply mid after → Serves old before session st reply (with_noted mid old.store session st reply) after
+serves_handed old mid store response before after session st reply low served spelled p runs answers (AtOnce said same reads) =
     subst (λ (e : Logged). Serves old before session st reply (with_noted e old.store session st reply) after) (sym same)
-    (serves_stays old before after session low st served spelled store reply p runs reads (subst (λ (t : Turn). Answers old.store session st t store) said answers))
-serves_handed old mid store turn before after session st reply low served spelled p runs answers (Logs said same moments done) =
+    (serves_stays old before after session low st served spelled store reply p runs reads (subst (λ (t : Response). Answers old.store session st t store) said answers))
+serves_handed old mid store response before after session st reply low served spelled p runs answers (Logs said same moments done) =
     subst (λ (e : Logged). Serves old before session st reply (with_noted e old.store session st reply) after) (sym same)
-    (serves_grows old before after session low st served spelled store reply p runs (subst (λ (t : Turn). Answers old.store session st t store) said answers) moments mid.files done)
-serves_handed old mid store turn before after session st reply low served spelled p runs answers (Fails kept said fault down moments failed) =
+    (serves_grows old before after session low st served spelled store reply p runs (subst (λ (t : Response). Answers old.store session st t store) said answers) moments mid.files done)
+serves_handed old mid store response before after session st reply low served spelled p runs answers (Fails kept said fault down moments failed) =
     subst (λ (r : Reply). Serves old before session st r (with_noted mid old.store session st reply) after) (sym fault)
-    (serves_fails old before after session low st served spelled store kept p runs (subst (λ (t : Turn). Answers old.store session st t store) said answers) moments (with_noted mid old.store session st reply) down failed)
+    (serves_fails old before after session low st served spelled store kept p runs (subst (λ (t : Response). Answers old.store session st t store) said answers) moments (with_noted mid old.store session st reply) down failed)
 
 -- the whole of it
-pub serves_concluded : (old new : Logged) (store : Held) (turn : Turn) (first : ℕ) (before after : View) (session : ℕ) (st : Statement) (reply : Reply) → session < 17 → is_save st ≡ false → IsTrue (is_spelled st) → (p : Plain) × Runs old before p → first ≡ old.store.counts.next_id
-    → Answers old.store session st turn store → Concludes turn session st first (record old { store = store }) before reply new after → Serves old before session st reply new after
-serves_concluded old new store turn first before after session st reply low served spelled ran was answers done =
+pub serves_concluded : (old new : Logged) (store : Held) (response : Response) (first : ℕ) (before after : View) (session : ℕ) (st : Statement) (reply : Reply) → session < 17 → is_save st ≡ false → IsTrue (is_spelled st) → (p : Plain) × Runs old before p → first ≡ old.store.counts.next_id
+    → Answers old.store session st response store → Concludes response session st first (record old { store = store }) before reply new after → Serves old before session st reply new after
+serves_concluded old new store response first before after session st reply low served spelled ran was answers done =
     let handed : Logged = done.handed in
     subst (λ (e : Logged). Serves old before session st reply e after) (sym (done.notes ∙ ap (λ (id : ℕ). record handed { next = noted handed.next session st reply id handed.store.counts.next_id }) was))
-    (serves_handed old handed store turn before after session st reply low served spelled ran.0 ran.1 answers done.hands)
+    (serves_handed old handed store response before after session st reply low served spelled ran.0 ran.1 answers done.hands)

@@ -1,4 +1,4 @@
--- How the reply of a turn in memory is handed out: at once, or once the frame of the store is on the disk.
+-- How the reply of a response is handed out: at once, or once the frame of the store is on the disk.
 use Rattle.std.specs.Prelude.{◌≡◌, ◌≤◌, ◌^◌, List, ℕ, true}
 use Rattle.ut_outside.specs.Disk.{View, IsTold}
 use Rattle.ut_outside.specs.Faults.{Rose}
@@ -9,8 +9,8 @@ use Rattle.ut_plain.specs.declared.statement.Statement.{Statement}
 use Rattle.ut_plain.specs.declared.reply.Reply.{Reply}
 use Rattle.ut_plain.specs.declared.reply.Reply.TheVariants.{DiskFault}
 use Rattle.ut_durable.specs.Calls.{FilesHeld, IsSettled, Gains, MayGain}
-use Rattle.ut_store.specs.declared.turn.Turn.{Turn}
-use Rattle.ut_store.specs.declared.turn.Turn.TheVariants.{Answered, Append}
+use Rattle.ut_store.specs.declared.response.Response.{Response}
+use Rattle.ut_store.specs.declared.response.Response.TheVariants.{Answered, Append}
 use Rattle.ut_nextid.specs.NextIds.{noted}
 use Rattle.ut_engine.specs.Logged.{Logged}
 
@@ -34,18 +34,18 @@ pub record NotAppended (before after : View) : Type 0 where
   pub later : before.faults ≤ after.faults
   pub rose : Rose before.faults after.faults
 
--- How the reply of a turn is handed out, and what becomes of the store and of the disk.
-pub data HandsOut (turn : Turn) (old : Logged) (before : View) (reply : Reply) (new : Logged) (after : View) : Type 0 where
+-- How the reply of a response is handed out, and what becomes of the store and of the disk.
+pub data HandsOut (response : Response) (old : Logged) (before : View) (reply : Reply) (new : Logged) (after : View) : Type 0 where
   -- nothing was to be appended
-  AtOnce : turn ≡ Answered reply → new ≡ old → ReadsOnly before after → HandsOut turn old before reply new after
+  AtOnce : response ≡ Answered reply → new ≡ old → ReadsOnly before after → HandsOut response old before reply new after
   -- the frame was appended, and the reply is handed out
-  Logs : turn ≡ Append reply → new ≡ record old { files = new.files } → MayGain old.store.frame old.files before after
-      → Appended old.files new.files old.store.frame before after → HandsOut turn old before reply new after
-  -- the disk failed, the reply of the turn is kept back, and the store is down
-  Fails : (kept : Reply) → turn ≡ Append kept → reply ≡ DiskFault → new.down ≡ true → MayGain old.store.frame old.files before after → NotAppended before after → HandsOut turn old before reply new after
+  Logs : response ≡ Append reply → new ≡ record old { files = new.files } → MayGain old.store.frame old.files before after
+      → Appended old.files new.files old.store.frame before after → HandsOut response old before reply new after
+  -- the disk failed, the reply of the response is kept back, and the store is down
+  Fails : (kept : Reply) → response ≡ Append kept → reply ≡ DiskFault → new.down ≡ true → MayGain old.store.frame old.files before after → NotAppended before after → HandsOut response old before reply new after
 
--- The reply of a turn is handed out, and the journal's next id is noted. The store's was `first` before the turn.
-pub record Concludes (turn : Turn) (session : ℕ) (st : Statement) (first : ℕ) (old : Logged) (before : View) (reply : Reply) (new : Logged) (after : View) : Type 0 where
+-- The reply of a response is handed out, and the journal's next id is noted. The store's was `first` before the statement.
+pub record Concludes (response : Response) (session : ℕ) (st : Statement) (first : ℕ) (old : Logged) (before : View) (reply : Reply) (new : Logged) (after : View) : Type 0 where
   pub handed : Logged
-  pub hands : HandsOut turn old before reply handed after
+  pub hands : HandsOut response old before reply handed after
   pub notes : new ≡ record handed { next = noted handed.next session st reply first handed.store.counts.next_id }

@@ -32,7 +32,7 @@ use ut_reading::{Image, read_image};
 use ut_redo::Redo;
 use ut_restart::reopen;
 use ut_savepoint::Savepoint;
-use ut_store::{Store, Turn};
+use ut_store::{Response, Store};
 
 /// A store in memory before its files. Each call that may write is lent the disk.
 #[derive(Drop)]
@@ -166,7 +166,7 @@ impl LoggedStore {
     {
         let before = self.store.next_id();
         let outcome = self.store.statement_with_job(alloc, session, st);
-        let reply = self.conclude(disk, session, st, before, outcome.turn);
+        let reply = self.conclude(disk, session, st, before, outcome.response);
         (reply, outcome.job)
     }
 
@@ -178,37 +178,37 @@ impl LoggedStore {
         ensures { Serves self.old (D.view disk.old) session statements.MergeEnd result self.new (D.view disk.new) }
     {
         let before = self.store.next_id();
-        let turn = self.store.merge_end(session, built);
-        self.conclude(disk, session, &Statement::MergeEnd, before, turn)
+        let response = self.store.merge_end(session, built);
+        self.conclude(disk, session, &Statement::MergeEnd, before, response)
     }
 
-    // Ends a statement: the reply of its turn in memory is handed out, and the journal's next id noted. The store's was this one before.
+    // Ends a statement: its response in memory is handed out, and the journal's next id noted. The store's was this one before.
     fn conclude<D: Disk>(
         &mut self,
         disk: &mut D,
         session: u8,
         st: &Statement,
         before: u32,
-        turn: Turn,
+        response: Response,
     ) -> Reply
         requires seat { session < 17 }
         requires ready { AreReady self.old.files (D.view disk.old) }
-        ensures { Concludes turn session st.now before self.old (D.view disk.old) result self.new (D.view disk.new) }
+        ensures { Concludes response session st.now before self.old (D.view disk.old) result self.new (D.view disk.new) }
     {
-        let reply = self.hand_out(disk, turn);
+        let reply = self.hand_out(disk, response);
         let after = self.store.next_id();
         self.next.note(session, st, &reply, before, after);
         reply
     }
 
-    // Hands out the reply of a turn in memory: at once, or once the frame that it wrote is on the disk.
-    fn hand_out<D: Disk>(&mut self, disk: &mut D, turn: Turn) -> Reply
+    // Hands out the reply of a response: at once, or once the frame that it wrote is on the disk.
+    fn hand_out<D: Disk>(&mut self, disk: &mut D, response: Response) -> Reply
         requires { AreReady self.old.files (D.view disk.old) }
-        ensures { HandsOut turn self.old (D.view disk.old) result self.new (D.view disk.new) }
+        ensures { HandsOut response self.old (D.view disk.old) result self.new (D.view disk.new) }
     {
-        match turn {
-            Turn::Answered(reply) => reply,
-            Turn::Append(reply) => match self.files.append(disk, self.store.frame()) {
+        match response {
+            Response::Answered(reply) => reply,
+            Response::Append(reply) => match self.files.append(disk, self.store.frame()) {
                 Ok(()) => reply,
                 Err(_) => {
                     drop(reply); // it is not handed out

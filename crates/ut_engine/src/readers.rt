@@ -24,7 +24,7 @@ impl<'d, D: Disk> Engine<'d, D> {
     pub fn tables(&self) -> usize
         ensures { IsTableCount self.now.store.store result }
     {
-        self.store.store.table_count()
+        self.store.store.all_rows().table_count()
     }
 
     /// The name of the table at a place in order of creation.
@@ -32,7 +32,7 @@ impl<'d, D: Disk> Engine<'d, D> {
         requires there { place < length self.now.store.store.rows.tables }
         ensures { IsTableName self.now.store.store place result.now }
     {
-        self.store.store.table_name(place).unwrap()
+        self.store.store.all_rows().table_name(place).unwrap()
     }
 
     /// How many rows stand in the first stage of the table at a place, those that nobody sees included.
@@ -41,7 +41,7 @@ impl<'d, D: Disk> Engine<'d, D> {
         requires up { self.now.store.down ≡ false }
         ensures { IsL1Length self.now.store.store place result }
     {
-        self.store.store.l1_len(place).unwrap()
+        self.store.store.all_rows().l1_len(place).unwrap()
     }
 
     /// How many rows stand in its second stage.
@@ -50,6 +50,6 @@ impl<'d, D: Disk> Engine<'d, D> {
         requires up { self.now.store.down ≡ false }
         ensures { IsL2Length self.now.store.store place result }
     {
-        self.store.store.l2_len(place).unwrap()
+        self.store.store.all_rows().l2_len(place).unwrap()
     }
 }

@@ -34,7 +34,7 @@ pub(crate) struct Seen {
 /// The values of a column over some rows: those that were read, and for each row the place of its
 /// value among them. Two of them may be equal.
 #[derive(Drop)]
-pub(crate) struct Distinct {
+pub(crate) struct ReadValues {
     pub values: Vec<Value>,
     pub places: Vec<u32>,
 }
@@ -51,17 +51,17 @@ pub(crate) fn cells(
     requires fit { Fit table.now.stages hits.now }
     ensures { IfOk result (λ cells. cells ≡ map (cell table.now.stages column) hits.now) }
 {
-    let Distinct { values, places } = distinct_cells(alloc, table, column, hits)?;
+    let ReadValues { values, places } = read_values(alloc, table, column, hits)?;
     Ok(Cells::of(values, places))
 }
 
 /// The same, with the values that were read apart from the rows' places.
-pub(crate) fn distinct_cells(
+pub(crate) fn read_values(
     alloc: Global,
     table: &Table,
     column: usize,
     hits: &[Found],
-) -> Result<Distinct, AllocError>
+) -> Result<ReadValues, AllocError>
     requires column { column < length table.now.stages.columns }
     requires fit { Fit table.now.stages hits.now }
     ensures inside { IfOk result (λ read. All (λ place. place < length read.values.items) read.places.items) }
@@ -74,7 +74,7 @@ pub(crate) fn distinct_cells(
         places.push(place)?;
     }
     let Seen { values, .. } = seen;
-    Ok(Distinct { values, places })
+    Ok(ReadValues { values, places })
 }
 
 /// What is read before the rows are: where they are many, marks for the codes of the column, and

@@ -11,7 +11,7 @@ ghost use Rattle.ut_ops.specs.Fit.{Fit, cell};
 ghost use Rattle.ut_ops.specs.Index.{listed, lists_now, IsIndex, beside_each};
 
 use crate::columns::{add_columns, all_places};
-use crate::gather::{Distinct, cells, distinct_cells};
+use crate::gather::{ReadValues, cells, read_values};
 use crate::ranked::Ranked;
 use std::alloc::{AllocError, Global};
 use std::collections::BTreeMap;
@@ -118,7 +118,7 @@ fn pairs_of(
     ensures lefts { IfOk result (λ pairs. pairs.lefts.items ≡ flat_map (λ f. map (λ g. f) (listed index.now (cell left.now.stages column f))) hits.now) }
     ensures rights { IfOk result (λ pairs. pairs.rights.items ≡ flat_map (λ f. listed index.now (cell left.now.stages column f)) hits.now) }
 {
-    let Distinct { values, places } = distinct_cells(alloc, left, column, hits)?;
+    let ReadValues { values, places } = read_values(alloc, left, column, hits)?;
     let partners = partners_of(alloc, index, values)?;
     let lefts = Vec::with_capacity(alloc, hits.len())?;
     let rights = Vec::with_capacity(alloc, hits.len())?;

@@ -19,7 +19,7 @@ use Rattle.ut_plain.specs.Step.{may_lack_memory}
 use Rattle.ut_names.specs.Resolved.{Hinders}
 use Rattle.ut_query.specs.Tells.{IsAnswer}
 use Rattle.ut_txn.specs.Seats.{opened_at}
-use Rattle.ut_store.specs.declared.turn.Turn.TheVariants.{Answered}
+use Rattle.ut_store.specs.declared.response.Response.TheVariants.{Answered}
 use Rattle.ut_store.specs.Held.{Held}
 use Rattle.ut_store.specs.Standing.{Stands, changes_rows, finds_rows, suits_session}
 use Rattle.ut_store.specs.Early.{early_refusal}

@@ -30,7 +30,7 @@ use Rattle.ut_exact.proofs.WorkLemmas.{working-applied, other-applied}
 use Rattle.ut_staged.specs.Staged.{Staged}
 use Rattle.ut_txn.specs.declared.opened.Opened.{Opened}
 use Rattle.ut_txn.specs.Seats.{Seat, opened_at, payload_at, number_at, SeatSet, SeatsStay}
-use Rattle.ut_store.specs.declared.turn.Turn.TheVariants.{Answered, Append}
+use Rattle.ut_store.specs.declared.response.Response.TheVariants.{Answered, Append}
 use Rattle.ut_store.specs.Held.{Held}
 use Rattle.ut_store.specs.Stands.{StandsFor, AreCounts, AreMerging}
 use Rattle.ut_store.specs.Answers.{Answer, Answers}

@@ -20,7 +20,7 @@ use Rattle.std.specs.Option.{is_none}
 use Rattle.ut_plain.proofs.BoolLemmas.{and_left, and_right, and_both}
 use Rattle.ut_plain.proofs.StepLaws.{name-short}
 use Rattle.ut_staged.specs.Staged.{no_rows}
-use Rattle.ut_store.specs.declared.turn.Turn.TheVariants.{Answered, Append}
+use Rattle.ut_store.specs.declared.response.Response.TheVariants.{Answered, Append}
 use Rattle.ut_store.specs.Held.{Held}
 use Rattle.ut_store.specs.Stands.{StandsFor}
 use Rattle.ut_store.specs.Early.{early_refusal}

@@ -4,6 +4,9 @@ use Rattle.std.specs.Option.{option_map}
 use Rattle.ut_plain.specs.declared.statement.Statement.{Statement}
 use Rattle.ut_plain.specs.declared.statement.Statement.TheVariants as statements
 use Rattle.ut_value.specs.declared.value.Column.{Column}
+use Rattle.ut_value.specs.declared.value.Value.{Value}
+use Rattle.ut_plain.specs.declared.statement.Pred.{Pred}
+use Rattle.ut_plain.specs.declared.statement.Query.{Query}
 use Rattle.ut_value.specs.declared.entry.MergeKind.{MergeKind}
 use Rattle.ut_plain.specs.declared.stage.PendingMerge.{PendingMerge}
 use Rattle.ut_plain.specs.declared.reply.Refusal.{Refusal}
@@ -107,25 +110,34 @@ no_save_changes statements.SaveFlip h = cc
 no_save_changes statements.SaveDrop h = cc
 no_save_changes _ h = refl
 
--- each that is none of a savepoint, changes no row and finds none is one of these
-pub all_carried : {A : Type 0} (st : Statement) → is_save st ≡ false → changes_rows st ≡ false → ((name : List ℕ) (columns : List Column) → st ≡ statements.Create name columns → ⊥) → finds_rows st ≡ false
+-- each that is none of these finds no rows
+pub finds_none : (st : Statement) → ((query : Query) → st ≡ statements.Ask query → ⊥) → ((name : List ℕ) (preds : List Pred) → st ≡ statements.Delete name preds → ⊥)
+    → ((name column : List ℕ) (value : Value) (preds : List Pred) → st ≡ statements.Update name column value preds → ⊥) → finds_rows st ≡ false
+finds_none (statements.Ask query) ask delete update = absurd (ask query refl)
+finds_none (statements.Delete name preds) ask delete update = absurd (delete name preds refl)
+finds_none (statements.Update name column value preds) ask delete update = absurd (update name column value preds refl)
+finds_none _ ask delete update = refl
+
+-- each that is none of a savepoint and finds no rows is one of these
+pub all_carried : {A : Type 0} (st : Statement) → is_save st ≡ false → finds_rows st ≡ false → ((name : List ℕ) (values : List Value) → st ≡ statements.Insert name values → ⊥) → ((name : List ℕ) (values : List Value) → st ≡ statements.Bulk name values → ⊥)
+    → ((name : List ℕ) (columns : List Column) → st ≡ statements.Create name columns → ⊥)
     → (st ≡ statements.Begin → ⊥) → (st ≡ statements.Commit → ⊥) → (st ≡ statements.Abort → ⊥) → ((name : List ℕ) (n : ℕ) → st ≡ statements.MergeL1 name n → ⊥) → ((name : List ℕ) (kind : MergeKind) → st ≡ statements.MergeBegin name kind → ⊥)
     → (st ≡ statements.MergeEnd → ⊥) → ((name : List ℕ) → st ≡ statements.Shape name → ⊥) → A
-all_carried (statements.Create name columns) served keeps create other begin commit abort moves starts ends shape = absurd (create name columns refl)
-all_carried (statements.Insert name values) served keeps create other begin commit abort moves starts ends shape = cc
-all_carried (statements.Bulk name values) served keeps create other begin commit abort moves starts ends shape = cc
-all_carried (statements.Update name column value preds) served keeps create other begin commit abort moves starts ends shape = cc
-all_carried (statements.Delete name preds) served keeps create other begin commit abort moves starts ends shape = cc
-all_carried (statements.Ask query) served keeps create other begin commit abort moves starts ends shape = cc
-all_carried statements.Begin served keeps create other begin commit abort moves starts ends shape = absurd (begin refl)
-all_carried statements.Commit served keeps create other begin commit abort moves starts ends shape = absurd (commit refl)
-all_carried statements.Abort served keeps create other begin commit abort moves starts ends shape = absurd (abort refl)
-all_carried (statements.MergeL1 name n) served keeps create other begin commit abort moves starts ends shape = absurd (moves name n refl)
-all_carried (statements.MergeBegin name kind) served keeps create other begin commit abort moves starts ends shape = absurd (starts name kind refl)
-all_carried statements.MergeEnd served keeps create other begin commit abort moves starts ends shape = absurd (ends refl)
-all_carried (statements.Shape name) served keeps create other begin commit abort moves starts ends shape = absurd (shape name refl)
-all_carried statements.SaveBegin served keeps create other begin commit abort moves starts ends shape = cc
-all_carried (statements.SaveStep n) served keeps create other begin commit abort moves starts ends shape = cc
-all_carried statements.SaveSeal served keeps create other begin commit abort moves starts ends shape = cc
-all_carried statements.SaveFlip served keeps create other begin commit abort moves starts ends shape = cc
-all_carried statements.SaveDrop served keeps create other begin commit abort moves starts ends shape = cc
+all_carried (statements.Create name columns) served other insert bulk create begin commit abort moves starts ends shape = absurd (create name columns refl)
+all_carried (statements.Insert name values) served other insert bulk create begin commit abort moves starts ends shape = absurd (insert name values refl)
+all_carried (statements.Bulk name values) served other insert bulk create begin commit abort moves starts ends shape = absurd (bulk name values refl)
+all_carried (statements.Update name column value preds) served other insert bulk create begin commit abort moves starts ends shape = cc
+all_carried (statements.Delete name preds) served other insert bulk create begin commit abort moves starts ends shape = cc
+all_carried (statements.Ask query) served other insert bulk create begin commit abort moves starts ends shape = cc
+all_carried statements.Begin served other insert bulk create begin commit abort moves starts ends shape = absurd (begin refl)
+all_carried statements.Commit served other insert bulk create begin commit abort moves starts ends shape = absurd (commit refl)
+all_carried statements.Abort served other insert bulk create begin commit abort moves starts ends shape = absurd (abort refl)
+all_carried (statements.MergeL1 name n) served other insert bulk create begin commit abort moves starts ends shape = absurd (moves name n refl)
+all_carried (statements.MergeBegin name kind) served other insert bulk create begin commit abort moves starts ends shape = absurd (starts name kind refl)
+all_carried statements.MergeEnd served other insert bulk create begin commit abort moves starts ends shape = absurd (ends refl)
+all_carried (statements.Shape name) served other insert bulk create begin commit abort moves starts ends shape = absurd (shape name refl)
+all_carried statements.SaveBegin served other insert bulk create begin commit abort moves starts ends shape = cc
+all_carried (statements.SaveStep n) served other insert bulk create begin commit abort moves starts ends shape = cc
+all_carried statements.SaveSeal served other insert bulk create begin commit abort moves starts ends shape = cc
+all_carried statements.SaveFlip served other insert bulk create begin commit abort moves starts ends shape = cc
+all_carried statements.SaveDrop served other insert bulk create begin commit abort moves starts ends shape = cc

@@ -1,5 +1,5 @@
 -- What a statement's operations are answered, from the limits to the end.
-use Rattle.std.proofs.Common.{ℕ, zero, suc, ◌+◌, ◌<◌, ◌≤◌, ◌≡◌, ◌≢◌, true, false, ◌&&◌, ◌||◌, List, [], ◌∷◌, ◌++◌, length, map, is_some, None, Some, refl, sym, ap, ◌∙◌, subst, arith, IsTrue, nat_eq, nat_le, nat_lt, ltb-true, eqb-true, eq-eqb, true≢false, slice_set}
+use Rattle.std.proofs.Common.{ℕ, zero, suc, ◌+◌, ◌<◌, ◌≤◌, ◌≡◌, ◌≢◌, ◌↔◌, Bool, true, false, ◌&&◌, ◌||◌, List, [], ◌∷◌, ◌++◌, length, map, is_some, None, Some, refl, sym, ap, ◌∙◌, subst, arith, IsTrue, nat_eq, nat_le, nat_lt, ltb-true, true≢false, slice_set}
 use Rattle.std.specs.Option.{option_map}
 use Rattle.std.proofs.lemmas.List.Sums.{sum_by-append}
 use Rattle.ut_value.specs.declared.entry.Op.{Op}
@@ -31,16 +31,17 @@ use Rattle.ut_staged.proofs.TableLemmas.{count-within}
 use Rattle.ut_txn.specs.declared.opened.Opened.{Opened}
 use Rattle.ut_txn.specs.Seats.{opened_at, payload_at}
 use Rattle.ut_plain.specs.declared.reply.Refusal.{Refusal}
-use Rattle.ut_store.specs.declared.turn.Turn.{Turn}
-use Rattle.ut_store.specs.declared.turn.Turn.TheVariants.{Answered, Append}
+use Rattle.ut_store.specs.declared.response.Response.{Response}
+use Rattle.ut_store.specs.declared.response.Response.TheVariants.{Answered, Append}
 use Rattle.ut_store.specs.declared.counts.Counts.{Counts}
-use Rattle.ut_store.specs.Held.{Held, Rows}
+use Rattle.ut_tables.specs.Rows.{Rows}
+use Rattle.ut_store.specs.Held.{Held}
 use Rattle.ut_store.specs.Stands.{StandsFor}
 use Rattle.ut_store.specs.Hits.{first_taken_of}
 use Rattle.ut_store.specs.Answers.{Answers, Same}
 use Rattle.ut_store.specs.Allowed.{IsRefused}
 use Rattle.ut_store.specs.Standing.{changes_rows}
-use Rattle.ut_store.specs.Changes.{has_room_for, late_refusal, HasPlaces, CanDo, CanAppend, DoneInside, DoneAlone, Stays, MayChange, AreReady, IsWork}
+use Rattle.ut_store.specs.Changes.{has_room_for, late_refusal, CanDo, CanAppend, DoneInside, DoneAlone, Stays, MayChange, AreReady, IsWork}
 use Rattle.ut_store.proofs.ReadLemmas.{reads, SameSession, Closed, Open, same_session}
 use Rattle.ut_store.proofs.SeatLemmas.{stands-same}
 use Rattle.ut_store.proofs.EarlyLemmas.{refusal-is, no_save_changes}
@@ -101,9 +102,6 @@ held_is : (new : Held) {rows : Rows} {counts : Counts} → new.rows ≡ rows →
 held_is new rows counts = λ i. record { rows = sym rows i; seats = new.seats; counts = sym counts i; frame = new.frame }
 
 -- ---- what may be done
-
-pub has_places : (e : Held) (n : ℕ) (hits : List (ℕ × Place)) (os : List Op) → AreReady e n hits os → HasPlaces e n hits
-has_places e n hits os r = record { table = r.table; at = r.at; there = r.there }
 
 module _ (e : Held) (session : ℕ) (st : Statement) (n : ℕ) (hits : List (ℕ × Place)) (os : List Op) (rows : ℕ) (after : ℕ → Staged → Staged) (m : MayChange e session st) (w : IsWork e session st n hits os rows after) (late : late_refusal e session n hits os ≡ None) where
   the_room : HasRoom m.stands.plain session os
@@ -214,12 +212,12 @@ may_lack (statements.Update name column value preds) h = refl
 may_lack (statements.Delete name preds) h = refl
 may_lack _ h = cc
 
-pub answers_memory : (e new : Held) (session : ℕ) (st : Statement) (turn : Turn) → IsTrue (changes_rows st) → turn ≡ Answered (replies.Refused refusals.Memory) → Same e new → Answers e session st turn new
-answers_memory e new session st turn kind is same = subst (λ t. Answers e session st t new) (sym is) (no_memory e new session st (may_lack st kind) same)
+pub answers_memory : (e new : Held) (session : ℕ) (st : Statement) (response : Response) → IsTrue (changes_rows st) → response ≡ Answered (replies.Refused refusals.Memory) → Same e new → Answers e session st response new
+answers_memory e new session st response kind is same = subst (λ t. Answers e session st t new) (sym is) (no_memory e new session st (may_lack st kind) same)
 
 -- the same of a store that stands for what it stood for
-pub answers_stays : (e new : Held) (session : ℕ) (st : Statement) (turn : Turn) → IsTrue (changes_rows st) → turn ≡ Answered (replies.Refused refusals.Memory) → Stays e new → Answers e session st turn new
-answers_stays e new session st turn kind is stays = subst (λ t. Answers e session st t new) (sym is)
+pub answers_stays : (e new : Held) (session : ℕ) (st : Statement) (response : Response) → IsTrue (changes_rows st) → response ≡ Answered (replies.Refused refusals.Memory) → Stays e new → Answers e session st response new
+answers_stays e new session st response kind is stays = subst (λ t. Answers e session st t new) (sym is)
     (record { each = λ p s. record { after = p; may = LacksMemory (may_lack st kind) refl refl; stands = stays.each p s; logs = refl } })
 
 pub same_stays : (e new : Held) → Same e new → Stays e new
@@ -229,12 +227,8 @@ pub answers_refused : (e : Held) (session : ℕ) (st : Statement) (n : ℕ) (hit
     → late_refusal e session n hits os ≡ Some why → Answers e session st (Answered (replies.Refused why)) e
 answers_refused e session st n hits os rows after why m w late = refused e e session st why (record { is = λ p s. (late-is e session st n hits os rows after m w).is p s ∙ late }) (itself_same e)
 
--- ---- none or some
+-- ---- some are left
 
-pub none_of : {X : Type 0} (xs : List X) (n : ℕ) → n ≡ length xs → true ≡ nat_eq n 0 → xs ≡ []
-none_of [] n is h = refl
-none_of (x ∷ xs) n is h = let zero_is = eqb-true n 0 (sym h) in absurd (omega arith)
-
-pub some_of : {X : Type 0} (xs : List X) (n : ℕ) → n ≡ length xs → false ≡ nat_eq n 0 → 0 < length xs
-some_of [] n is h = absurd (true≢false (sym (eq-eqb n 0 is) ∙ sym h))
-some_of (x ∷ xs) n is h = omega arith
+pub some_of : {X : Type 0} (xs : List X) (none : Bool) → (IsTrue none ↔ xs ≡ []) → none ≡ false → 0 < length xs
+some_of [] none is h = absurd (true≢false (sym (is.1 refl) ∙ h))
+some_of (x ∷ xs) none is h = omega arith

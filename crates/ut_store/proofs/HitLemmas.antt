@@ -1,10 +1,9 @@
 -- What a scan of the store finds is what the plain store finds.
-use Rattle.std.proofs.Common.{ℕ, ◌<◌, ◌≤◌, ◌≡◌, Bool, T, true, false, ◌||◌, cond, List, [], ◌∷◌, filter, None, Some, refl, sym, ap, ◌∙◌, subst, arith, nat_eq, slice_get, unwrap_or, true≢false}
+use Rattle.std.proofs.Common.{ℕ, ◌<◌, ◌≤◌, ◌≡◌, Bool, true, false, ◌||◌, cond, List, [], ◌∷◌, filter, None, Some, refl, sym, ap, ◌∙◌, subst, arith, nat_eq, slice_get, unwrap_or, true≢false}
 use Rattle.std.specs.Option.{option_map}
 use Rattle.std.specs.List as lists
-use Rattle.std.specs.Ordering.{nat_cmp, is_lt}
-use Rattle.std.specs.FinMap.{find, is_sorted}
-use Rattle.std.specs.FinMap.Entries.{below_all}
+use Rattle.std.specs.Ordering.{nat_cmp}
+use Rattle.std.specs.FinMap.{find}
 use Rattle.ut_value.specs.declared.value.Value.{Value}
 use Rattle.ut_plain.specs.declared.table.Stored.{Stored}
 use Rattle.ut_plain.specs.declared.statement.Pred.{Pred}
@@ -23,12 +22,12 @@ use Rattle.ut_exact.specs.Exact.{ended_by, may_take}
 use Rattle.ut_exact.specs.Places.{StagedRow, dead_number, is_dead, stamped_in}
 use Rattle.ut_exact.specs.Scan.{stored_in}
 use Rattle.ut_exact.proofs.FateLemmas.{other_number}
-use Rattle.ut_exact.proofs.OrderLemmas.{T_first, T_second, less, not_tied, first_found}
 use Rattle.ut_exact.proofs.ScanLemmas.{scan-is, seen_is_live}
 use Rattle.ut_exact.proofs.SeenLemmas.{taken-stamp}
 use Rattle.ut_staged.specs.Staged.{Staged}
 use Rattle.ut_txn.specs.declared.opened.Opened.{Opened}
 use Rattle.ut_txn.specs.Seats.{number_at}
+use Rattle.ut_tables.proofs.FoundLemmas.{AllIn, all_in}
 use Rattle.ut_store.specs.Held.{Held}
 use Rattle.ut_store.specs.Stands.{StandsFor, opened_snapshot}
 use Rattle.ut_store.specs.Reads.{looks_at, own_at, counts_for}
@@ -103,21 +102,6 @@ module _ (e : Held) (p : Plain) (session n : ℕ) (test : List Value → Bool) (
       let f = holds id q is in
       (reads e p session small s).taken id ∙ ap (ended_by (may_take e.rows.fates (looks_at e session) (own_at e session))) f.4
       ∙ sym (ap (λ o. is_taken e.rows.fates (looks_at e session) (own_at e session) (stamp_in o)) f.1 ∙ taken-stamp e.rows.fates (looks_at e session) (own_at e session) (stamped_in n f.0))
-
--- each of these places is found under its id
-abbrev AllIn : List (ℕ × Place) → List (ℕ × Place) → Type 0
-AllIn hits [] = Unit {0}
-AllIn hits (x ∷ xs) = (find nat_cmp x.0 hits ≡ Some x.1) × AllIn hits xs
-
-in_more : (x : ℕ × Place) (hits some : List (ℕ × Place)) → T (below_all nat_cmp x.0 some) → AllIn hits some → AllIn (x ∷ hits) some
-in_more x hits [] below a = tt
-in_more x hits (y ∷ ys) below a =
-    let lt = less x.0 y.0 (T_first (is_lt (nat_cmp x.0 y.0)) _ below) in
-    (ap (λ b. cond b (Some x.1) (find nat_cmp y.0 hits)) (not_tied y.0 x.0 (λ same. absurd (omega (arith, same, lt)))) ∙ a.0, in_more x hits ys (T_second (is_lt (nat_cmp x.0 y.0)) _ below) a.1)
-
-all_in : (hits : List (ℕ × Place)) → T (is_sorted nat_cmp hits) → AllIn hits hits
-all_in [] h = tt
-all_in (x ∷ xs) h = (first_found x xs, in_more x xs xs (T_first (below_all nat_cmp x.0 xs) _ h) (all_in xs (T_second (below_all nat_cmp x.0 xs) _ h)))
 
 pub first_taken-is : (e : Held) (p : Plain) (session n : ℕ) (test : List Value → Bool) (hits : List (ℕ × Place)) → session < 17 → StandsFor e p → Hits e session n test hits
     → first_taken (view p session).taken (plain_rows e n hits) ≡ first_taken_of e session n hits

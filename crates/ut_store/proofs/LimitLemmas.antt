@@ -1,4 +1,4 @@
--- The bytes of a session's own operations and of more, as they are measured.
+-- Limits, as they are measured.
 use Rattle.std.proofs.Common.{ℕ, ◌+◌, ◌-◌, ◌<◌, ◌≤◌, ◌≡◌, Bool, true, false, is_some, Option, None, Some, refl, sym, ap, ◌∙◌, arith, MatchOption, nat_le, le-leb, leb-true}
 
 bytes_by : (a b len : ℕ) (o : Option ℕ) → a ≤ b → MatchOption o (b - a < len) (λ n. (n ≡ len) × (n ≤ b - a)) → is_some o ≡ nat_le (a + len) b

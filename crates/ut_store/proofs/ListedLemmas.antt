@@ -1,10 +1,8 @@
 -- The rows that are listed are those of the journal.
-use Rattle.std.proofs.Common.{ℕ, ◌+◌, ◌<◌, ◌≡◌, Bool, true, cond, List, [], ◌∷◌, ◌++◌, filter, length, map, take, get_or, Option, None, Some, refl, sym, ap, ◌∙◌, subst, arith, slice_get, unwrap_or}
-use Rattle.std.proofs.lemmas.List.{take_more, map-append}
-use Rattle.std.proofs.lemmas.List.Elements.{All-cons, All-nil}
-use Rattle.std.specs.Option.{option_map, IsSome}
+use Rattle.std.proofs.Common.{ℕ, ◌<◌, ◌≡◌, Bool, true, cond, List, [], ◌∷◌, filter, length, map, Option, None, Some, refl, sym, ap, ◌∙◌, subst, arith, slice_get, unwrap_or}
+use Rattle.std.proofs.lemmas.List.Elements.{All-nil}
+use Rattle.std.specs.Option.{option_map}
 use Rattle.std.specs.FinMap as finmap
-use Rattle.ut_value.specs.declared.value.Value.{Value}
 use Rattle.ut_value.specs.declared.value.Row.{Row}
 use Rattle.ut_plain.specs.declared.table.Table.{Table}
 use Rattle.ut_plain.specs.declared.table.Stored.{Stored}
@@ -19,45 +17,21 @@ use Rattle.ut_scan.specs.declared.place.Found.{Found}
 use Rattle.ut_exact.specs.Places.{StagedRow}
 use Rattle.ut_exact.specs.Scan.{stored_in}
 use Rattle.ut_staged.specs.Staged.{Staged, row_at}
-use Rattle.ut_table.specs.Finds.{AreThere, hits_of}
+use Rattle.ut_table.specs.Finds.{hits_of}
 use Rattle.ut_store.specs.Held.{Held}
+use Rattle.ut_store.specs.Reads.{looks_at, own_at}
 use Rattle.ut_store.specs.Hits.{Hits, plain_rows}
 use Rattle.ut_scan.specs.declared.place.ColumnPred.{ColumnPred}
 use Rattle.ut_store.specs.Changes.{CanLook}
 use Rattle.ut_store.proofs.NamedLemmas.{named_table}
 use Rattle.ut_store.proofs.SearchLemmas.{seen_once}
-use Rattle.ut_store.specs.Listed.{row_of, row_in, listed, Lists}
-use Rattle.ut_staged.specs.Staging.{AreFound}
+use Rattle.ut_tables.specs.Finds.{ListsSeen, row_of, row_in}
+use Rattle.ut_store.specs.Listed.{listed, Lists}
 use Rattle.ut_store.specs.Stands.{StandsFor}
 use Rattle.ut_store.specs.Standing.{Stands}
-use Rattle.ut_store.proofs.HitLemmas.{found-is, AreFound-hits}
+use Rattle.ut_store.proofs.HitLemmas.{found-is}
 use Rattle.ut_staged.specs.Tables.{place_at}
 use Rattle.ut_staged.proofs.TableLemmas.{here}
-
--- ---- rows are copied one by one
-
-copied_row : (o : Option StagedRow) (id : ℕ) (values : List Value) → IsSome o → ((row : StagedRow) → o ≡ Some row → values ≡ row.values) → row_of (id, stored_in 0 o) ≡ record { id = id; values = values }
-copied_row None id values there is = cc
-copied_row (Some row) id values there is = ap (λ (vs : List Value). record { id = id; values = vs }) (sym (is row refl))
-
-pub row_more : (s : Staged) (found : List Found) (i : ℕ) (d : Found) (rows new : List Row) (values : List Value) → IsSome (row_at s (get_or found i d).place) → ((row : StagedRow) → row_at s (get_or found i d).place ≡ Some row → values ≡ row.values)
-    → i < length found → rows ≡ map (row_in s) (take i found) → new ≡ rows ++ record { id = (get_or found i d).id; values = values } ∷ [] → new ≡ map (row_in s) (take (i + 1) found)
-row_more s found i d rows new values there is small so_far more =
-    more ∙ (λ k. so_far k ++ sym (copied_row (row_at s (get_or found i d).place) (get_or found i d).id values there is) k ∷ [])
-    ∙ sym (map-append (row_in s) (take i found) (get_or found i d ∷ []))
-    ∙ ap (map (row_in s)) (sym (take_more found i d small))
-
--- ---- what was found is there
-
-pub are_there : (e : Held) (session n : ℕ) (test : List Value → Bool) (found : List Found) (s : Staged) → session < 17 → Stands e → slice_get e.rows.staged n ≡ Some s → Hits e session n test (hits_of found) → AreThere s found
-are_there e session n test found s small st is h = by found (AreFound-hits e st.plain session n test (hits_of found) s small st.stands is h)
-  where
-    some : (f : Found) (row : StagedRow) → row_at s f.place ≡ Some row → IsSome (row_at s f.place)
-    some f row g = subst IsSome (sym g) refl
-
-    by : (fs : List Found) → AreFound s (hits_of fs) → AreThere s fs
-    by [] a = λ k d h. absurd (omega arith)
-    by (f ∷ fs) a = All-cons (λ (x : Found). IsSome (row_at s x.place)) f fs (some f a.0 a.1) (by fs a.4)
 
 -- ---- what is listed
 
@@ -81,7 +55,7 @@ all_pass test (e ∷ es) h = (λ i. cond (h e i) (e ∷ filter test es) (filter 
 pub all_look : (e : Held) (name : List ℕ) (n : ℕ) → Stands e → place_of e.rows.tables name ≡ Some n → CanLook e 0 n []
 all_look e name n st at =
     let t = named_table e name n st at in
-    record { seat = omega arith; table = t.0; at = t.1; columns = All-nil (λ (p : ColumnPred). p.column < length t.0.columns); once = seen_once e st.plain 0 n t.0 st.stands t.1 }
+    record { table = t.0; at = t.1; has = record { columns = All-nil (λ (p : ColumnPred). p.column < length t.0.columns); once = seen_once e st.plain 0 n t.0 st.stands t.1 } }
 
 -- the place of a name, the other way
 pub hits_named : (e : Held) (name : List ℕ) (n : ℕ) (found : List Found) → place_of e.rows.tables name ≡ Some n → Hits e 0 n (meets (columns_in e.rows.tables name) []) (hits_of found) → Hits e 0 (place_in e.rows.tables name) (meets (columns_in e.rows.tables name) []) (hits_of found)
@@ -110,3 +84,8 @@ lists_some e name n s rows st at is h = record { each = λ p stands. by p stands
 pub lists_rows : (e : Held) (name : List ℕ) (n : ℕ) (s : Staged) (found : List Found) (rows : List Row) → Stands e → place_of e.rows.tables name ≡ Some n → slice_get e.rows.staged n ≡ Some s
     → Hits e 0 (place_in e.rows.tables name) (meets (columns_in e.rows.tables name) []) (hits_of found) → rows ≡ map (row_in s) found → Lists e name (Some rows)
 lists_rows e name n s found rows st at is h are = subst (λ (x : List Row). Lists e name (Some x)) (sym are) (lists_some e name n s found st at is h)
+
+-- what the rows list is what the journal has
+pub lists_seen : (e : Held) (name : List ℕ) (rows : Option (List Row)) → Stands e → ListsSeen e.rows (looks_at e 0) (own_at e 0) name rows → Lists e name rows
+lists_seen e name None st none = record { each = λ p s. sym (ap (option_map (λ (n : ℕ). map row_of (table_rows n (finmap.entries (current p.journal).rows)))) none) ∙ ap (λ (ts : List Table). option_map (λ (n : ℕ). map row_of (table_rows n (finmap.entries (current p.journal).rows))) (place_of ts name)) s.counts.tables }
+lists_seen e name (Some rows) st l = lists_rows e name l.place l.table l.found rows st l.named l.at (hits_named e name l.place l.found l.named l.hits) l.rows_are

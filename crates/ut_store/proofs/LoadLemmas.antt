@@ -1,38 +1,25 @@
--- Operations that are loaded: their rows fit the table, and end none.
-use Rattle.std.proofs.Common.{ℕ, ◌+◌, ◌≤◌, ◌≡◌, All, List, [], length, sym, ap, ◌∙◌, subst, arith, IsTrue}
-use Rattle.std.specs.List.{list_all}
-use Rattle.ut_value.specs.declared.value.Row.{Row}
-use Rattle.ut_value.specs.declared.entry.Op.{Op}
-use Rattle.ut_plain.specs.Tables.{fits_columns}
-use Rattle.ut_plain.specs.Rows.{inserts_of}
-use Rattle.ut_stamps.specs.declared.place.Place.{Place}
-use Rattle.ut_staged.specs.Staged.{Staged, count_of}
-use Rattle.ut_change.specs.Writes.{ends_of, op_fits}
-use Rattle.ut_change.specs.Loads.{inserted, inserts_all}
-use Rattle.ut_change.proofs.LoadLemmas.{ends-all, inserts-all, rows-fit}
-use Rattle.ut_store.specs.Held.{Held}
-use Rattle.ut_store.specs.Changes.{CanDo}
+-- Rows that are loaded have values and ids, and suit their table.
+use Rattle.std.proofs.Common.{ℕ, ◌≡◌, refl, ap, subst}
+use Rattle.ut_change.specs.declared.bulk.Bulk.{Bulk}
+use Rattle.ut_change.specs.Bulks.{CanLoad}
+use Rattle.ut_tables.specs.declared.work.Changes.{Changes}
+use Rattle.ut_tables.specs.declared.work.Changes.TheVariants.{Writes, Loads}
+use Rattle.ut_tables.specs.declared.work.Work.{Work}
+use Rattle.ut_tables.specs.Rows.{Rows}
+use Rattle.ut_tables.specs.Works.{AreChanges, IsWide, LoadsWell}
 
--- what is loaded ends no row
-pub can_load : (e : Held) (n : ℕ) (hits : List (ℕ × Place)) (os : List Op) → CanDo e n hits os → os ≡ inserts_all n (inserted os) → CanDo e n [] os
-can_load e n hits os c are = record {
-  table = c.table;
-  at = c.at;
-  write = record { fits = c.write.fits; few = c.write.few; there = tt; enough = let ends = ap ends_of are ∙ ends-all n (inserted os) in omega (arith, ends) };
-  rule = c.rule;
-  short = c.short;
-  ids = c.ids;
-}
+-- what is loaded has values and ids
+pub are_changes : (r : Rows) (w : Work) → LoadsWell r w → AreChanges w.changes
+are_changes r w loads = by w.changes refl
+  where
+    by : (c : Changes) → w.changes ≡ c → AreChanges c
+    by (Writes hits ops) is = tt
+    by (Loads bulk) is = (loads bulk is).0
 
-module _ (e : Held) (n : ℕ) (os : List Op) (c : CanDo e n [] os) (are : os ≡ inserts_all n (inserted os)) (read : Staged) (rows : List Row) (here : read ≡ c.table) (all : rows ≡ inserted os) where
-  pub load_fit : All (λ (r : Row). IsTrue (fits_columns read.columns r.values)) rows
-  load_fit =
-      subst (λ (s : Staged). All (λ (r : Row). IsTrue (fits_columns s.columns r.values)) rows) (sym here)
-      (subst (λ (rs : List Row). All (λ (r : Row). IsTrue (fits_columns c.table.columns r.values)) rs) (sym all)
-      (rows-fit c.table.columns n (inserted os) (subst (λ x. IsTrue (list_all (op_fits c.table.columns) x)) are c.write.fits)))
+-- the rows that changes load, else these
+abbrev loaded : Bulk → Changes → Bulk
+loaded b (Writes hits ops) = b
+loaded b (Loads x) = x
 
-  pub load_few : count_of read + length rows ≤ 2147483648
-  load_few =
-      let few = c.write.few in
-      let many = ap inserts_of are ∙ inserts-all n (inserted os) ∙ sym (ap length all) in
-      omega (arith, few, many, ap count_of here)
+pub loads_well : (r : Rows) (n : ℕ) (x : Bulk) → CanLoad x → IsWide r n x → (b : Bulk) → Loads x ≡ Loads b → CanLoad b × IsWide r n b
+loads_well r n x can wide b is = let same : x ≡ b = ap (loaded b) is in (subst CanLoad same can, subst (λ (y : Bulk). IsWide r n y) same wide)

@@ -35,7 +35,7 @@ use Rattle.ut_staged.proofs.TableLemmas.{stages-here, stages-set, map-kept}
 use Rattle.ut_staged.proofs.BeginLemmas.{AreHeld-closed, AreDropped-closing}
 use Rattle.ut_staged.proofs.FlagLemmas.{kept_here, stages-closed, own_ids}
 use Rattle.ut_txn.specs.Seats.{number_at, snapshots_of}
-use Rattle.ut_store.specs.declared.turn.Turn.TheVariants.{Append}
+use Rattle.ut_store.specs.declared.response.Response.TheVariants.{Append}
 use Rattle.ut_store.specs.Held.{Held}
 use Rattle.ut_store.specs.Stands.{StandsFor, AreMerging}
 use Rattle.ut_store.specs.Answers.{Answers}

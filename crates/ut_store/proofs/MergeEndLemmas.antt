@@ -33,7 +33,7 @@ use Rattle.ut_staged.proofs.ListLemmas.{none_some, some_same, get-set_other, map
 use Rattle.ut_staged.proofs.TableLemmas.{stages-here, stages-set, map-kept}
 use Rattle.ut_staged.proofs.EndLemmas.{AreHeld-merged, AreDropped-rest, stages-switched}
 use Rattle.ut_txn.specs.Seats.{number_at}
-use Rattle.ut_store.specs.declared.turn.Turn.TheVariants.{Append}
+use Rattle.ut_store.specs.declared.response.Response.TheVariants.{Append}
 use Rattle.ut_store.specs.Held.{Held}
 use Rattle.ut_store.specs.Stands.{StandsFor, AreMerging}
 use Rattle.ut_store.specs.Answers.{Answers}

@@ -1,6 +1,6 @@
 -- What the calls of a merge into main answer, from what their steps promise.
-use Rattle.std.proofs.Common.{ℕ, ◌+◌, ◌<◌, ◌≡◌, ◌&&◌, Bool, true, false, cond, List, [], ◌∷◌, length, map, Option, None, Some, refl, sym, ap, ◌∙◌, subst, arith, IsTrue, nat_lt, slice_get, slice_set}
-use Rattle.std.proofs.lemmas.Bool.{and_parts, eq-eqb, ltb-true}
+use Rattle.std.proofs.Common.{ℕ, ◌+◌, ◌<◌, ◌≤◌, ◌≡◌, ◌&&◌, Bool, true, false, cond, List, [], ◌∷◌, length, map, Option, None, Some, refl, sym, ap, ◌∙◌, subst, arith, IsTrue, nat_lt, slice_get}
+use Rattle.std.proofs.lemmas.Bool.{and_parts, eq-eqb, le-ltb, lt-ltb, ltb-true}
 use Rattle.std.proofs.lemmas.List.{length-map}
 use Rattle.std.proofs.lemmas.List.Sums.{sum_by-cons}
 use Rattle.std.specs.List.{sum_by}
@@ -14,23 +14,23 @@ use Rattle.ut_plain.specs.declared.statement.Statement.TheVariants.{MergeBegin, 
 use Rattle.ut_plain.specs.declared.reply.Reply.TheVariants as replies
 use Rattle.ut_plain.specs.declared.reply.Refusal.TheVariants as refusals
 use Rattle.ut_plain.specs.Limits.{has_room}
-use Rattle.ut_plain.specs.Merges.{staying, has_part_room, has_places}
+use Rattle.ut_plain.specs.Merges.{has_part_room, has_places}
 use Rattle.ut_plain.specs.Plain.{Plain}
 use Rattle.ut_plain.specs.Spelled.{is_spelled}
 use Rattle.ut_plain.specs.Stages.{Stages, stages_at}
 use Rattle.ut_plain.specs.Tables.{place_in}
 use Rattle.ut_plain.specs.View.{view}
-use Rattle.ut_stamps.specs.declared.place.Place.{Place}
 use Rattle.ut_exact.specs.Places.{StagedRow}
 use Rattle.ut_merge.specs.Jobs.{JobValue}
-use Rattle.ut_table.specs.Contents.{TableValue}
+use Rattle.ut_tables.specs.Rows.{Rows}
+use Rattle.ut_tables.specs.Merging as merges
+use Rattle.ut_tables.specs.Merging.{Switched}
 use Rattle.ut_table.specs.Pending as tables
-use Rattle.ut_staged.specs.Staged.{Staged, placed_of, stages_of, switched}
-use Rattle.ut_staged.specs.Tables.{IsArranged}
-use Rattle.ut_staged.proofs.ListLemmas.{none_some, some_same, get-within, get-map, map-set}
+use Rattle.ut_staged.specs.Staged.{Staged, placed_of, stages_of}
+use Rattle.ut_staged.proofs.ListLemmas.{none_some, some_same, get-within, get-map}
 use Rattle.ut_staged.proofs.TableLemmas.{stages-here}
-use Rattle.ut_store.specs.declared.turn.Turn.{Turn}
-use Rattle.ut_store.specs.declared.turn.Turn.TheVariants.{Answered, Append}
+use Rattle.ut_store.specs.declared.response.Response.{Response}
+use Rattle.ut_store.specs.declared.response.Response.TheVariants.{Answered, Append}
 use Rattle.ut_store.specs.Held.{Held}
 use Rattle.ut_store.specs.Stands.{StandsFor, merge_at}
 use Rattle.ut_store.specs.Standing.{Stands}
@@ -41,11 +41,9 @@ use Rattle.ut_store.specs.Jobs.{pending_job, HandsOut}
 use Rattle.ut_store.proofs.EarlyLemmas.{allowed, full, may_end}
 use Rattle.ut_store.proofs.NumberLemmas.{are_small}
 use Rattle.ut_store.proofs.NamedLemmas.{staged_count, place-is}
-use Rattle.ut_store.proofs.IndexLemmas.{stages_in}
-use Rattle.ut_store.proofs.PlaceTurnLemmas.{staged_at}
 use Rattle.ut_store.proofs.StandsLemmas.{refused, itself_same}
 use Rattle.ut_store.proofs.MergeBeginLemmas.{kept_ids, merge_begins}
-use Rattle.ut_store.proofs.MergeEndLemmas.{merge_ends, pending_is}
+use Rattle.ut_store.proofs.MergeEndLemmas.{merge_ends}
 use Rattle.ut_plain.specs.Tables.{place_of}
 
 -- ---- room
@@ -56,6 +54,10 @@ sum_placed (rows ∷ lists) =
     let rest = sum_placed lists in
     omega (arith, rest, length-map rows placed_of, sum_by-cons length rows lists, sum_by-cons length (map placed_of rows) (map (map placed_of) lists))
 
+and_again : (a b c : Bool) → (a && b) && c ≡ a && (b && c)
+and_again true b c = refl
+and_again false b c = refl
+
 -- the plain store's test is that of the stages
 room-is : (e : Held) (session : ℕ) (name : List ℕ) (kind : MergeKind) (n : ℕ) (s : Staged) (room : Bool) → slice_get e.rows.staged n ≡ Some s → ((p : Plain) → StandsFor e p → place_in (view p session).tables name ≡ n) → has_room_to_merge e s kind ≡ room
     → (p : Plain) → StandsFor e p → has_room (view p session) (MergeBegin name kind) ≡ room
@@ -63,13 +65,18 @@ room-is e session name kind n s room is place test p st =
     let here : stages_at p.stages (place_in (view p session).tables name) ≡ stages_of s = ap (stages_at p.stages) (place p st) ∙ ap (λ (x : Stages). stages_at x n) st.rows.stages ∙ stages-here e.rows.staged n s is in
     let places : has_places (stages_of s) ≡ nat_lt (sum_by length s.parts + length s.l2) 2147483648 = λ i. nat_lt (sum_placed s.parts i + length-map s.l2 placed_of i) 2147483648 in
     (λ i. nat_lt (sym st.counts.entries i) 1073741823 && has_places (here i) && has_part_room kind (length (here i).parts))
-    ∙ (λ i. nat_lt e.counts.entries 1073741823 && places i && has_part_room kind (length-map s.parts (map placed_of) i)) ∙ test
+    ∙ (λ i. nat_lt e.counts.entries 1073741823 && places i && has_part_room kind (length-map s.parts (map placed_of) i))
+    ∙ and_again (nat_lt e.counts.entries 1073741823) (nat_lt (sum_by length s.parts + length s.l2) 2147483648) (has_part_room kind (length s.parts)) ∙ test
+
+-- whether there are places left for the rows that a merge builds
+abbrev has_places_left : Staged → Bool
+has_places_left s = nat_lt (sum_by length s.parts + length s.l2) 2147483648
 
 pub may_merge : (e : Held) (n : ℕ) (s : Staged) (kind : MergeKind) → Stands e → e.counts.pending ≡ None → slice_get e.rows.staged n ≡ Some s → has_room_to_merge e s kind ≡ true → MayMerge e n kind
 may_merge e n s kind st idle is test =
-    let room = and_parts (nat_lt e.counts.entries 1073741823 && nat_lt (sum_by length s.parts + length s.l2) 2147483648) (has_part_room kind (length s.parts)) test in
-    let tests = and_parts (nat_lt e.counts.entries 1073741823) (nat_lt (sum_by length s.parts + length s.l2) 2147483648) room.0 in
-    let few = ltb-true (sum_by length s.parts + length s.l2) 2147483648 tests.1 in
+    let tests = and_parts (nat_lt e.counts.entries 1073741823) (has_places_left s && has_part_room kind (length s.parts)) test in
+    let room = and_parts (has_places_left s) (has_part_room kind (length s.parts)) tests.1 in
+    let few = ltb-true (sum_by length s.parts + length s.l2) 2147483648 room.0 in
     record {
       table = s;
       at = is;
@@ -85,9 +92,22 @@ merge_small e n s kind st is test =
     let small = are_small e st in
     let merges = small.merges in
     let few_tables = small.tables in
-    let room = and_parts (nat_lt e.counts.entries 1073741823 && nat_lt (sum_by length s.parts + length s.l2) 2147483648) (has_part_room kind (length s.parts)) test in
-    let short = ltb-true e.counts.entries 1073741823 (and_parts (nat_lt e.counts.entries 1073741823) (nat_lt (sum_by length s.parts + length s.l2) 2147483648) room.0).0 in
+    let short = ltb-true e.counts.entries 1073741823 (and_parts (nat_lt e.counts.entries 1073741823) (has_places_left s && has_part_room kind (length s.parts)) test).0 in
     (omega (arith, get-within e.rows.staged n s is, staged_count e st, few_tables), short, omega (arith, merges, short))
+
+-- both limits, as they are read
+pub room_both : (inside e : Held) (s : Staged) (kind : MergeKind) → inside ≡ e → inside.counts.entries < 1073741823 → merges.has_room_to_merge s kind ≡ true → has_room_to_merge e s kind ≡ true
+room_both inside e s kind same short room = ap (λ (x : Held). nat_lt x.counts.entries 1073741823 && merges.has_room_to_merge s kind) (sym same) ∙ (λ i. lt-ltb inside.counts.entries 1073741823 short i && room i)
+
+pub no_entries : (inside e : Held) (s : Staged) (kind : MergeKind) → inside ≡ e → 1073741823 ≤ inside.counts.entries → has_room_to_merge e s kind ≡ false
+no_entries inside e s kind same long = ap (λ (x : Held). nat_lt x.counts.entries 1073741823 && merges.has_room_to_merge s kind) (sym same) ∙ ap (λ b. b && merges.has_room_to_merge s kind) (le-ltb inside.counts.entries 1073741823 long)
+
+pub no_places : (e : Held) (s : Staged) (kind : MergeKind) → merges.has_room_to_merge s kind ≡ false → has_room_to_merge e s kind ≡ false
+no_places e s kind none = ap (λ b. nat_lt e.counts.entries 1073741823 && b) none ∙ and_false (nat_lt e.counts.entries 1073741823)
+  where
+    and_false : (b : Bool) → b && false ≡ false
+    and_false true = refl
+    and_false false = refl
 
 pub merge_full : (e : Held) (session : ℕ) (name : List ℕ) (kind : MergeKind) (n : ℕ) (s : Staged) → session < 17 → early_refusal e session (MergeBegin name kind) ≡ None → place_of e.rows.tables name ≡ Some n → slice_get e.rows.staged n ≡ Some s → has_room_to_merge e s kind ≡ false
     → Answers e session (MergeBegin name kind) (Answered (replies.Refused refusals.Full)) e
@@ -127,30 +147,15 @@ merged_table e m job st is has = by (slice_get e.rows.staged m.table) refl (ap (
           (st.stands.rows.merging m.table s.merge (get-map (λ (x : Staged). x.merge) e.rows.staged m.table s at) ∙ ap (λ o. merge_at o m.table) is ∙ ap (λ b. cond b (Some m) None) (eq-eqb m.table m.table refl)) job_is;
     }
 
--- the place of the pending merge's table
-pub merged_within : (e : Held) (m : PendingMerge) → Stands e → e.counts.pending ≡ Some m → m.table < length e.rows.staged
-merged_within e m st is =
-    let pending = pending_is e st.plain m st.stands is in
-    let small = pending.table in
-    omega (arith, small, ap length st.stands.rows.stages, length-map e.rows.staged stages_of)
-
--- the new part's rows stood in these places
-abbrev pub Switches : PendingMerge → Staged → Staged → Type 0
-Switches m old new = (olds : List Place) × IsArranged m.kind old olds × (new ≡ switched (staying m.kind (length old.parts)) olds old)
-
-pub merge_ended_now : (e : Held) (items : List TableValue) (m : PendingMerge) (t new : TableValue) (session : ℕ) (frame : List ℕ) → session < 17 → e.counts.pending ≡ Some m → e.rows.staged ≡ stages_in items → slice_get items m.table ≡ Some t
-    → Switches m t.stages new.stages → frame ≡ spelling (entries.Ended m.number)
-    → Answers e session MergeEnd (Append (replies.Merge m.number)) (record e { rows = record e.rows { staged = stages_in (slice_set items m.table new) }; counts = record e.counts { entries = e.counts.entries + 1; pending = None }; frame = frame })
-merge_ended_now e items m t new session frame small is are at switch spells =
-    let here : slice_get e.rows.staged m.table ≡ Some t.stages = ap (λ (x : List Staged). slice_get x m.table) are ∙ staged_at items m.table t at in
-    let after : slice_set e.rows.staged m.table (switched (staying m.kind (length t.stages.parts)) switch.0 t.stages) ≡ stages_in (slice_set items m.table new) =
-    (λ i. slice_set (are i) m.table (sym switch.2 i)) ∙ sym (map-set (λ (x : TableValue). x.stages) items m.table new) in
+pub merge_ended_now : (e : Held) (rows : Rows) (m : PendingMerge) (session : ℕ) (frame : List ℕ) → session < 17 → e.counts.pending ≡ Some m → Switched e.rows m.table m.kind rows → frame ≡ spelling (entries.Ended m.number)
+    → Answers e session MergeEnd (Append (replies.Merge m.number)) (record e { rows = rows; counts = record e.counts { entries = e.counts.entries + 1; pending = None }; frame = frame })
+merge_ended_now e rows m session frame small is switch spells =
     subst (λ (x : Held). Answers e session MergeEnd (Append (replies.Merge m.number)) x)
-    (λ i. record e { rows = record e.rows { staged = after i }; counts = record e.counts { entries = e.counts.entries + 1; pending = None }; frame = sym spells i })
-    (merge_ends e session m t.stages switch.0 (allowed e session MergeEnd small refl (may_end e session m is) (λ p st. refl) (λ p st. refl)) is here switch.1)
+    (λ i. record e { rows = sym switch.rows i; counts = record e.counts { entries = e.counts.entries + 1; pending = None }; frame = sym spells i })
+    (merge_ends e session m switch.table switch.olds (allowed e session MergeEnd small refl (may_end e session m is) (λ p st. refl) (λ p st. refl)) is switch.at switch.arranged)
 
 -- ---- no other statement hands out a job
 
-pub no_job : (st : Statement) (turn : Turn) (job : Option JobValue) (e : Held) → ((name : List ℕ) (kind : MergeKind) → st ≡ MergeBegin name kind → ⊥) → job ≡ None → HandsOut st turn job e
-no_job (MergeBegin name kind) turn job e other none = absurd (other name kind refl)
-no_job st turn job e other none = none
+pub no_job : (st : Statement) (response : Response) (job : Option JobValue) (e : Held) → ((name : List ℕ) (kind : MergeKind) → st ≡ MergeBegin name kind → ⊥) → job ≡ None → HandsOut st response job e
+no_job (MergeBegin name kind) response job e other none = absurd (other name kind refl)
+no_job st response job e other none = none

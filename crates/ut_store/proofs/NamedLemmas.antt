@@ -1,8 +1,6 @@
 -- What follows where a statement names tables that are there.
-use Rattle.std.proofs.Common.{ℕ, ◌<◌, ◌≡◌, Bool, true, false, List, length, map, Option, None, Some, refl, sym, ap, ◌∙◌, arith, unwrap_or, IsTrue, slice_get, get_or}
+use Rattle.std.proofs.Common.{ℕ, ◌<◌, ◌≡◌, Bool, true, false, List, length, Option, None, Some, refl, sym, ap, ◌∙◌, arith, unwrap_or, IsTrue, slice_get}
 use Rattle.std.proofs.lemmas.List.{length-map}
-use Rattle.std.proofs.lemmas.Option.{slice_get_read, slice_get-map}
-use Rattle.std.specs.Option.{option_map}
 use Rattle.ut_value.specs.Text.{same_bytes}
 use Rattle.ut_value.specs.declared.value.Column.{Column}
 use Rattle.ut_plain.specs.declared.table.Table.{Table}
@@ -15,7 +13,6 @@ use Rattle.ut_plain.specs.Plain.{Plain}
 use Rattle.ut_plain.specs.View.{view}
 use Rattle.ut_plain.specs.Tables.{place_of, place_in}
 use Rattle.ut_plain.proofs.ListLemmas.{position_below}
-use Rattle.ut_table.specs.Contents.{TableValue}
 use Rattle.ut_staged.proofs.ListLemmas.{get-there}
 use Rattle.ut_store.specs.Held.{Held}
 use Rattle.ut_store.specs.Stands.{StandsFor}
@@ -40,10 +37,10 @@ pub place-is : (e : Held) (session : ℕ) (name : List ℕ) (place : ℕ) → pl
 place-is e session name place is p s = ap (λ (ts : List Table). place_in ts name) (sym s.counts.tables) ∙ ap (λ (o : Option ℕ). unwrap_or o 0) is
 
 -- the place of a name is that of some stages
-pub place_within : (e : Held) (items : List TableValue) (name : List ℕ) (place : ℕ) → Stands e → e.rows.staged ≡ map (λ (t : TableValue). t.stages) items → place_of e.rows.tables name ≡ Some place → place < length items
-place_within e items name place st are is =
+pub place_within : (e : Held) (name : List ℕ) (place : ℕ) → Stands e → place_of e.rows.tables name ≡ Some place → place < length e.rows.staged
+place_within e name place st is =
     let below = position_below (λ (table : Table). same_bytes table.name name) e.rows.tables place is in
-    omega (arith, below, staged_count e st, ap (λ (x : List Staged). length x) are, length-map items (λ (t : TableValue). t.stages))
+    omega (arith, below, staged_count e st)
 
 -- the stages of a name's table
 pub named_table : (e : Held) (name : List ℕ) (place : ℕ) → Stands e → place_of e.rows.tables name ≡ Some place → (s : Staged) × (slice_get e.rows.staged place ≡ Some s)
@@ -51,19 +48,6 @@ named_table e name place st is =
     let below = position_below (λ (table : Table). same_bytes table.name name) e.rows.tables place is in
     get-there e.rows.staged place (omega (arith, below, staged_count e st))
 
--- so the table that is read there is one of them
-pub table_read : (e : Held) (items : List TableValue) (name : List ℕ) (place : ℕ) (t : TableValue) → Stands e → e.rows.staged ≡ map (λ (x : TableValue). x.stages) items → place_of e.rows.tables name ≡ Some place
-    → t ≡ get_or items place t → slice_get items place ≡ Some t
-table_read e items name place t st are at is = slice_get_read items (length items) place t refl (place_within e items name place st are at) is
-
 -- the place of a name, as it was looked up
-pub looked_up : (e now : Held) (tables : List Table) (name : List ℕ) (found : Option ℕ) (place : ℕ) → e ≡ now → tables ≡ e.rows.tables → found ≡ place_of tables name → found ≡ Some place → place_of now.rows.tables name ≡ Some place
-looked_up e now tables name found place same are is some =
-    ap (λ (x : Held). place_of x.rows.tables name) (sym same) ∙ ap (λ (ts : List Table). place_of ts name) (sym are) ∙ sym is ∙ some
-
--- the stages of the table that is read there
-pub staged_read : (e now : Held) (items : List TableValue) (name : List ℕ) (place : ℕ) (t : TableValue) → e ≡ now → Stands now → e.rows.staged ≡ map (λ (x : TableValue). x.stages) items → place_of now.rows.tables name ≡ Some place
-    → t ≡ get_or items place t → slice_get now.rows.staged place ≡ Some t.stages
-staged_read e now items name place t same st are at is =
-    let all : now.rows.staged ≡ map (λ (x : TableValue). x.stages) items = ap (λ (x : Held). x.rows.staged) (sym same) ∙ are in
-    ap (λ (s : List Staged). slice_get s place) all ∙ slice_get-map (λ (x : TableValue). x.stages) items place ∙ ap (option_map (λ (x : TableValue). x.stages)) (table_read now items name place t st all at is)
+pub looked_up : (e now : Held) (bytes name : List ℕ) (found : Option ℕ) (place : ℕ) → e ≡ now → bytes ≡ name → found ≡ place_of e.rows.tables bytes → found ≡ Some place → place_of now.rows.tables name ≡ Some place
+looked_up e now bytes name found place same spelt is some = (λ i. place_of (sym same i).rows.tables (sym spelt i)) ∙ sym is ∙ some

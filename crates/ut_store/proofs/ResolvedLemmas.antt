@@ -15,7 +15,7 @@ use Rattle.ut_names.specs.declared.resolved.Selection.{Selection}
 use Rattle.ut_names.specs.declared.resolved.Target.{Target}
 use Rattle.ut_names.specs.Resolved.{Hinders, IsSelection, IsTarget, target_fits, target_known}
 use Rattle.ut_names.proofs.ResolvedLemmas.{selection_known}
-use Rattle.ut_store.specs.declared.turn.Turn.TheVariants.{Answered}
+use Rattle.ut_store.specs.declared.response.Response.TheVariants.{Answered}
 use Rattle.ut_store.specs.Held.{Held}
 use Rattle.ut_store.specs.Standing.{Stands, changes_rows, finds_rows, suits_session}
 use Rattle.ut_store.specs.Answers.{Answers}

@@ -12,9 +12,7 @@ use Rattle.ut_plain.specs.Condition.{meets}
 use Rattle.ut_plain.specs.Plain.{Plain}
 use Rattle.ut_plain.specs.View.{view}
 use Rattle.ut_plain.proofs.TableLemmas.{there}
-use Rattle.ut_stamps.specs.declared.fates.Fate.{Fate}
 use Rattle.ut_stamps.specs.declared.place.Place.{Place}
-use Rattle.ut_scan.specs.declared.place.Found.{Found}
 use Rattle.ut_exact.specs.Stamped.{Stamped}
 use Rattle.ut_exact.specs.Places.{stamped_in}
 use Rattle.ut_scan.specs.declared.place.ColumnPred.{ColumnPred}
@@ -23,11 +21,10 @@ use Rattle.ut_names.specs.declared.resolved.Selection.{Selection}
 use Rattle.ut_names.specs.Resolved.{IsSelection}
 use Rattle.ut_query.specs.Tells.{IsSelected}
 use Rattle.ut_names.proofs.CompiledLemmas.{compiled_below}
-use Rattle.ut_query.proofs.ShowLemmas.{scan_of}
 use Rattle.ut_exact.proofs.OrderLemmas.{T_first, T_second, less}
 use Rattle.ut_exact.proofs.ScanLemmas.{seen_is_live}
 use Rattle.ut_staged.specs.Staged.{Staged}
-use Rattle.ut_table.specs.Finds.{SeenOnce, Finds, hits_of}
+use Rattle.ut_table.specs.Finds.{SeenOnce}
 use Rattle.ut_change.proofs.MadeLemmas.{AreGiven}
 use Rattle.ut_store.specs.Held.{Held}
 use Rattle.ut_store.specs.Stands.{StandsFor}
@@ -61,16 +58,17 @@ seen_once e p session n table s at = record {
 module _ (e : Held) (p : Plain) (session n : ℕ) (name : List ℕ) (asked : List Pred) (preds : List ColumnPred) (small : session < 17) (s : StandsFor e p) (t : TableAt e n (columns_in e.rows.tables name)) (h : Compiles (columns_in e.rows.tables name) asked preds) where
   can_look : CanLook e session n preds
   can_look = record {
-    seat = small;
     table = t.table;
     at = t.at;
-    columns = compiled_below t.table.columns asked preds (subst (λ cs. Compiles cs asked preds) (sym t.has) h);
-    once = seen_once e p session n t.table s t.at;
+    has = record {
+      columns = compiled_below t.table.columns asked preds (subst (λ cs. Compiles cs asked preds) (sym t.has) h);
+      once = seen_once e p session n t.table s t.at;
+    };
   }
 
   -- what a look finds is what was asked for
-  looked_for : (hits : List (ℕ × Place)) → ((table : Staged) (wanted : List Pred) → slice_get e.rows.staged n ≡ Some table → Compiles table.columns wanted preds → Looked e session n wanted hits) → Looked e session n asked hits
-  looked_for hits f = f t.table asked t.at (subst (λ cs. Compiles cs asked preds) (sym t.has) h)
+  looked_for : (hits : List (ℕ × Place)) → ((table : Staged) (wanted : List Pred) → slice_get e.rows.staged n ≡ Some table → Compiles table.columns wanted preds → Hits e session n (meets table.columns wanted) hits) → Looked e session n asked hits
+  looked_for hits f = record { table = t.table; at = t.at; hits_are = f t.table asked t.at (subst (λ cs. Compiles cs asked preds) (sym t.has) h) }
 
 -- the table of a name
 selected_table : (e : Held) (st : Stands e) (name : List ℕ) (n : ℕ) → place_of e.rows.tables name ≡ Some n → TableAt e n (columns_in e.rows.tables name)
@@ -80,20 +78,9 @@ module _ (e : Held) (session : ℕ) (rows : Selection) (small : session < 17) (s
   pub select_look : IsSelected e.rows.tables rows → CanLook e session rows.table rows.preds.items
   select_look h = can_look e st.plain session rows.table h.name h.asked rows.preds.items small st.stands (selected_table e st h.name rows.table h.is.table) h.is.preds
 
-  pub select_looked : (hits : List (ℕ × Place)) → ((table : Staged) (wanted : List Pred) → slice_get e.rows.staged rows.table ≡ Some table → Compiles table.columns wanted rows.preds.items → Looked e session rows.table wanted hits)
+  pub select_looked : (hits : List (ℕ × Place)) → ((table : Staged) (wanted : List Pred) → slice_get e.rows.staged rows.table ≡ Some table → Compiles table.columns wanted rows.preds.items → Hits e session rows.table (meets table.columns wanted) hits)
       → (name : List ℕ) (asked : List Pred) → IsSelection e.rows.tables name asked rows → Looked e session rows.table asked hits
   select_looked hits f name asked is = looked_for e st.plain session rows.table name asked rows.preds.items small st.stands (selected_table e st name rows.table is.table) is.preds hits f
-
--- ---- from a table to all
-
-pub looked : (e : Held) (session n : ℕ) (preds : List Pred) (table found_in : Staged) (fates : List Fate) (k : ℕ) (own : Option ℕ) (found : List Found) → slice_get e.rows.staged n ≡ Some table → found_in ≡ table → fates ≡ e.rows.fates → k ≡ looks_at e session → own ≡ own_at e session
-    → Finds found_in fates k own preds found → Looked e session n preds (hits_of found)
-looked e session n preds table found_in fates k own found at same_table same_fates same_look same_own f =
-    let g : Finds table e.rows.fates (looks_at e session) (own_at e session) preds found =
-    subst (λ (t : Staged). Finds t e.rows.fates (looks_at e session) (own_at e session) preds found) same_table
-    (subst (λ (x : List Fate). Finds found_in x (looks_at e session) (own_at e session) preds found) same_fates
-    (subst (λ x. Finds found_in fates x (own_at e session) preds found) same_look (subst (λ x. Finds found_in fates k x preds found) same_own f))) in
-    record { table = table; at = at; hits_are = record { scan = scan_of e.rows.staged n table e.rows.fates (looks_at e session) (own_at e session) (meets table.columns preds) (hits_of found) at g.scan } }
 
 -- ---- what was found, in the plain store's words
 

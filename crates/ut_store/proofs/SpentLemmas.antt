@@ -1,7 +1,6 @@
 -- A transaction that was started for nothing.
-use Rattle.std.proofs.Common.{ℕ, ◌≡◌, List, [], ◌∷◌, ◌++◌, length, length-append, length-set, Some, refl, sym, ap, ◌∙◌, subst, arith, slice_get, slice_set}
+use Rattle.std.proofs.Common.{inl, inr, ◌≡◌, [], ◌∷◌, ◌++◌, length, length-append, length-set, refl, sym, subst, arith, slice_set}
 use Rattle.ut_plain.specs.Plain.{Plain}
-use Rattle.ut_stamps.specs.declared.fates.Fate.{Fate}
 use Rattle.ut_stamps.specs.declared.fates.Fate.TheVariants.{Running, Aborted}
 use Rattle.ut_exact.specs.Gone.{IsGone}
 use Rattle.ut_exact.proofs.GoneLemmas.{gone-alone}
@@ -10,20 +9,21 @@ use Rattle.ut_exact.proofs.DroppedLemmas.{AreDropped-gone}
 use Rattle.ut_exact.proofs.FateLemmas.{fate-push_new}
 use Rattle.ut_exact.proofs.ExactLemmas.{IsExact-start, IsExact-abort}
 use Rattle.ut_exact.proofs.SessionLemmas.{AreOpen-alone, AreOpen-renumbered}
-use Rattle.ut_staged.specs.Staged.{Staged}
-use Rattle.ut_table.specs.Contents.{TableValue}
+use Rattle.ut_tables.specs.Rows.{Rows}
+use Rattle.ut_tables.specs.Changed.{IsSpent, spent}
 use Rattle.ut_txn.specs.Seats.{number_at, SeatsStay}
 use Rattle.ut_store.specs.Held.{Held}
 use Rattle.ut_store.specs.Stands.{StandsFor}
 use Rattle.ut_store.specs.Changes.{Stays}
-use Rattle.ut_store.proofs.IndexLemmas.{stages_in, stages_same, seats_itself}
+use Rattle.ut_store.proofs.IndexLemmas.{same_room, seats_itself}
+use Rattle.ut_store.proofs.FinishLemmas.{same_stays}
 use Rattle.ut_store.proofs.SeatLemmas.{seats-stay, numbers-stay}
 use Rattle.ut_store.proofs.StandsLemmas.{dead_set, dead_pushed}
 use Rattle.ut_staged.specs.Tables.{place_at}
 
 -- The store is as before, but for room and the fate of one transaction more, which aborted.
 record Spent (old new : Held) : Type 0 where
-  pub rows : new.rows ≡ record old.rows { fates = slice_set (old.rows.fates ++ Running ∷ []) (length old.rows.fates) Aborted }
+  pub rows : new.rows ≡ spent old.rows
   pub seats : SeatsStay old.seats new.seats
   pub counts : new.counts ≡ old.counts
 
@@ -54,13 +54,8 @@ stands-spent old new c = record { each = λ p s. subst (λ (x : Held). StandsFor
           };
         }
 
--- one table has more room, and the transaction is given up
-pub spent_by : (inside e : Held) (items : List TableValue) (n : ℕ) (now : TableValue) (s : Staged) (fates : List Fate) → inside ≡ e → inside.rows.staged ≡ stages_in items → slice_get e.rows.staged n ≡ Some s → now.stages ≡ s
-    → fates ≡ slice_set (inside.rows.fates ++ Running ∷ []) (length inside.rows.fates) Aborted → Stays e (record inside { rows = record inside.rows { staged = stages_in (slice_set items n now); fates = fates } })
-spent_by inside e items n now s fates same are at is aborted =
-    let there : slice_get (stages_in items) n ≡ Some s = ap (λ ss. slice_get ss n) (sym are ∙ ap (λ (h : Held). h.rows.staged) same) ∙ at in
-    stands-spent e _ (subst (λ (x : Held). Spent x (record inside { rows = record inside.rows { staged = stages_in (slice_set items n now); fates = fates } })) same (record {
-      rows = λ i. record inside.rows { staged = (stages_same items n now s there is ∙ sym are) i; fates = aborted i };
-      seats = seats_itself inside.seats;
-      counts = refl;
-    }))
+-- where memory ran out, a transaction was given up, or nothing was started
+pub spent_by : (inside e : Held) (rows : Rows) → inside ≡ e → IsSpent inside.rows rows → Stays e (record inside { rows = rows })
+spent_by inside e rows same (inl kept) = same_stays e _ (same_room inside e rows inside.seats same kept (seats_itself inside.seats))
+spent_by inside e rows same (inr aborted) =
+    stands-spent e _ (subst (λ (x : Held). Spent x (record inside { rows = rows })) same (record { rows = aborted; seats = seats_itself inside.seats; counts = refl }))

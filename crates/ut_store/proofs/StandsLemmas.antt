@@ -35,8 +35,8 @@ use Rattle.ut_exact.proofs.ExactLemmas.{IsExact-start, IsExact-abort}
 use Rattle.ut_exact.proofs.SessionLemmas.{AreOpen-begun, AreOpen-closed, AreOpen-renumbered, at-set_same}
 use Rattle.ut_txn.specs.declared.opened.Opened.{Opened}
 use Rattle.ut_txn.specs.Seats.{Seat, opened_at, payload_at, number_at, SeatSet}
-use Rattle.ut_store.specs.declared.turn.Turn.{Turn}
-use Rattle.ut_store.specs.declared.turn.Turn.TheVariants.{Answered}
+use Rattle.ut_store.specs.declared.response.Response.{Response}
+use Rattle.ut_store.specs.declared.response.Response.TheVariants.{Answered}
 use Rattle.ut_store.specs.Held.{Held}
 use Rattle.ut_store.specs.Stands.{StandsFor, AreCounts, AreSeats, AreRows}
 use Rattle.ut_store.specs.Answers.{Answer, Answers, Same, Logs, reply_of}
@@ -52,9 +52,9 @@ pub stepped : (p : Plain) (session : ℕ) (st : Statement) (why : Option Refusal
 stepped p session st why h = ap (λ r. step_by r p session st) h
 
 -- a statement that is not refused: the store stands for what it does
-pub answer_by : (e new : Held) (session : ℕ) (st : Statement) (turn : Turn) (p : Plain) (does : Stepped) → IsTrue (is_spelled st) → refusal (view p session) st ≡ None → StandsFor e p → effect_of p session st ≡ does
-    → reply_of turn ≡ does.reply → AreCounts new does.plain → AreSeats new.seats does.plain.sessions → AreRows new does.plain → Logs turn new.frame p does.plain → Answer e session st turn new p
-answer_by e new session st turn p does spelled allowed s is reply counts seats rows logs =
+pub answer_by : (e new : Held) (session : ℕ) (st : Statement) (response : Response) (p : Plain) (does : Stepped) → IsTrue (is_spelled st) → refusal (view p session) st ≡ None → StandsFor e p → effect_of p session st ≡ does
+    → reply_of response ≡ does.reply → AreCounts new does.plain → AreSeats new.seats does.plain.sessions → AreRows new does.plain → Logs response new.frame p does.plain → Answer e session st response new p
+answer_by e new session st response p does spelled allowed s is reply counts seats rows logs =
     let now : step p session st ≡ does = stepped p session st None allowed ∙ is in
     record {
       after = does.plain;

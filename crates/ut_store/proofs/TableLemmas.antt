@@ -33,7 +33,7 @@ use Rattle.ut_staged.proofs.TableLemmas.{stages-here, stages-set, map-kept}
 use Rattle.ut_staged.proofs.CreatedLemmas.{created_moved}
 use Rattle.ut_staged.proofs.MovedLemmas.{back, moved_l1, stages-moved}
 use Rattle.ut_txn.specs.Seats.{Seat, number_at, SeatsStay}
-use Rattle.ut_store.specs.declared.turn.Turn.TheVariants.{Answered, Append}
+use Rattle.ut_store.specs.declared.response.Response.TheVariants.{Answered, Append}
 use Rattle.ut_store.specs.Held.{Held}
 use Rattle.ut_store.specs.Stands.{StandsFor, AreMerging, merge_at}
 use Rattle.ut_store.specs.Answers.{Answers}

@@ -13,13 +13,13 @@ use Rattle.ut_plain.specs.Refusals.{state_why, or_else}
 use Rattle.ut_plain.specs.Limits.{has_room, has_commit_room}
 use Rattle.ut_plain.specs.Plain.{Plain, open_at}
 use Rattle.ut_plain.specs.View.{view, own_ops}
-use Rattle.ut_stamps.specs.declared.fates.Fate.{Fate}
 use Rattle.ut_stamps.specs.declared.fates.Fate.TheVariants.{Running, Committed, Aborted}
 use Rattle.ut_stamps.specs.Stamps.{fate_at, is_running}
 use Rattle.ut_txn.specs.declared.opened.Opened.{Opened}
 use Rattle.ut_txn.specs.Seats.{Seat, opened_at, payload_at, SeatSet}
 use Rattle.ut_txn.proofs.OwnLemmas.{own_some}
-use Rattle.ut_store.specs.declared.turn.Turn.TheVariants.{Answered, Append}
+use Rattle.ut_store.specs.declared.response.Response.TheVariants.{Answered, Append}
+use Rattle.ut_tables.specs.Rows.{Rows}
 use Rattle.ut_store.specs.Held.{Held}
 use Rattle.ut_store.specs.Stands.{StandsFor}
 use Rattle.ut_store.specs.Standing.{Stands}
@@ -51,24 +51,24 @@ runs e session o st is = by (open_on e st.plain session o is st.stands.seats)
 
 -- ---- begin
 
-pub same_fates : (e : Held) (fates : List Fate) → fates ≡ e.rows.fates → Same e (record e { rows = record e.rows { fates = fates } })
-same_fates e fates same = record { rows = λ i. record e.rows { fates = same i }; seats = (itself_same e).seats; counts = refl }
+pub same_rows : (e : Held) (rows : Rows) → rows ≡ e.rows → Same e (record e { rows = rows })
+same_rows e rows same = record { rows = same; seats = (itself_same e).seats; counts = refl }
 
-pub began_now : (e : Held) (fates : List Fate) (seats : List Seat) (session number : ℕ) → 0 < session → session < 17 → early_refusal e session Begin ≡ None
-    → fates ≡ e.rows.fates ++ Running ∷ [] → number ≡ length e.rows.fates → SeatSet e.seats seats session (Some (record { snapshot = e.counts.entries; number = number })) (payload_at e.seats session)
-    → Answers e session Begin (Answered replies.Done) (record e { rows = record e.rows { fates = fates }; seats = seats })
-began_now e fates seats session number some small early started numbered set =
-    subst (λ (f : List Fate). Answers e session Begin (Answered replies.Done) (record e { rows = record e.rows { fates = f }; seats = seats })) (sym started)
+pub began_now : (e : Held) (rows : Rows) (seats : List Seat) (session number : ℕ) → 0 < session → session < 17 → early_refusal e session Begin ≡ None
+    → rows ≡ record e.rows { fates = e.rows.fates ++ Running ∷ [] } → number ≡ length e.rows.fates → SeatSet e.seats seats session (Some (record { snapshot = e.counts.entries; number = number })) (payload_at e.seats session)
+    → Answers e session Begin (Answered replies.Done) (record e { rows = rows; seats = seats })
+began_now e rows seats session number some small early started numbered set =
+    subst (λ (r : Rows). Answers e session Begin (Answered replies.Done) (record e { rows = r; seats = seats })) (sym started)
     (began e seats e.frame session some small (allowed e session Begin small refl early (λ p s. refl) (λ p s. refl)) (closed_before e session early)
     (subst (λ n. SeatSet e.seats seats session (Some (record { snapshot = e.counts.entries; number = n })) (payload_at e.seats session)) numbered set))
 
 -- ---- abort
 
-pub gave_up_now : (e : Held) (fates : List Fate) (seats : List Seat) (session : ℕ) (o : Opened) → 0 < session → session < 17 → early_refusal e session Abort ≡ None → opened_at e.seats session ≡ Some o
-    → fates ≡ slice_set e.rows.fates o.number Aborted → SeatSet e.seats seats session None no_payload
-    → Answers e session Abort (Answered replies.Done) (record e { rows = record e.rows { fates = fates }; seats = seats })
-gave_up_now e fates seats session o some small early is ended set =
-    subst (λ (f : List Fate). Answers e session Abort (Answered replies.Done) (record e { rows = record e.rows { fates = f }; seats = seats })) (sym ended)
+pub gave_up_now : (e : Held) (rows : Rows) (seats : List Seat) (session : ℕ) (o : Opened) → 0 < session → session < 17 → early_refusal e session Abort ≡ None → opened_at e.seats session ≡ Some o
+    → rows ≡ record e.rows { fates = slice_set e.rows.fates o.number Aborted } → SeatSet e.seats seats session None no_payload
+    → Answers e session Abort (Answered replies.Done) (record e { rows = rows; seats = seats })
+gave_up_now e rows seats session o some small early is ended set =
+    subst (λ (r : Rows). Answers e session Abort (Answered replies.Done) (record e { rows = r; seats = seats })) (sym ended)
     (gave_up e seats e.frame session o some small (allowed e session Abort small refl early (λ p s. refl) (λ p s. refl)) is set)
 
 -- ---- commit
@@ -87,13 +87,13 @@ own_none seats session (o ∷ os) few is = absurd (differ (sym few ∙ (own_some
 own_there : (seats : List Seat) (session : ℕ) (os : List Op) → nat_lt 5 (length (payload_at seats session)) ≡ true → payload_at seats session ≡ spelling (entries.Txn os) → os ≢ []
 own_there seats session os some is = (own_some (nat_lt 5 (length (payload_at seats session))) (payload_at seats session) os refl is).0 some
 
-pub committed_nothing_now : (e : Held) (fates : List Fate) (seats : List Seat) (session : ℕ) (o : Opened) → 0 < session → session < 17 → Stands e → early_refusal e session Commit ≡ None
-    → nat_lt 5 (length (payload_at e.seats session)) ≡ false → opened_at e.seats session ≡ Some o → fates ≡ slice_set e.rows.fates o.number Aborted → SeatSet e.seats seats session None no_payload
-    → Answers e session Commit (Answered replies.Done) (record e { rows = record e.rows { fates = fates }; seats = seats })
-committed_nothing_now e fates seats session o some small st early few is ended set =
+pub committed_nothing_now : (e : Held) (rows : Rows) (seats : List Seat) (session : ℕ) (o : Opened) → 0 < session → session < 17 → Stands e → early_refusal e session Commit ≡ None
+    → nat_lt 5 (length (payload_at e.seats session)) ≡ false → opened_at e.seats session ≡ Some o → rows ≡ record e.rows { fates = slice_set e.rows.fates o.number Aborted } → SeatSet e.seats seats session None no_payload
+    → Answers e session Commit (Answered replies.Done) (record e { rows = rows; seats = seats })
+committed_nothing_now e rows seats session o some small st early few is ended set =
     let bytes : (p : Plain) → StandsFor e p → payload_at e.seats session ≡ spelling (entries.Txn (own_ops (open_at p.sessions session))) = λ p s. s.seats.payloads session small in
     let none : (p : Plain) → StandsFor e p → own_ops (open_at p.sessions session) ≡ [] = λ p s. own_none e.seats session _ few (bytes p s) in
-    subst (λ (f : List Fate). Answers e session Commit (Answered replies.Done) (record e { rows = record e.rows { fates = f }; seats = seats })) (sym ended)
+    subst (λ (r : Rows). Answers e session Commit (Answered replies.Done) (record e { rows = r; seats = seats })) (sym ended)
     (committed_nothing e seats e.frame session o some small (allowed e session Commit small refl early (λ p s. ap (has_commit_room (view p session)) (none p s)) (λ p s. refl)) is
     (bytes st.plain st.stands ∙ ap (λ (os : List Op). spelling (entries.Txn os)) (none st.plain st.stands)) (λ os h. own_none e.seats session os few h) set)
 
@@ -110,11 +110,11 @@ pub commit_full : (e : Held) (session : ℕ) → session < 17 → early_refusal 
     → Answers e session Commit (Answered (replies.Refused refusals.Full)) e
 commit_full e session small early some long = refused e e session Commit refusals.Full (full e session Commit small refl early (room_is e session false small some (le-ltb e.counts.entries 1073741823 long))) (itself_same e)
 
-pub committed_something_now : (e : Held) (fates : List Fate) (seats : List Seat) (frame : List ℕ) (session : ℕ) (o : Opened) → 0 < session → session < 17 → early_refusal e session Commit ≡ None
+pub committed_something_now : (e : Held) (rows : Rows) (seats : List Seat) (frame : List ℕ) (session : ℕ) (o : Opened) → 0 < session → session < 17 → early_refusal e session Commit ≡ None
     → nat_lt 5 (length (payload_at e.seats session)) ≡ true → e.counts.entries < 1073741823 → opened_at e.seats session ≡ Some o
-    → fates ≡ slice_set e.rows.fates o.number (Committed (e.counts.entries + 1)) → frame ≡ payload_at e.seats session → SeatSet e.seats seats session None no_payload
-    → Answers e session Commit (Append (replies.Committed (e.counts.commits + 1))) (record e { rows = record e.rows { fates = fates }; seats = seats; counts = record e.counts { commits = e.counts.commits + 1; entries = e.counts.entries + 1 }; frame = frame })
-committed_something_now e fates seats frame session o some small early has short is ended bytes set =
-    subst (λ (f : List Fate). Answers e session Commit (Append (replies.Committed (e.counts.commits + 1))) (record e { rows = record e.rows { fates = f }; seats = seats; counts = record e.counts { commits = e.counts.commits + 1; entries = e.counts.entries + 1 }; frame = frame })) (sym ended)
+    → rows ≡ record e.rows { fates = slice_set e.rows.fates o.number (Committed (e.counts.entries + 1)) } → frame ≡ payload_at e.seats session → SeatSet e.seats seats session None no_payload
+    → Answers e session Commit (Append (replies.Committed (e.counts.commits + 1))) (record e { rows = rows; seats = seats; counts = record e.counts { commits = e.counts.commits + 1; entries = e.counts.entries + 1 }; frame = frame })
+committed_something_now e rows seats frame session o some small early has short is ended bytes set =
+    subst (λ (r : Rows). Answers e session Commit (Append (replies.Committed (e.counts.commits + 1))) (record e { rows = r; seats = seats; counts = record e.counts { commits = e.counts.commits + 1; entries = e.counts.entries + 1 }; frame = frame })) (sym ended)
     (committed_something e seats frame session o some small (allowed e session Commit small refl early (room_is e session true small has (lt-ltb e.counts.entries 1073741823 short)) (λ p s. refl)) is
     (λ none. own_there e.seats session [] has none refl) bytes set)

@@ -1,5 +1,5 @@
 -- The operations of an update.
-use Rattle.std.proofs.Common.{ℕ, ◌+◌, ◌<◌, ◌≤◌, ◌≡◌, Bool, true, false, ◌&&◌, ◌||◌, List, [], ◌∷◌, length, map, Option, Some, refl, sym, ap, ◌∙◌, subst, arith, IsTrue, nat_eq, nat_le, leb-true, eqb-true, slice_get, slice_set, get_or, unwrap_or}
+use Rattle.std.proofs.Common.{ℕ, ◌+◌, ◌<◌, ◌≤◌, ◌≡◌, Bool, true, false, ◌&&◌, ◌||◌, List, [], ◌∷◌, length, map, Option, Some, refl, sym, ap, ◌∙◌, subst, arith, IsTrue, nat_eq, nat_le, leb-true, eqb-true, slice_get, slice_set, unwrap_or}
 use Rattle.std.specs.List.{list_all}
 use Rattle.std.proofs.lemmas.List.Sums.{sum_by-cons}
 use Rattle.ut_value.specs.declared.value.Value.{Value}
@@ -13,7 +13,7 @@ use Rattle.ut_plain.specs.declared.statement.Statement.TheVariants as statements
 use Rattle.ut_plain.specs.declared.statement.Pred.{Pred}
 use Rattle.ut_plain.specs.declared.reply.Refusal.{Refusal}
 use Rattle.ut_plain.specs.declared.reply.Refusal.TheVariants as refusals
-use Rattle.ut_plain.specs.Tables.{fits_columns, fits_table, columns_at, place_in, columns_in, columns_of}
+use Rattle.ut_plain.specs.Tables.{fits_columns, fits_table, columns_at, place_in, columns_in}
 use Rattle.ut_plain.specs.Names.{preds_known}
 use Rattle.ut_plain.specs.Kinds.{kind_in, has_kind, preds_fit}
 use Rattle.ut_plain.specs.Condition.{found}
@@ -31,10 +31,9 @@ use Rattle.ut_stamps.specs.declared.place.Place.{Place}
 use Rattle.ut_exact.specs.Scan.{stored_in}
 use Rattle.ut_names.specs.declared.resolved.Target.{Target}
 use Rattle.ut_staged.specs.Staged.{Staged}
-use Rattle.ut_table.specs.Contents.{TableValue}
 use Rattle.ut_plain.specs.declared.reply.Reply.TheVariants as replies
 use Rattle.ut_change.proofs.MadeLemmas.{AllFit, updates-fit, updates-rule, ends-updates}
-use Rattle.ut_store.specs.declared.turn.Turn.TheVariants.{Answered}
+use Rattle.ut_store.specs.declared.response.Response.TheVariants.{Answered}
 use Rattle.ut_store.specs.Answers.{Answers}
 use Rattle.ut_store.specs.Held.{Held}
 use Rattle.ut_store.specs.Stands.{StandsFor}
@@ -43,7 +42,7 @@ use Rattle.ut_staged.specs.Staging.{Staging, written, AreFound}
 use Rattle.ut_change.specs.Writes.{op_fits}
 use Rattle.ut_change.specs.Made.{updated_ops}
 use Rattle.ut_store.specs.Changes.{has_ids_for, late_refusal, Looked, MayChange, AreReady, IsUpdate, IsWork}
-use Rattle.ut_store.proofs.IndexLemmas.{some_inside, stages_in, stages_here}
+use Rattle.ut_store.proofs.IndexLemmas.{some_inside}
 use Rattle.ut_store.proofs.ReadLemmas.{reads}
 use Rattle.ut_staged.specs.Tables.{place_at}
 use Rattle.ut_store.proofs.HitLemmas.{found-is, first_taken-is}
@@ -51,7 +50,7 @@ use Rattle.ut_store.proofs.MadeLemmas.{values_at, updates-are, length-rows, upda
 use Rattle.ut_staged.proofs.StagingLemmas.{updates_of, staging-updates, written-updates}
 use Rattle.ut_store.proofs.KindLemmas.{early_tests, TableAt, table_at, at_n, next_small}
 use Rattle.ut_store.proofs.FinishLemmas.{answers_refused}
-use Rattle.ut_store.proofs.SearchLemmas.{known_in, place_view, hits_view, finds_free, FoundAt, found_places}
+use Rattle.ut_store.proofs.SearchLemmas.{place_view, hits_view, finds_free, FoundAt, found_places}
 use Rattle.ut_store.proofs.SuitLemmas.{AllSuit, all_suit}
 use Rattle.ut_staged.proofs.TableLemmas.{here}
 
@@ -101,9 +100,6 @@ no_ids e session n hits (op ∷ os) h = full_by (has_ids_for e (inserts_of (op �
 -- ---- the statement
 
 module _ (e : Held) (session n : ℕ) (name column : List ℕ) (value : Value) (preds : List Pred) (m : MayChange e session (statements.Update name column value preds)) (is : n ≡ place_in e.rows.tables name) where
-  names_known_of : (has_column (columns_in e.rows.tables name) column && preds_known preds (columns_in e.rows.tables name)) ≡ true
-  names_known_of = known_in (columns_of e.rows.tables name) (λ cs. has_column cs column && preds_known preds cs) (early_tests e session (statements.Update name column value preds) m.early).0
-
   kinds_of : (has_kind value (kind_in (columns_in e.rows.tables name) column) && preds_fit (columns_in e.rows.tables name) preds) ≡ true
   kinds_of = (early_tests e session (statements.Update name column value preds) m.early).1
 
@@ -210,10 +206,10 @@ module _ (e : Held) (session : ℕ) (st : Statement) (target : Target) (value : 
         (no_ids e session n hits os (ap (has_ids_for e) (inserts-updates e n e.counts.next_id _ hits ∙ sym count) ∙ none))
 
     -- the operations that are made of the rows in the places, as they are read
-    pub update_made : (inside : Held) (items : List TableValue) (read : TableValue) (os : List Op) → inside ≡ e → inside.rows.staged ≡ stages_in items → read ≡ get_or items target.rows.table read
-        → os ≡ updated_ops read.stages target.rows.table inside.counts.next_id target.column value hits → os ≡ update_of e target.rows.table (changed_value (columns_in e.rows.tables d.name) d.column value) e.counts.next_id hits
-    update_made inside items read os same are is made =
-        let here = stages_here inside e items n read update_found.table same are update_found.at is in
+    pub update_made : (inside : Held) (read : Staged) (os : List Op) → inside ≡ e → slice_get inside.rows.staged target.rows.table ≡ Some read
+        → os ≡ updated_ops read target.rows.table inside.counts.next_id target.column value hits → os ≡ update_of e target.rows.table (changed_value (columns_in e.rows.tables d.name) d.column value) e.counts.next_id hits
+    update_made inside read os same at made =
+        let here : read ≡ update_found.table = some_inside read update_found.table (sym at ∙ ap (λ (x : Held). slice_get x.rows.staged target.rows.table) same ∙ update_found.at) in
         made ∙ (λ i. updated_ops (here i) n (same i).counts.next_id target.column value hits)
         ∙ updated-are e n e.counts.next_id target.column value update_found.table hits update_found.at
         ∙ (λ i. updates_of n e.counts.next_id hits (map (λ (row : List Value). update_change row i) (values_at e n hits)))

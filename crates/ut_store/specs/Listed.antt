@@ -3,25 +3,14 @@ use Rattle.std.specs.Prelude.{ℕ, ◌≡◌, List, map, Option}
 use Rattle.std.specs.Option.{option_map}
 use Rattle.std.specs.FinMap as finmap
 use Rattle.ut_value.specs.declared.value.Row.{Row}
-use Rattle.ut_plain.specs.declared.table.Stored.{Stored}
 use Rattle.ut_plain.specs.State.{State}
 use Rattle.ut_plain.specs.Rows.{table_rows}
 use Rattle.ut_plain.specs.Tables.{place_of}
 use Rattle.ut_plain.specs.Journal.{current}
 use Rattle.ut_plain.specs.Plain.{Plain}
-use Rattle.ut_scan.specs.declared.place.Found.{Found}
-use Rattle.ut_exact.specs.Scan.{stored_in}
-use Rattle.ut_staged.specs.Staged.{Staged, row_at}
+use Rattle.ut_tables.specs.Finds.{row_of}
 use Rattle.ut_store.specs.Held.{Held}
 use Rattle.ut_store.specs.Stands.{StandsFor}
-
--- a row under its id
-abbrev pub row_of : ℕ × Stored → Row
-row_of e = record { id = e.0; values = e.1.values }
-
--- the row that was found in a place
-abbrev pub row_in : Staged → Found → Row
-row_in s found = row_of (found.id, stored_in 0 (row_at s found.place))
 
 -- the rows of the table of a name in a state, by ascending id, where there is such a table
 abbrev pub listed : State → List ℕ → Option (List Row)

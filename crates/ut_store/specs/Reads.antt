@@ -12,6 +12,7 @@ use Rattle.ut_exact.specs.Exact.{shown_by, ended_by, may_take}
 use Rattle.ut_txn.specs.declared.opened.Opened.{Opened}
 use Rattle.ut_txn.specs.Seats.{opened_at, payload_at}
 use Rattle.ut_query.specs.Look.{Sight}
+use Rattle.ut_tables.specs.Finds as seen
 use Rattle.ut_store.specs.Held.{Held}
 use Rattle.ut_store.specs.Stands.{opened_snapshot}
 
@@ -25,7 +26,7 @@ own_at e session = option_map (λ (o : Opened). o.number) (opened_at e.seats ses
 
 -- what a session looks at
 abbrev pub sight_of : Held → ℕ → Sight
-sight_of e session = record { tables = e.rows.tables; staged = e.rows.staged; fates = e.rows.fates; snapshot = looks_at e session; own = own_at e session }
+sight_of e session = seen.sight_of e.rows (looks_at e session) (own_at e session)
 
 -- whether a transaction's work is there for a session
 abbrev pub counts_for : Held → ℕ → ℕ → Bool

@@ -53,7 +53,8 @@ abbrev pub suits_session : ℕ → Statement → Bool
 suits_session zero st = is_of_store st
 suits_session (suc session) st = true
 
--- The store has these tables, their rows, and these counts. Nobody has a transaction: a row was committed before all else, or is nobody's. No merge is pending.
+-- The store has these tables, their rows, and these counts. Nobody has a transaction: a row was committed before all
+-- else, or is nobody's. No merge is pending.
 pub record Restored (tables : List Table) (staged : List Staged) (next_id rows_limit commits merges entries : ℕ) (e : Held) : Type 0 where
   pub has_tables : e.rows.tables ≡ tables
   pub has_rows : e.rows.staged ≡ staged
@@ -70,4 +71,6 @@ pub record Restored (tables : List Table) (staged : List Staged) (next_id rows_l
 pub record Reopened (s : State) (stages : Stages) (entries : List Entry) (rows_limit : ℕ) (e : Held) : Type 0 where
   pub may : MayOpen stages (record { base = s; entries = entries })
   -- however many pages an image takes, and the selected root reaches
-  pub stands : (image_pages : Directory → ℕ) (root_pages : ℕ) → StandsFor e (opened_store (record { stages = stages; image_pages = image_pages; root_pages = root_pages }) (record { base = s; entries = entries }) rows_limit)
+  pub stands : (image_pages : Directory → ℕ) (root_pages : ℕ)
+      → StandsFor e (opened_store (record { stages = stages; image_pages = image_pages; root_pages = root_pages })
+      (record { base = s; entries = entries }) rows_limit)

@@ -6,12 +6,12 @@ ghost use Rattle.ut_store.specs.Standing.{Stands, suits_session};
 ghost use Rattle.ut_store.specs.Changes.{IsDelete, MayChange};
 
 use crate::finish::no_memory;
-use crate::work::Work;
-use crate::{Store, Turn};
+use crate::{Response, Store};
 use std::alloc::Global;
 use ut_change::delete_ops;
 use ut_names::{Selection, selection};
 use ut_plain::{Pred, Reply, Statement};
+use ut_tables::{Changes, Work};
 use ut_value::{Name, Seq};
 
 impl Store {
@@ -22,7 +22,7 @@ impl Store {
         st: &Statement,
         table: &Name,
         preds: &Seq<Pred>,
-    ) -> Turn
+    ) -> Response
         requires seat { session < 17 }
         requires suits { IsTrue (suits_session session st.now) }
         requires spelled { IsTrue (is_spelled st.now) }
@@ -30,13 +30,20 @@ impl Store {
         requires is { st.now ≡ Statement.Delete table.now preds.now }
         ensures { Answers self.old session st.now result self.new }
     {
-        match selection(alloc, &self.rows.tables, table.as_slice(), preds.as_slice()) {
+        let tables = self.rows.tables();
+        match selection(alloc, tables, table.as_slice(), preds.as_slice()) {
             Ok(rows) => self.delete_rows(alloc, session, st, &rows),
-            Err(why) => Turn::Answered(Reply::Refused(why)),
+            Err(why) => Response::Answered(Reply::Refused(why)),
         }
     }
 
-    fn delete_rows(&mut self, alloc: Global, session: u8, st: &Statement, rows: &Selection) -> Turn
+    fn delete_rows(
+        &mut self,
+        alloc: Global,
+        session: u8,
+        st: &Statement,
+        rows: &Selection,
+    ) -> Response
         requires may { MayChange self.old session st.now }
         requires is { IsDelete self.old.rows.tables st.now rows.now }
         ensures { Answers self.old session st.now result self.new }
@@ -49,10 +56,8 @@ impl Store {
         };
         let work = Work {
             place: rows.table,
-            hits: &hits,
-            ops,
+            changes: Changes::Writes { hits: &hits, ops },
             rows: hits.len() as u32,
-            is_bulk: false,
         };
         self.finish(alloc, session, st, work)
     }

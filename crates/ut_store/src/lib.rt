@@ -2,27 +2,21 @@
 #![tactic(auto)]
 
 mod bulk;
-mod change;
 mod counts;
 mod delete;
 mod finish;
-mod hits;
 mod insert;
 mod limits;
-mod load;
 mod look;
 mod merges;
 mod pending;
-mod readers;
-mod rows;
+mod response;
 mod statement;
 mod store;
 mod tables;
 mod transactions;
-mod turn;
 mod update;
 mod work;
-mod write;
 
+pub use response::{Outcome, Response};
 pub use store::Store;
-pub use turn::{Outcome, Turn};

@@ -3,32 +3,24 @@ ghost use Rattle.std.specs.Prelude.{◌≡◌, ◌<◌, ◌≤◌, false, Some, 
 ghost use Rattle.ut_value.specs.declared.entry.Entry.TheVariants as entries;
 ghost use Rattle.ut_value.specs.Spelling.{spelling};
 ghost use Rattle.ut_plain.specs.declared.statement.Statement.TheVariants as statements;
-ghost use Rattle.ut_plain.specs.Merges.{has_part_room};
 ghost use Rattle.ut_plain.specs.Refusals.{is_save};
 ghost use Rattle.ut_plain.specs.Spelled.{is_spelled};
 ghost use Rattle.ut_staged.specs.Staged.{Staged};
 ghost use Rattle.ut_store.specs.Early.{early_refusal};
 ghost use Rattle.ut_store.specs.Standing.{Stands, suits_session};
 ghost use Rattle.ut_store.specs.Answers.{Answers, Same};
-ghost use Rattle.ut_store.specs.Merging.{MayMerge, merge_begun, has_room_to_merge};
+ghost use Rattle.ut_store.specs.Merging.{MayMerge, merge_begun};
 ghost use Rattle.ut_store.specs.Jobs.{pending_job, HandsOut};
 
 use crate::finish::no_memory;
 use crate::pending::Pending;
-use crate::store::Store;
 use crate::transactions::ENTRIES_LIMIT;
-use crate::turn::{Outcome, Turn};
+use crate::{Outcome, Response, Store};
 use std::alloc::{AllocError, Global};
 use ut_merge::{Built, Job};
-use ut_plain::{PendingMerge, Refusal, Reply, Statement, place_of};
+use ut_plain::{PendingMerge, Refusal, Reply, Statement};
 use ut_redo::Frame;
 use ut_value::{Entry, MergeKind, Name};
-
-/// So many rows of main and of the second stage are too many for a merge.
-const PLACES_LIMIT: u64 = 1 << 31;
-
-/// Main has at most so many parts.
-const PARTS_LIMIT: u8 = 8;
 
 impl Store {
     /// Answers a statement of a session as `statement` does, and hands out the job of a merge that it begins.
@@ -38,12 +30,12 @@ impl Store {
         requires served { is_save st.now ≡ false }
         requires spelled { IsTrue (is_spelled st.now) }
         requires stands { Stands self.old }
-        ensures answers { Answers self.old session st.now result.turn self.new }
-        ensures job { HandsOut st.now result.turn result.job self.new }
+        ensures answers { Answers self.old session st.now result.response self.new }
+        ensures job { HandsOut st.now result.response result.job self.new }
     {
         match st {
             Statement::MergeBegin { table, kind } => match self.early_refusal(session, st) {
-                Some(why) => without_job(Turn::Answered(Reply::Refused(why))),
+                Some(why) => without_job(Response::Answered(Reply::Refused(why))),
                 None => self.merge_begin(alloc, session, table, *kind),
             },
             _ => without_job(self.statement(alloc, session, st)),
@@ -62,31 +54,20 @@ impl Store {
         requires spelled { IsTrue (is_spelled (statements.MergeBegin table.now kind)) }
         requires stands { Stands self.old }
         requires early { early_refusal self.old session (statements.MergeBegin table.now kind) ≡ None }
-        ensures answers { Answers self.old session (statements.MergeBegin table.now kind) result.turn self.new }
-        ensures job { HandsOut (statements.MergeBegin table.now kind) result.turn result.job self.new }
+        ensures answers { Answers self.old session (statements.MergeBegin table.now kind) result.response self.new }
+        ensures job { HandsOut (statements.MergeBegin table.now kind) result.response result.job self.new }
     {
-        let place = place_of(&self.rows.tables, table.as_slice()).unwrap();
-        if !self.has_merge_room(place, kind) {
-            return without_job(Turn::Answered(Reply::Refused(Refusal::Full)));
+        let place = self.rows.place_of(table.as_slice()).unwrap();
+        if self.counts.entries >= ENTRIES_LIMIT || !self.rows.has_room_to_merge(place, kind) {
+            return without_job(Response::Answered(Reply::Refused(Refusal::Full)));
         }
         match self.close_table(alloc, place, kind) {
             Err(_) => without_job(no_memory()),
             Ok(job) => Outcome {
-                turn: Turn::Append(Reply::Merge(self.counts.merges)),
+                response: Response::Append(Reply::Merge(self.counts.merges)),
                 job: Some(job),
             },
         }
-    }
-
-    // Whether the journal, the table at a place and its main have room for a merge.
-    fn has_merge_room(&self, place: usize, kind: MergeKind) -> bool
-        requires { place < length self.now.rows.staged }
-        ensures { (s : Staged) → slice_get self.now.rows.staged place ≡ Some s → result ≡ has_room_to_merge self.now s kind }
-    {
-        let stages = &self.rows.stages[place];
-        self.counts.entries < ENTRIES_LIMIT
-            && stages.places() < PLACES_LIMIT
-            && has_part_room(kind, stages.part_count())
     }
 
     // Closes the second stage of the table at a place, and makes all that the merge's end needs of the store: all or nothing.
@@ -100,7 +81,8 @@ impl Store {
         requires place { place < 65536 }
         requires entries { self.old.counts.entries < ENTRIES_LIMIT }
         requires merges { self.old.counts.merges < ENTRIES_LIMIT }
-        ensures ok { OnOk result ((s : Staged) → slice_get self.old.rows.staged place ≡ Some s → self.new ≡ merge_begun self.old place kind s) }
+        ensures ok { OnOk result ((s : Staged) → slice_get self.old.rows.staged place ≡ Some s
+            → self.new ≡ merge_begun self.old place kind s) }
         ensures job { IfOk result (λ job. pending_job self.new ≡ Some job) }
         ensures err { OnErr result (Same self.old self.new) }
     {
@@ -112,9 +94,7 @@ impl Store {
         let begun = begun_frame(alloc, head)?;
         let pending = Pending::new(alloc, head)?;
         let snapshots = self.sessions.snapshots(alloc)?;
-        let stages = &mut self.rows.stages[place];
-        let keep = stages.keep(alloc, kind, &self.rows.fates, &snapshots)?;
-        let job = stages.close_l2(alloc, head, keep)?;
+        let job = self.rows.close(alloc, head, &snapshots)?;
         self.counts.pending = Some(pending);
         self.counts.merges += 1;
         self.counts.entries += 1;
@@ -129,12 +109,14 @@ impl Store {
     {
         match &self.counts.pending {
             None => Ok(None),
-            Some(pending) => self.rows.stages[usize::from(pending.head().table)].job_again(alloc),
+            Some(pending) => self
+                .rows
+                .job_again(alloc, usize::from(pending.head().table)),
         }
     }
 
     /// Ends the pending merge with what was built of its job. Takes no memory.
-    pub fn merge_end(&mut self, session: u8, built: Built) -> Turn
+    pub fn merge_end(&mut self, session: u8, built: Built) -> Response
         requires seat { session < 17 }
         requires stands { Stands self.old }
         requires built { pending_job self.old ≡ Some built }
@@ -142,10 +124,10 @@ impl Store {
     {
         let pending = self.counts.pending.take().unwrap();
         let head = pending.head();
-        self.rows.stages[usize::from(head.table)].switch(built);
+        self.rows.switch(usize::from(head.table), built);
         self.counts.entries += 1;
         self.frame = pending.into_frame();
-        Turn::Append(Reply::Merge(head.number))
+        Response::Append(Reply::Merge(head.number))
     }
 
     /// How many merges were begun.
@@ -166,20 +148,13 @@ impl Store {
     }
 }
 
-fn without_job(turn: Turn) -> Outcome
-    ensures turn { result.turn ≡ turn }
+fn without_job(response: Response) -> Outcome
+    ensures response { result.response ≡ response }
     ensures job { result.job ≡ None }
 {
-    Outcome { turn, job: None }
-}
-
-// Whether main has room for the part that a merge of a kind makes, where it has so many.
-fn has_part_room(kind: MergeKind, parts: u8) -> bool
-    ensures { result ≡ has_part_room kind parts }
-{
-    match kind {
-        MergeKind::Extend => parts < PARTS_LIMIT,
-        _ => true,
+    Outcome {
+        response,
+        job: None,
     }
 }
 

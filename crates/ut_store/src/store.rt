@@ -6,13 +6,12 @@ ghost use Rattle.ut_store.specs.Stands.{StandsFor};
 ghost use Rattle.ut_store.specs.Standing.{Restored};
 
 use crate::counts::Counts;
-use crate::rows::Rows;
 use std::alloc::{AllocError, Global};
 use std::marker::Model;
 use ut_plain::Table;
 use ut_redo::Frame;
-use ut_stamps::Fates;
 use ut_table::Table as Stages;
+use ut_tables::Rows;
 use ut_txn::Sessions;
 
 /// The id of the first row.
@@ -28,14 +27,12 @@ pub struct Store {
 }
 
 impl Model for Store {
-    ghost use Rattle.std.specs.Prelude.{map};
     ghost use Rattle.ut_store.specs.Held.{Held};
-    ghost use Rattle.ut_table.specs.Contents.{TableValue};
 
     ghost Value = { Held };
 
     ghost view = { λ s. record {
-      rows = record { tables = s.rows.tables.items; staged = map (λ (t : TableValue). t.stages) s.rows.stages.items; fates = s.rows.fates };
+      rows = s.rows.rows;
       seats = s.sessions;
       counts = s.counts;
       frame = s.frame.payload;
@@ -60,7 +57,8 @@ impl Store {
         )
     }
 
-    /// A store with these tables and their rows, in which nobody has a transaction and no merge is pending. The ids from `next_id` on are free.
+    /// A store with these tables and their rows, in which nobody has a transaction and no merge is pending. The ids from
+    /// `next_id` on are free.
     pub fn restored(
         alloc: Global,
         tables: Vec<Table>,
@@ -73,16 +71,9 @@ impl Store {
     ) -> Result<Store, AllocError>
         ensures { IfOk result (Restored tables.items (map (λ t. t.stages) stages.items) next_id rows_limit commits merges entries) }
     {
-        let mut fates = Fates::new(alloc)?;
-        let nobody = fates.start()?;
-        fates.abort(nobody);
+        let rows = Rows::restored(alloc, tables, stages)?;
         let sessions = Sessions::new(alloc)?;
         let frame = Frame::txn(alloc)?;
-        let rows = Rows {
-            tables,
-            stages,
-            fates,
-        };
         let counts = Counts {
             next_id,
             rows_limit,
@@ -97,6 +88,13 @@ impl Store {
             counts,
             frame,
         })
+    }
+
+    /// The rows of all tables, for the layers above.
+    pub fn all_rows(&self) -> &Rows
+        ensures { result.now.rows ≡ self.now.rows }
+    {
+        &self.rows
     }
 
     /// The frame that the log is to append.

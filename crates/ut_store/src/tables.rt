@@ -4,31 +4,20 @@ ghost use Rattle.ut_value.specs.declared.entry.Entry.TheVariants as entries;
 ghost use Rattle.ut_value.specs.Spelling.{spelling, has_spelling};
 ghost use Rattle.ut_plain.specs.declared.statement.Statement.TheVariants as statements;
 ghost use Rattle.ut_plain.specs.Spelled.{is_spelled};
-ghost use Rattle.ut_staged.specs.Staged.{no_rows};
 ghost use Rattle.ut_store.specs.Early.{early_refusal};
 ghost use Rattle.ut_store.specs.Standing.{Stands};
 ghost use Rattle.ut_store.specs.Answers.{Answers, Same};
 ghost use Rattle.ut_store.specs.Created.{Created};
 
-use crate::store::Store;
 use crate::transactions::ENTRIES_LIMIT;
-use crate::turn::Turn;
+use crate::{Response, Store};
 use std::alloc::{AllocError, Global};
-use ut_plain::{Refusal, Reply, Table, place_of};
+use ut_plain::{Refusal, Reply};
 use ut_redo::Frame;
-use ut_table::Table as Stages;
 use ut_value::{Column, Duplicate, Entry, Name, Seq};
 
 /// A store may have so many tables.
-const TABLES_LIMIT: usize = 256;
-
-/// A table without rows, and the frame of its entry.
-#[derive(Drop)]
-struct NewTable {
-    table: Table,
-    stages: Stages,
-    frame: Frame,
-}
+const TABLES_LIMIT: usize = ut_value::TABLES_LIMIT as usize;
 
 impl Store {
     /// Makes a table.
@@ -38,19 +27,19 @@ impl Store {
         session: u8,
         table: &Name,
         columns: &Seq<Column>,
-    ) -> Turn
+    ) -> Response
         requires seat { session < 17 }
         requires spelled { IsTrue (is_spelled (statements.Create table.now columns.now)) }
         requires stands { Stands self.old }
         requires early { early_refusal self.old session (statements.Create table.now columns.now) ≡ None }
         ensures { Answers self.old session (statements.Create table.now columns.now) result self.new }
     {
-        if self.rows.tables.len() >= TABLES_LIMIT || self.counts.entries >= ENTRIES_LIMIT {
-            return Turn::Answered(Reply::Refused(Refusal::Full));
+        if self.rows.table_count() >= TABLES_LIMIT || self.counts.entries >= ENTRIES_LIMIT {
+            return Response::Answered(Reply::Refused(Refusal::Full));
         }
         match self.add_table(alloc, table, columns) {
-            Err(_) => Turn::Answered(Reply::Refused(Refusal::Memory)),
-            Ok(()) => Turn::Append(Reply::Committed(self.counts.commits)),
+            Err(_) => Response::Answered(Reply::Refused(Refusal::Memory)),
+            Ok(()) => Response::Append(Reply::Committed(self.counts.commits)),
         }
     }
 
@@ -68,15 +57,8 @@ impl Store {
         ensures ok { OnOk result (Created self.old table.now columns.now self.new) }
         ensures err { OnErr result (Same self.old self.new) }
     {
-        self.rows.tables.reserve(1)?;
-        self.rows.stages.reserve(1)?;
-        let NewTable {
-            table,
-            stages,
-            frame,
-        } = new_table(alloc, table, columns)?;
-        self.rows.tables.push_reserved(table);
-        self.rows.stages.push_reserved(stages);
+        let frame = create_frame(alloc, table, columns)?;
+        self.rows.add_table(alloc, table, columns)?;
         self.frame = frame;
         self.counts.entries += 1;
         self.counts.commits += 1;
@@ -84,54 +66,34 @@ impl Store {
     }
 
     /// Moves the first n rows of a table's first stage to its second.
-    pub(crate) fn merge_l1(&mut self, session: u8, table: &Name, n: u32) -> Turn
+    pub(crate) fn merge_l1(&mut self, session: u8, table: &Name, n: u32) -> Response
         requires seat { session < 17 }
         requires spelled { IsTrue (is_spelled (statements.MergeL1 table.now n)) }
         requires stands { Stands self.old }
         requires early { early_refusal self.old session (statements.MergeL1 table.now n) ≡ None }
         ensures { Answers self.old session (statements.MergeL1 table.now n) result self.new }
     {
-        let place = place_of(&self.rows.tables, table.as_slice()).unwrap();
-        match self.rows.stages[place].merge_l1(n) {
-            Err(_) => Turn::Answered(Reply::Refused(Refusal::Memory)),
-            Ok(moved) => Turn::Answered(Reply::Moved(moved)),
+        let place = self.rows.place_of(table.as_slice()).unwrap();
+        match self.rows.merge_l1(place, n) {
+            Err(_) => Response::Answered(Reply::Refused(Refusal::Memory)),
+            Ok(moved) => Response::Answered(Reply::Moved(moved)),
         }
     }
 
     /// Tells how many rows stand in each stage of a table.
-    pub(crate) fn shape(&self, alloc: Global, session: u8, table: &Name) -> Turn
+    pub(crate) fn shape(&self, alloc: Global, session: u8, table: &Name) -> Response
         requires seat { session < 17 }
         requires spelled { IsTrue (is_spelled (statements.Shape table.now)) }
         requires stands { Stands self.now }
         requires early { early_refusal self.now session (statements.Shape table.now) ≡ None }
         ensures { Answers self.now session (statements.Shape table.now) result self.now }
     {
-        let place = place_of(&self.rows.tables, table.as_slice()).unwrap();
-        match self.rows.stages[place].shape(alloc) {
-            Err(_) => Turn::Answered(Reply::Refused(Refusal::Memory)),
-            Ok(shape) => Turn::Answered(Reply::Shape(shape)),
+        let place = self.rows.place_of(table.as_slice()).unwrap();
+        match self.rows.shape(alloc, place) {
+            Err(_) => Response::Answered(Reply::Refused(Refusal::Memory)),
+            Ok(shape) => Response::Answered(Reply::Shape(shape)),
         }
     }
-}
-
-// A table of copies of a name and of columns.
-fn new_table(alloc: Global, table: &Name, columns: &Seq<Column>) -> Result<NewTable, AllocError>
-    requires spelled { IsTrue (has_spelling (entries.Create table.now columns.now)) }
-    requires few { length columns.now ≤ 64 }
-    ensures table { IfOk result (λ new. new.table ≡ record { name = table.now; columns = columns.now }) }
-    ensures stages { IfOk result (λ new. new.stages.stages ≡ no_rows columns.now) }
-    ensures frame { IfOk result (λ new. new.frame.payload ≡ spelling (entries.Create table.now columns.now)) }
-{
-    let frame = create_frame(alloc, table, columns)?;
-    let stages = Stages::new(alloc, columns.duplicate(alloc)?)?;
-    let name = table.copy(alloc)?;
-    let columns = columns.duplicate(alloc)?;
-    let table = Table { name, columns };
-    Ok(NewTable {
-        table,
-        stages,
-        frame,
-    })
 }
 
 // The frame of a new table's entry.

@@ -6,34 +6,33 @@ ghost use Rattle.ut_store.specs.Early.{early_refusal};
 ghost use Rattle.ut_store.specs.Standing.{Stands};
 ghost use Rattle.ut_store.specs.Answers.{Answers};
 
-use crate::store::Store;
-use crate::turn::Turn;
+use crate::{Response, Store};
 use ut_plain::{Refusal, Reply};
 use ut_txn::Opened;
 
 /// A journal has room for one entry more while it has fewer.
-pub(crate) const ENTRIES_LIMIT: u32 = 1073741823;
+pub(crate) const ENTRIES_LIMIT: u32 = ut_value::ENTRIES_LIMIT;
 
 impl Store {
     /// Begins the session's transaction: it sees the journal as it is now.
-    pub(crate) fn begin(&mut self, session: u8) -> Turn
+    pub(crate) fn begin(&mut self, session: u8) -> Response
         requires seat { session < 17 }
         requires inside { 0 < session }
         requires early { early_refusal self.old session Begin ≡ None }
         ensures { Answers self.old session Begin result self.new }
     {
         let snapshot = self.counts.entries;
-        match self.rows.fates.start() {
-            Err(_) => Turn::Answered(Reply::Refused(Refusal::Memory)),
+        match self.rows.start() {
+            Err(_) => Response::Answered(Reply::Refused(Refusal::Memory)),
             Ok(number) => {
                 self.sessions.begin(session, Opened { snapshot, number });
-                Turn::Answered(Reply::Done)
+                Response::Answered(Reply::Done)
             }
         }
     }
 
     /// Ends the session's transaction, whose changes nobody will see. Takes no memory.
-    pub(crate) fn abort(&mut self, session: u8) -> Turn
+    pub(crate) fn abort(&mut self, session: u8) -> Response
         requires seat { session < 17 }
         requires inside { 0 < session }
         requires stands { Stands self.old }
@@ -41,13 +40,13 @@ impl Store {
         ensures { Answers self.old session Abort result self.new }
     {
         let given_up = self.sessions.opened(session).unwrap();
-        self.rows.fates.abort(given_up.number);
+        self.rows.abort(given_up.number);
         self.sessions.close(session);
-        Turn::Answered(Reply::Done)
+        Response::Answered(Reply::Done)
     }
 
     /// Commits the session's transaction. Takes no memory.
-    pub(crate) fn commit(&mut self, session: u8) -> Turn
+    pub(crate) fn commit(&mut self, session: u8) -> Response
         requires seat { session < 17 }
         requires inside { 0 < session }
         requires stands { Stands self.old }
@@ -58,13 +57,13 @@ impl Store {
             return self.commit_nothing(session);
         }
         if self.counts.entries >= ENTRIES_LIMIT {
-            return Turn::Answered(Reply::Refused(Refusal::Full));
+            return Response::Answered(Reply::Refused(Refusal::Full));
         }
         self.commit_something(session)
     }
 
     // Of a transaction without operations nothing is kept.
-    fn commit_nothing(&mut self, session: u8) -> Turn
+    fn commit_nothing(&mut self, session: u8) -> Response
         requires seat { session < 17 }
         requires inside { 0 < session }
         requires stands { Stands self.old }
@@ -73,13 +72,13 @@ impl Store {
         ensures { Answers self.old session Commit result self.new }
     {
         let opened = self.sessions.opened(session).unwrap();
-        self.rows.fates.abort(opened.number);
+        self.rows.abort(opened.number);
         self.sessions.close(session);
-        Turn::Answered(Reply::Done)
+        Response::Answered(Reply::Done)
     }
 
     // The operations of the others become an entry.
-    fn commit_something(&mut self, session: u8) -> Turn
+    fn commit_something(&mut self, session: u8) -> Response
         requires seat { session < 17 }
         requires inside { 0 < session }
         requires stands { Stands self.old }
@@ -91,8 +90,8 @@ impl Store {
         let opened = self.sessions.opened(session).unwrap();
         self.counts.entries += 1;
         self.counts.commits += 1;
-        self.rows.fates.commit(opened.number, self.counts.entries);
+        self.rows.commit(opened.number, self.counts.entries);
         self.sessions.take_frame(session, &mut self.frame);
-        Turn::Append(Reply::Committed(self.counts.commits))
+        Response::Append(Reply::Committed(self.counts.commits))
     }
 }

@@ -6,12 +6,12 @@ ghost use Rattle.ut_store.specs.Changes.{IsUpdate, MayChange};
 ghost use Rattle.ut_store.specs.Standing.{Stands, suits_session};
 
 use crate::finish::no_memory;
-use crate::work::Work;
-use crate::{Store, Turn};
+use crate::{Response, Store};
 use std::alloc::Global;
 use ut_change::{Change, update_ops};
 use ut_names::{Target, target};
 use ut_plain::{Pred, Refusal, Reply, Statement};
+use ut_tables::{Changes, Work};
 use ut_value::{Name, Seq, Value};
 
 impl Store {
@@ -24,7 +24,7 @@ impl Store {
         column: &Name,
         value: &Value,
         preds: &Seq<Pred>,
-    ) -> Turn
+    ) -> Response
         requires seat { session < 17 }
         requires suits { IsTrue (suits_session session st.now) }
         requires spelled { IsTrue (is_spelled st.now) }
@@ -34,7 +34,7 @@ impl Store {
     {
         let target = target(
             alloc,
-            &self.rows.tables,
+            self.rows.tables(),
             table.as_slice(),
             column.as_slice(),
             value,
@@ -42,7 +42,7 @@ impl Store {
         );
         match target {
             Ok(target) => self.update_rows(alloc, session, st, &target, value),
-            Err(why) => Turn::Answered(Reply::Refused(why)),
+            Err(why) => Response::Answered(Reply::Refused(why)),
         }
     }
 
@@ -53,7 +53,7 @@ impl Store {
         st: &Statement,
         target: &Target,
         value: &Value,
-    ) -> Turn
+    ) -> Response
         requires may { MayChange self.old session st.now }
         requires is { IsUpdate self.old.rows.tables st.now target.now value.now }
         ensures { Answers self.old session st.now result self.new }
@@ -63,22 +63,20 @@ impl Store {
             return no_memory();
         };
         if !self.has_ids_for(hits.len()) {
-            return Turn::Answered(Reply::Refused(Refusal::Full));
+            return Response::Answered(Reply::Refused(Refusal::Full));
         }
         let change = Change {
             table: place as u16,
             column: target.column,
         };
-        let stages = &self.rows.stages[place];
+        let stages = self.rows.table(place);
         let Ok(ops) = update_ops(alloc, stages, change, self.counts.next_id, value, &hits) else {
             return no_memory();
         };
         let work = Work {
             place,
-            hits: &hits,
-            ops,
+            changes: Changes::Writes { hits: &hits, ops },
             rows: hits.len() as u32,
-            is_bulk: false,
         };
         self.finish(alloc, session, st, work)
     }

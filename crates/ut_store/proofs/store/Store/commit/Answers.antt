@@ -6,7 +6,7 @@ use Rattle.ut_store.specs.Answers.{Answers}
 use Rattle.ut_store.specs.Early.{early_refusal}
 use Rattle.ut_store.specs.Held.{Held}
 use Rattle.ut_store.specs.contracts.store.Store.{the_view}
-use Rattle.ut_store.specs.declared.turn.Turn.TheVariants.{Answered}
+use Rattle.ut_store.specs.declared.response.Response.TheVariants.{Answered}
 use Rattle.ut_store.proofs.TransactionLemmas.{commit_full}
 use Rattle.ut_store.proofs.store.Store.commit.Goals as goal
 

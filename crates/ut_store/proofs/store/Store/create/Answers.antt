@@ -1,8 +1,8 @@
 use Rattle.std.proofs.Common.{ℕ, ◌≡◌, ◌≤◌, ◌<◌, inl, inr, refl, sym, ap, ◌∙◌, subst, length, arith}
 use Rattle.ut_plain.specs.declared.statement.Statement.TheVariants.{Create}
 use Rattle.ut_plain.specs.declared.reply.Reply.TheVariants.{Committed}
-use Rattle.ut_store.specs.declared.turn.Turn.{Turn}
-use Rattle.ut_store.specs.declared.turn.Turn.TheVariants.{Append}
+use Rattle.ut_store.specs.declared.response.Response.{Response}
+use Rattle.ut_store.specs.declared.response.Response.TheVariants.{Append}
 use Rattle.ut_store.specs.Answers.{Answers}
 use Rattle.ut_store.specs.Held.{Held}
 use Rattle.ut_store.specs.contracts.store.Store.{the_view}
@@ -10,15 +10,15 @@ use Rattle.ut_store.proofs.CreateLemmas.{few_columns, create_spelling, create_fu
 use Rattle.ut_store.proofs.NumberLemmas.{are_small}
 use Rattle.ut_store.proofs.StandsLemmas.{no_memory}
 use Rattle.ut_store.proofs.store.Store.create.Goals as goal
-use Rattle.ut_store.proofs.store.Store.create.Goals.{in-Err, in-Ok, then-len-ge-TABLES_LIMIT-via-then-len-ge-TABLES_LIMIT, then-len-ge-TABLES_LIMIT-via-else-len-ge-TABLES_LIMIT+then-self-ge-ENTRIES_LIMIT}
+use Rattle.ut_store.proofs.store.Store.create.Goals.{in-Err, in-Ok, then-table_count-ge-TABLES_LIMIT-via-then-table_count-ge-TABLES_LIMIT, then-table_count-ge-TABLES_LIMIT-via-else-table_count-ge-TABLES_LIMIT+then-self-ge-ENTRIES_LIMIT}
 
-pub returns-then-len-ge-TABLES_LIMIT : goal.returns-then-len-ge-TABLES_LIMIT
-returns-then-len-ge-TABLES_LIMIT c =
-    elim c.then-len-ge-TABLES_LIMIT.branch [
-      | then-len-ge-TABLES_LIMIT-via-then-len-ge-TABLES_LIMIT w ↦
+pub returns-then-table_count-ge-TABLES_LIMIT : goal.returns-then-table_count-ge-TABLES_LIMIT
+returns-then-table_count-ge-TABLES_LIMIT c =
+    elim c.then-table_count-ge-TABLES_LIMIT.branch [
+      | then-table_count-ge-TABLES_LIMIT-via-then-table_count-ge-TABLES_LIMIT w ↦
           create_full c.args.self.now c.args.session c.args.table.now c.args.columns.now c.requires.seat c.requires.early
-          (inl (subst (λ (e : Held). 256 ≤ length e.rows.tables) c.self.view_is (omega (arith, c.len.ensures, w.if-len-ge-TABLES_LIMIT.true))))
-      | then-len-ge-TABLES_LIMIT-via-else-len-ge-TABLES_LIMIT+then-self-ge-ENTRIES_LIMIT w ↦
+          (inl (subst (λ (e : Held). 256 ≤ length e.rows.tables) c.self.view_is (omega (arith, c.table_count.ensures, w.if-table_count-ge-TABLES_LIMIT.true))))
+      | then-table_count-ge-TABLES_LIMIT-via-else-table_count-ge-TABLES_LIMIT+then-self-ge-ENTRIES_LIMIT w ↦
           create_full c.args.self.now c.args.session c.args.table.now c.args.columns.now c.requires.seat c.requires.early
           (inr (subst (λ (e : Held). 1073741823 ≤ e.counts.entries) c.self.view_is w.if-self-ge-ENTRIES_LIMIT.true))
     ]
@@ -41,15 +41,15 @@ few_tables e now n same count few = omega (arith, ap (λ (x : Held). length x.ro
 
 pub returns : goal.returns
 returns c =
-    let count : c.len.result ≡ length (the_view c.self.inside).rows.tables = omega (arith, c.len.ensures) in
-    let few : length c.args.self.now.rows.tables < 256 = few_tables (the_view c.self.inside) c.args.self.now c.len.result c.self.view_is count c.if-len-ge-TABLES_LIMIT.false in
+    let count : c.table_count.result ≡ length (the_view c.self.inside).rows.tables = omega (arith, c.table_count.ensures) in
+    let few : length c.args.self.now.rows.tables < 256 = few_tables (the_view c.self.inside) c.args.self.now c.table_count.result c.self.view_is count c.if-table_count-ge-TABLES_LIMIT.false in
     let short = subst (λ (e : Held). e.counts.entries < 1073741823) c.self.view_is c.if-self-ge-ENTRIES_LIMIT.false in
     elim c.match-add_table.branch [
       | in-Err w ↦
-          subst (λ (turn : Turn). Answers c.args.self.now c.args.session (Create c.args.table.now c.args.columns.now) turn c.add_table.new.self) (sym w.result-is)
+          subst (λ (response : Response). Answers c.args.self.now c.args.session (Create c.args.table.now c.args.columns.now) response c.add_table.new.self) (sym w.result-is)
           (no_memory c.args.self.now c.add_table.new.self c.args.session (Create c.args.table.now c.args.columns.now) refl w.in-Err.ensures.err)
       | in-Ok w ↦
-          subst (λ (turn : Turn). Answers c.args.self.now c.args.session (Create c.args.table.now c.args.columns.now) turn c.add_table.new.self)
+          subst (λ (response : Response). Answers c.args.self.now c.args.session (Create c.args.table.now c.args.columns.now) response c.add_table.new.self)
           (sym (w.result-is ∙ ap (λ (e : Held). Append (Committed e.counts.commits)) c.self-2.view_is))
           (created_now c.args.self.now c.add_table.new.self c.args.session c.args.table.now c.args.columns.now c.requires.seat c.requires.spelled c.requires.early few short w.in-Ok.ensures.ok)
     ]

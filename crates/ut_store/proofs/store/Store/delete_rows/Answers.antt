@@ -36,7 +36,7 @@ finish-requires-clause-ready c =
     let n = c.args.rows.now.table in
     let os = c.in-Ok-delete_ops.ops.items in
     let made : os ≡ deletes_of n (hits_of c.in-Ok.hits.items) = c.in-Ok-delete_ops.ensures ∙ ap (map (λ (f : Found). ops.Delete n f.id)) c.deref.ensures.value ∙ deletes-found n c.in-Ok.hits.items in
-    record { suits = subst (λ (fs : List Found). AreReady c.args.self.now n (hits_of fs) os) (sym c.deref-2.ensures.value) (delete_ready _ c.args.session _ _ c.requires.may c.requires.is _ l os made); loads = λ is. cc }
+    record { suits = subst (λ (fs : List Found). AreReady c.args.self.now n (hits_of fs) os) (sym c.deref-2.ensures.value) (delete_ready _ c.args.session _ _ c.requires.may c.requires.is _ l os made); loads = λ b is. cc }
 
 pub finish-requires-clause-does : goal.finish-requires-clause-does
 finish-requires-clause-does c =

@@ -1,13 +1,16 @@
-use Rattle.std.proofs.lemmas.Result.{on_err_weaker}
-use Rattle.ut_store.proofs.FinishLemmas.{same_stays}
-use Rattle.ut_store.proofs.LoadLemmas.{can_load}
+use Rattle.std.proofs.Common.{◌∙◌, ap, slice_get}
+use Rattle.ut_store.specs.Held.{Held}
+use Rattle.ut_store.specs.contracts.store.Store.{the_view}
+use Rattle.ut_store.proofs.IndexLemmas.{on_err}
+use Rattle.ut_store.proofs.SpentLemmas.{spent_by}
 use Rattle.ut_store.proofs.store.Store.work_alone.Goals as goal
 
-pub load_alone-requires-clause-can : goal.load_alone-requires-clause-can
-load_alone-requires-clause-can c = can_load _ _ _ _ c.requires.can (c.requires.loads c.if-work.true)
+pub work_alone-requires-clause-can : goal.work_alone-requires-clause-can
+work_alone-requires-clause-can c = record {
+  table = c.requires.can.table;
+  at = ap (λ (h : Held). slice_get h.rows.staged c.args.work.place) c.self.view_is ∙ c.requires.can.at;
+  has = c.requires.can.write;
+}
 
-pub load_alone-requires-clause-rows : goal.load_alone-requires-clause-rows
-load_alone-requires-clause-rows c = c.requires.loads c.if-work.true
-
-pub returns-else-work-clause-err : goal.returns-else-work-clause-err
-returns-else-work-clause-err c = on_err_weaker c.write_alone.result (same_stays _ _) c.write_alone.ensures.err
+pub returns-in_err-work_alone-clause-err : goal.returns-in_err-work_alone-clause-err
+returns-in_err-work_alone-clause-err c = on_err _ _ (spent_by (the_view c.self.inside) _ c.work_alone.new.self.rows c.self.view_is c.in_err-work_alone.ensures.err)

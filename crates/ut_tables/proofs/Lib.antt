@@ -1,0 +1,4 @@
+pub mod IndexLemmas
+pub mod JobLemmas
+pub mod FoundLemmas
+pub mod LoadLemmas

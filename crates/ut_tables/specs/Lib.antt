@@ -1,0 +1,6 @@
+pub mod Rows
+pub mod Finds
+pub mod Changed
+pub mod Merging
+pub mod Early
+pub mod Works

@@ -1,0 +1,14 @@
+//! The rows of a store: its tables with their stages, and what became of each transaction.
+#![tactic(auto)]
+
+mod early;
+mod look;
+mod merges;
+mod readers;
+mod rows;
+mod tables;
+mod work;
+mod writes;
+
+pub use rows::Rows;
+pub use work::{Changes, Work};

@@ -1,0 +1,71 @@
+//! Tables: they are made, their rows move to the second stage, and the rows of their stages are counted.
+ghost use Rattle.std.specs.Prelude.{◌≡◌, ◌<◌, ◌≤◌, min, OnOk, OnErr, IfOk, length};
+ghost use Rattle.ut_plain.specs.Stages.{shape_of};
+ghost use Rattle.ut_staged.specs.Staged.{no_rows, merged_l1, stages_of};
+ghost use Rattle.ut_tables.specs.Changed.{Changed, with_table};
+ghost use Rattle.ut_tables.specs.Rows.{AtPlace};
+
+use crate::Rows;
+use std::alloc::{AllocError, Global};
+use ut_plain::{Shape, Table};
+use ut_table::Table as Stages;
+use ut_value::{Column, Duplicate, Name, Seq};
+
+/// A table without rows.
+#[derive(Drop)]
+struct NewTable {
+    table: Table,
+    stages: Stages,
+}
+
+impl Rows {
+    /// A table more, of copies of a name and of columns: all or nothing.
+    pub fn add_table(
+        &mut self,
+        alloc: Global,
+        name: &Name,
+        columns: &Seq<Column>,
+    ) -> Result<(), AllocError>
+        requires { length columns.now ≤ 64 }
+        ensures ok { OnOk result (self.new.rows ≡ with_table self.old.rows name.now columns.now) }
+        ensures err { OnErr result (self.new.rows ≡ self.old.rows) }
+    {
+        self.tables.reserve(1)?;
+        self.stages.reserve(1)?;
+        let NewTable { table, stages } = new_table(alloc, name, columns)?;
+        self.tables.push_reserved(table);
+        self.stages.push_reserved(stages);
+        Ok(())
+    }
+
+    /// Moves the first n rows of the first stage of the table at a place to its second. Tells how many were moved.
+    pub fn merge_l1(&mut self, place: usize, n: u32) -> Result<u32, AllocError>
+        requires { place < length self.old.rows.staged }
+        ensures count { IfOk result (λ moved. AtPlace self.old.rows place (λ s. moved ≡ min n (length s.l1))) }
+        ensures ok { OnOk result (Changed self.old.rows place (merged_l1 n) self.new.rows) }
+        ensures err { OnErr result (self.new.rows ≡ self.old.rows) }
+    {
+        self.stages[place].merge_l1(n)
+    }
+
+    /// How many rows stand in each stage of the table at a place.
+    pub fn shape(&self, alloc: Global, place: usize) -> Result<Shape, AllocError>
+        requires { place < length self.now.rows.staged }
+        ensures { IfOk result (λ shape. AtPlace self.now.rows place (λ s. shape ≡ shape_of (stages_of s))) }
+    {
+        self.stages[place].shape(alloc)
+    }
+}
+
+// A table of copies of a name and of columns.
+fn new_table(alloc: Global, name: &Name, columns: &Seq<Column>) -> Result<NewTable, AllocError>
+    requires { length columns.now ≤ 64 }
+    ensures table { IfOk result (λ new. new.table ≡ record { name = name.now; columns = columns.now }) }
+    ensures stages { IfOk result (λ new. new.stages.stages ≡ no_rows columns.now) }
+{
+    let stages = Stages::new(alloc, columns.duplicate(alloc)?)?;
+    let name = name.copy(alloc)?;
+    let columns = columns.duplicate(alloc)?;
+    let table = Table { name, columns };
+    Ok(NewTable { table, stages })
+}
