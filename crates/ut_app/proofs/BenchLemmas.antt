@@ -16,27 +16,27 @@ use Rattle.ut_words.specs.declared.plan.Plan.{Plan}
 use Rattle.ut_words.specs.Plans.{IsInRange}
 use Rattle.ut_app.specs.declared.bench.LineEnd.{LineEnd}
 use Rattle.ut_app.specs.declared.bench.LineEnd.TheVariants as ends
-use Rattle.ut_app.specs.declared.report.Report.{Report}
-use Rattle.ut_app.specs.declared.report.Status.{Status}
-use Rattle.ut_app.specs.declared.report.Status.TheVariants.{Done, Usage, NoStore, Exists, ReadFault, WriteFault, DiskFault, Damaged, Memory, TooLong}
+use Rattle.ut_run.specs.declared.report.Report.{Report}
+use Rattle.ut_run.specs.declared.report.Status.{Status}
+use Rattle.ut_run.specs.declared.report.Status.TheVariants.{Done, Usage, NoStore, Exists, ReadFault, WriteFault, DiskFault, Damaged, Memory, TooLong}
 use Rattle.ut_app.specs.declared.tally.Heard.{Heard}
 use Rattle.ut_app.specs.declared.tally.Heard.TheVariants as heards
 use Rattle.ut_app.specs.declared.tally.Tally.{Tally}
-use Rattle.ut_app.specs.World.{World}
-use Rattle.ut_app.specs.Plans.{start_of}
-use Rattle.ut_app.specs.Origin.{Origin, Begins}
-use Rattle.ut_app.specs.Beginning.{Begun, NotBegun}
-use Rattle.ut_app.specs.Serving.{Served}
-use Rattle.ut_app.specs.Ends.{FitsStore, HasRisen, IsEarly, IsLate}
+use Rattle.ut_run.specs.World.{World}
+use Rattle.ut_run.specs.Plans.{start_of}
+use Rattle.ut_run.specs.Origin.{Origin, Begins}
+use Rattle.ut_run.specs.Beginning.{Begun, NotBegun}
+use Rattle.ut_run.specs.Serving.{Served}
+use Rattle.ut_run.specs.Ends.{FitsStore, HasRisen, IsEarly, IsLate}
 use Rattle.ut_app.specs.Hearing.{tally_of, is_fault, heard_of, counted, Quiet, Answered, Failed, Hearing, Hears, Noting, noted_by}
 use Rattle.ut_app.specs.Figures.{figures_by, figures_text}
 use Rattle.ut_app.specs.Benching.{script_of, IsBenching, IsUnasked, Sinking, sink_of, TellsLine, KeepsNotes, TellsEnd, IsTelling, IsThrough, Benched, IsReached, Early, Late, IsWholeBench, BenchRun}
 use Rattle.ut_course.proofs.KeepLemmas.{OnlyNow}
-use Rattle.ut_app.proofs.BeginLemmas.{loses_untouched}
+use Rattle.ut_run.proofs.BeginLemmas.{loses_untouched}
 use Rattle.ut_course.proofs.KeepLemmas.{CountsNow}
-use Rattle.ut_app.proofs.CourseLemmas.{course-start, course-end, course-quiet, course-told, course-lost}
+use Rattle.ut_run.proofs.CourseLemmas.{course-start, course-end, course-quiet, course-told, course-lost}
 use Rattle.ut_app.proofs.HearLemmas.{tally_more, refused_one, noted_answer}
-use Rattle.ut_app.proofs.RunLemmas.{late_fits, early_cause, streams_stay, opened_made, unmade_twice}
+use Rattle.ut_run.proofs.RunLemmas.{late_fits, early_cause, streams_stay, opened_made, unmade_twice}
 
 -- ---- the way
 

@@ -18,25 +18,25 @@ use Rattle.ut_crowd.specs.declared.book.Turn.{Turn}
 use Rattle.ut_crowd.specs.Book.{lines_in, answers_in, acks_in}
 use Rattle.ut_crowd.specs.Queues.{HasAnswered}
 use Rattle.ut_crowd.specs.Crowding.{Crowded}
-use Rattle.ut_app.specs.declared.begin.Start.{Start}
-use Rattle.ut_app.specs.declared.report.Status.{Status}
-use Rattle.ut_app.specs.declared.report.Status.TheVariants.{Done, Usage, NoStore, Exists, ReadFault, WriteFault, DiskFault, Damaged, Memory, TooLong}
-use Rattle.ut_app.specs.World.{World}
-use Rattle.ut_app.specs.Plans.{start_of}
-use Rattle.ut_app.specs.Script.{FitsInput}
-use Rattle.ut_app.specs.Origin.{opened, Begins}
-use Rattle.ut_app.specs.Keeping.{Kept, SinceEntry, HoldsRun}
-use Rattle.ut_app.specs.Beginning.{Begun, NotBegun}
+use Rattle.ut_run.specs.declared.start.Start.{Start}
+use Rattle.ut_run.specs.declared.report.Status.{Status}
+use Rattle.ut_run.specs.declared.report.Status.TheVariants.{Done, Usage, NoStore, Exists, ReadFault, WriteFault, DiskFault, Damaged, Memory, TooLong}
+use Rattle.ut_run.specs.World.{World}
+use Rattle.ut_run.specs.Plans.{start_of}
+use Rattle.ut_run.specs.Script.{FitsInput}
+use Rattle.ut_run.specs.Origin.{opened, Begins}
+use Rattle.ut_run.specs.Keeping.{Kept, SinceEntry, HoldsRun}
+use Rattle.ut_run.specs.Beginning.{Begun, NotBegun}
 use Rattle.ut_app.specs.Benching.{Sinking, sink_of}
-use Rattle.ut_app.specs.Ends.{FitsStore, HasRisen, IsEarly, IsLate}
+use Rattle.ut_run.specs.Ends.{FitsStore, HasRisen, IsEarly, IsLate}
 use Rattle.ut_app.specs.Crowds as crowds
 use Rattle.ut_app.specs.Crowds.{IsRead, IsUnrun, IsUnread, EndsBook, TellsEnd, TellsAcks, IsFault, last_journal, last_length, Booked, RanCrowd, CrowdRun, Early, Halted, Late}
-use Rattle.ut_app.proofs.KeepLemmas.{run_longer, run_holds}
+use Rattle.ut_run.proofs.KeepLemmas.{run_longer, run_holds}
 use Rattle.ut_script.specs.declared.lines.LineError.TheVariants as failed
 use Rattle.ut_script.specs.Lines.{Reading, NextLine, StepsLine, Counts}
-use Rattle.ut_app.specs.Script.{all_fit, IsReading}
-use Rattle.ut_app.proofs.EndsLemmas.{fit_more, reading-start, reading-more, reading-done, reading-long, fits_cut}
-use Rattle.ut_app.proofs.RunLemmas.{late_fits, completes, early_cut, early_cause, streams_stay}
+use Rattle.ut_run.specs.Script.{all_fit, IsReading}
+use Rattle.ut_run.proofs.EndsLemmas.{fit_more, reading-start, reading-more, reading-done, reading-long, fits_cut}
+use Rattle.ut_run.proofs.RunLemmas.{late_fits, completes, early_cut, early_cause, streams_stay}
 
 -- ---- reading
 

@@ -22,7 +22,7 @@ use Rattle.ut_app.specs.declared.tally.Heard.TheVariants as heards
 use Rattle.ut_app.specs.declared.tally.Tally.{Tally}
 use Rattle.ut_app.specs.Hearing.{is_refusal, sum_in, refusals_in, last_sum, tally_of, heard_of, counted, Quiet, Answered, Failed, Hearing, Hears, Noting, noted_by}
 use Rattle.ut_course.proofs.KeepLemmas.{OnlyNow, still}
-use Rattle.ut_app.proofs.SayLemmas.{lacks}
+use Rattle.ut_run.proofs.SayLemmas.{lacks}
 
 -- ---- lines
 

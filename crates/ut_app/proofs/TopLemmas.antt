@@ -5,12 +5,12 @@ use Rattle.ut_words.specs.declared.plan.Plan.{Plan}
 use Rattle.ut_words.specs.declared.plan.WordsError.{WordsError}
 use Rattle.ut_words.specs.declared.plan.WordsError.TheVariants as errors
 use Rattle.ut_words.specs.Plans.{Refuses}
-use Rattle.ut_app.specs.declared.report.Status.{Status}
-use Rattle.ut_app.specs.declared.report.Status.TheVariants.{Usage, Memory}
+use Rattle.ut_run.specs.declared.report.Status.{Status}
+use Rattle.ut_run.specs.declared.report.Status.TheVariants.{Usage, Memory}
 use Rattle.ut_outside.specs.declared.ack.Ack.{Ack}
 use Rattle.ut_words.specs.declared.plan.Mode.{Mode}
 use Rattle.ut_words.specs.declared.plan.Mode.TheVariants as modes
-use Rattle.ut_app.specs.World.{World}
+use Rattle.ut_run.specs.World.{World}
 use Rattle.ut_app.specs.Crowds.{CrowdRun}
 use Rattle.ut_app.specs.Top.{ServesMode, RunsMode, RunsPlan, WordsStatus}
 

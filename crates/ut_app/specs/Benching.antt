@@ -9,14 +9,14 @@ use Rattle.ut_plain.specs.Transcript.{Answer}
 use Rattle.ut_engine.specs.Logged.{Logged}
 use Rattle.ut_gen.specs.Script.{script}
 use Rattle.ut_words.specs.declared.plan.Plan.{Plan}
-use Rattle.ut_app.specs.declared.report.Status.{Status}
-use Rattle.ut_app.specs.declared.report.Status.TheVariants.{Done, Usage, WriteFault, DiskFault, Memory}
-use Rattle.ut_app.specs.World.{World}
-use Rattle.ut_app.specs.Plans.{start_of}
-use Rattle.ut_app.specs.Writing.{Writes}
-use Rattle.ut_app.specs.Origin.{Origin, Begins}
-use Rattle.ut_app.specs.Serving.{Course, Served, EndedEarly}
-use Rattle.ut_app.specs.Ends.{FitsStore, HasRisen, IsEarly}
+use Rattle.ut_run.specs.declared.report.Status.{Status}
+use Rattle.ut_run.specs.declared.report.Status.TheVariants.{Done, Usage, WriteFault, DiskFault, Memory}
+use Rattle.ut_run.specs.World.{World}
+use Rattle.ut_run.specs.Plans.{start_of}
+use Rattle.ut_run.specs.Writing.{Writes}
+use Rattle.ut_run.specs.Origin.{Origin, Begins}
+use Rattle.ut_run.specs.Serving.{Course, Served, EndedEarly}
+use Rattle.ut_run.specs.Ends.{FitsStore, HasRisen, IsEarly}
 use Rattle.ut_store.specs.Held.{Held}
 use Rattle.ut_store.specs.Stands.{StandsFor}
 use Rattle.ut_app.specs.declared.tally.Tally.{Tally}

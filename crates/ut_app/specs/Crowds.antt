@@ -13,17 +13,17 @@ use Rattle.ut_crowd.specs.declared.book.Turn.{Turn}
 use Rattle.ut_crowd.specs.Book.{lines_in, answers_in, acks_in}
 use Rattle.ut_crowd.specs.Queues.{Weaves, HasAnswered}
 use Rattle.ut_crowd.specs.Texts.{book_text}
-use Rattle.ut_app.specs.declared.report.Status.{Status}
-use Rattle.ut_app.specs.declared.report.Status.TheVariants.{Done, Usage, ReadFault, WriteFault, DiskFault, Memory, TooLong}
-use Rattle.ut_app.specs.World.{World}
-use Rattle.ut_app.specs.Plans.{start_of}
-use Rattle.ut_app.specs.Script.{all_fit, FitsInput, ReadsInput}
-use Rattle.ut_app.specs.Writing.{Writes}
-use Rattle.ut_app.specs.Origin.{Origin, opened, Begins}
-use Rattle.ut_app.specs.Keeping.{Kept, HoldsWhole}
-use Rattle.ut_app.specs.Serving.{EndedEarly}
+use Rattle.ut_run.specs.declared.report.Status.{Status}
+use Rattle.ut_run.specs.declared.report.Status.TheVariants.{Done, Usage, ReadFault, WriteFault, DiskFault, Memory, TooLong}
+use Rattle.ut_run.specs.World.{World}
+use Rattle.ut_run.specs.Plans.{start_of}
+use Rattle.ut_run.specs.Script.{all_fit, FitsInput, ReadsInput}
+use Rattle.ut_run.specs.Writing.{Writes}
+use Rattle.ut_run.specs.Origin.{Origin, opened, Begins}
+use Rattle.ut_run.specs.Keeping.{Kept, HoldsWhole}
+use Rattle.ut_run.specs.Serving.{EndedEarly}
 use Rattle.ut_app.specs.Benching.{Sinking, sink_of}
-use Rattle.ut_app.specs.Ends.{FitsStore, HasRisen, IsEarly, IsComplete}
+use Rattle.ut_run.specs.Ends.{FitsStore, HasRisen, IsEarly, IsComplete}
 
 -- ---- reading
 

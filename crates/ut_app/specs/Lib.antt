@@ -1,17 +1,3 @@
-pub mod Plans
-pub mod World
-pub mod Script
-pub mod Writing
-pub mod Asking
-pub mod Saying
-pub mod Origin
-pub mod Keeping
-pub mod Turning
-pub mod Serving
-pub mod Ends
-pub mod Beginning
-pub mod Input
-pub mod Going
 pub mod Hearing
 pub mod Figures
 pub mod Benching

@@ -7,11 +7,11 @@ use Rattle.ut_words.specs.declared.plan.Plan.{Plan}
 use Rattle.ut_words.specs.declared.plan.WordsError.{WordsError}
 use Rattle.ut_words.specs.declared.plan.WordsError.TheVariants as errors
 use Rattle.ut_words.specs.Plans.{Takes, Refuses}
-use Rattle.ut_app.specs.declared.report.Status.{Status}
-use Rattle.ut_app.specs.declared.report.Status.TheVariants.{Usage, Memory}
-use Rattle.ut_app.specs.World.{World}
-use Rattle.ut_app.specs.Serving.{DidNothing}
-use Rattle.ut_app.specs.Ends.{Run}
+use Rattle.ut_run.specs.declared.report.Status.{Status}
+use Rattle.ut_run.specs.declared.report.Status.TheVariants.{Usage, Memory}
+use Rattle.ut_run.specs.World.{World}
+use Rattle.ut_run.specs.Serving.{DidNothing}
+use Rattle.ut_run.specs.Ends.{Run}
 use Rattle.ut_app.specs.Benching.{BenchRun}
 use Rattle.ut_app.specs.Crowds.{CrowdRun}
 

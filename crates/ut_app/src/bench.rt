@@ -7,16 +7,14 @@ ghost use Rattle.ut_words.specs.Plans.{IsInRange};
 ghost use Rattle.ut_app.specs.Figures.{figures_by, figures_text};
 ghost use Rattle.ut_app.specs.Benching.{BenchRun, KeepsNotes, TellsEnd};
 
-use crate::begin::{begin, start_of, status_of};
 use crate::figures::{Figures, put_figures, rows_of};
 use crate::hear::{Notes, answer_line};
-use crate::report::{Report, Status, ended};
-use crate::write::write_all;
 use std::alloc::{AllocError, Global};
 use ut_engine::Engine;
 use ut_gen::Script;
 use ut_merge::Build;
 use ut_outside::{Disk, Sink};
+use ut_run::{Report, Status, begin, ended, open_status, start_of, write_all};
 use ut_words::Plan;
 
 /// At most so many bytes has a line of the script.
@@ -52,7 +50,7 @@ pub(crate) fn bench<K: Sink<D>, D: Disk, B: Build>(
     };
     let mut engine = match begin(alloc, start_of(plan), plan.rows, disk) {
         Ok(engine) => engine,
-        Err(unopened) => return ended(alloc, status_of(unopened.cause)),
+        Err(unopened) => return ended(alloc, open_status(unopened.cause)),
     };
     let mut script = Script::new(plan.seed as u64, plan.size);
     let mut notes = Notes::new(alloc, engine.journal_len());

@@ -4,9 +4,6 @@ ghost use Rattle.ut_words.specs.Plans.{IsInRange};
 ghost use Rattle.ut_crowd.specs.Book.{acks_in};
 ghost use Rattle.ut_app.specs.Crowds.{CrowdRun, IsFrontOf, IsRead, IsUnread, TellsEnd, last_length};
 
-use crate::begin::{begin, start_of, status_of};
-use crate::report::{Report, Status, ended};
-use crate::write::write_all;
 use std::alloc::{AllocError, Global};
 use std::collections::VecDeque;
 use std::sync::Wait;
@@ -15,6 +12,7 @@ use ut_crowd::{Ended, Turn, crowd as answer_all, put_book};
 use ut_engine::Engine;
 use ut_merge::Build;
 use ut_outside::{Ack, AckList, Disk, Hook, Sink, Source, Taken};
+use ut_run::{Report, Status, begin, ended, open_status, start_of, write_all};
 use ut_script::{LineError, Lines};
 use ut_value::Seq;
 use ut_words::Plan;
@@ -46,7 +44,7 @@ pub(crate) fn crowd<
 {
     let engine = match begin(alloc, start_of(plan), plan.rows, disk) {
         Ok(engine) => engine,
-        Err(unopened) => return ended(alloc, status_of(unopened.cause)),
+        Err(unopened) => return ended(alloc, open_status(unopened.cause)),
     };
     let journal = engine.journal_len();
     let lines = match read_all(alloc, plan.lines, source, sink) {

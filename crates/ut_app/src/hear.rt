@@ -1,17 +1,16 @@
 //! Answers lines whose replies aren't written.
 ghost use Rattle.std.specs.Prelude.{◌≡◌, ◌≤◌, ◌<◌, ◌-◌, ◌^◌, ◌++◌, ◌∷◌, [], false, None};
 ghost use Rattle.ut_script.specs.Grammar.{parsed};
-ghost use Rattle.ut_app.specs.Saying.{IsKnown};
+ghost use Rattle.ut_run.specs.Saying.{IsKnown};
 ghost use Rattle.ut_app.specs.Hearing.{Hears, MayHear, noted_by};
 
-use crate::answer::answer;
-use crate::report::{Report, Status};
 use crate::tally::{Heard, Tally, heard_of};
 use std::alloc::Global;
 use ut_engine::Engine;
 use ut_merge::Build;
 use ut_outside::{Ack, AckList, Disk};
 use ut_plain::Parsed;
+use ut_run::{Report, Status, answer};
 use ut_script::parse_line;
 
 /// What a run of a script noted so far: how many lines were taken, what was acknowledged, the length of the journal, and what

@@ -6,13 +6,12 @@ ghost use Rattle.ut_app.specs.Top.{RunsWords, ServesPlan, WordsStatus};
 
 use crate::bench::bench;
 use crate::crowd::crowd;
-use crate::report::{Report, Status, ended};
-use crate::run::run;
 use std::alloc::Global;
 use std::sync::Wait;
 use std::thread::Threads;
 use ut_merge::Builder;
 use ut_outside::{Disk, Hook, Sink, Source};
+use ut_run::{Report, Status, ended, run};
 use ut_words::{Mode, Plan, WordsError, plan_of};
 
 /// Does what the words say, the program's name first: with `--new` it makes the store of the disk, else it opens one. With `run`

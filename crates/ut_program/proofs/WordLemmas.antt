@@ -1,7 +1,7 @@
 -- Runs with words that are told.
 use Rattle.std.proofs.Common.{ℕ, ◌≡◌, List, Option, Some, subst}
-use Rattle.ut_app.specs.declared.report.Status.{Status}
-use Rattle.ut_app.specs.World.{World}
+use Rattle.ut_run.specs.declared.report.Status.{Status}
+use Rattle.ut_run.specs.World.{World}
 use Rattle.ut_program.specs.Program.{AreTold, Tops, Ends, Ran, Unasked}
 
 -- a run with just these words is one with the words that are told

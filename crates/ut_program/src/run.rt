@@ -1,7 +1,7 @@
 //! A run with the words that the program is called with.
 ghost use Rattle.std.specs.Prelude.{◌≡◌, Some, map, string_bytes, IfOk, IfErr};
 ghost use Rattle.std.specs.Process.{exit_status};
-ghost use Rattle.ut_app.specs.World.{World};
+ghost use Rattle.ut_run.specs.World.{World};
 ghost use Rattle.ut_program.specs.Program.{Exits, Ends, HasNoWords, Tops, IsUnasked};
 
 use crate::status::{exit_of, text_of};

@@ -1,10 +1,10 @@
 use Rattle.std.proofs.Common.{ℕ, ◌≡◌, List, refl, sym, ap, ◌∙◌, subst, arith, false}
 use Rattle.ut_outside.specs.Faults.{Rose}
 use Rattle.ut_script.specs.Grammar.{parsed}
-use Rattle.ut_app.specs.declared.begin.Start.{Start}
+use Rattle.ut_run.specs.declared.start.Start.{Start}
 use Rattle.ut_app.specs.declared.tally.Tally.{Tally}
-use Rattle.ut_app.specs.World.{World}
-use Rattle.ut_app.specs.Beginning.{Begun, NotBegun}
+use Rattle.ut_run.specs.World.{World}
+use Rattle.ut_run.specs.Beginning.{Begun, NotBegun}
 use Rattle.ut_app.specs.Hearing.{Hears}
 use Rattle.ut_app.specs.Benching.{IsBenching, sink_of, TellsEnd, BenchRun}
 use Rattle.ut_app.proofs.BenchLemmas.{bench_early, bench-start, few_lines, bench-more, bench-fault, bench_no_memory, bench_reported, bench_faulted, end_through, noted_same, bench_told, fault_heard, sinking}
@@ -20,7 +20,7 @@ returns-in-Err-begin g c = λ source asks reads.
     let ended = c.ended-in-Err-begin.ensures in
     let back = c.disk-1.given.1 (sym c.in-Err-begin.ensures.loan) in
     subst (λ (d : g.row.D.Denot). BenchRun c.args.plan.now before (record { source = source; asks = asks; reads = reads; sink = before.sink; marks = before.marks; writes = before.writes; disk = g.D.Disk.view d }) c.ended-in-Err-begin.result.status c.ended-in-Err-begin.result.lines c.ended-in-Err-begin.result.acks.items c.ended-in-Err-begin.result.journal) (sym back)
-    (bench_early c.args.plan.now before (g.D.Disk.view c.in-Err-begin.unopened.disk.now) c.status_of.result _ _ _ _ ended.status ended.lines ended.acks ended.journal (subst (λ (s : Start). NotBegun s (g.D.Disk.view c.args.disk.now) (g.D.Disk.view c.in-Err-begin.unopened.disk.now) c.status_of.result) c.start_of.ensures (c.in-Err-begin.ensures.not_begun c.status_of.result c.status_of.ensures)))
+    (bench_early c.args.plan.now before (g.D.Disk.view c.in-Err-begin.unopened.disk.now) c.open_status.result _ _ _ _ ended.status ended.lines ended.acks ended.journal (subst (λ (s : Start). NotBegun s (g.D.Disk.view c.args.disk.now) (g.D.Disk.view c.in-Err-begin.unopened.disk.now) c.open_status.result) c.start_of.ensures (c.in-Err-begin.ensures.not_begun c.open_status.result c.open_status.ensures)))
 
 pub loop-end-init : goal.loop-end-init
 loop-end-init g c = record {

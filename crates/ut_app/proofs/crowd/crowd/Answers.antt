@@ -1,10 +1,10 @@
 use Rattle.std.proofs.Common.{List, ℕ, ◌≡◌, length, refl, sym, subst, ap, ◌∙◌}
 use Rattle.ut_engine.specs.Lent.{Lent}
 use Rattle.ut_crowd.specs.declared.book.Turn.{Turn}
-use Rattle.ut_app.specs.declared.begin.Start.{Start}
-use Rattle.ut_app.specs.declared.report.Status.TheVariants.{Memory}
-use Rattle.ut_app.specs.World.{World}
-use Rattle.ut_app.specs.Beginning.{Begun, NotBegun}
+use Rattle.ut_run.specs.declared.start.Start.{Start}
+use Rattle.ut_run.specs.declared.report.Status.TheVariants.{Memory}
+use Rattle.ut_run.specs.World.{World}
+use Rattle.ut_run.specs.Beginning.{Begun, NotBegun}
 use Rattle.ut_app.specs.Benching.{Sinking, sink_of}
 use Rattle.ut_app.specs.Crowds.{CrowdRun, TellsEnd, last_length}
 use Rattle.ut_app.proofs.CrowdLemmas.{crowd_early, crowd_unrun, lacks_crowd, crowd_late}
@@ -16,7 +16,7 @@ returns-in-Err g c =
     let ended = c.ended.ensures in
     let back = c.disk-1.given.1 (sym c.in-Err.ensures.loan) in
     subst (λ (d : g.row.D.Denot). CrowdRun c.args.plan.now before (record { source = before.source; asks = before.asks; reads = before.reads; sink = before.sink; marks = before.marks; writes = before.writes; disk = g.D.Disk.view d }) c.ended.result.status c.ended.result.lines c.ended.result.acks.items c.ended.result.journal) (sym back)
-    (crowd_early c.args.plan.now before (g.D.Disk.view c.in-Err.unopened.disk.now) c.status_of.result _ _ _ _ ended.status ended.lines ended.acks ended.journal (subst (λ (s : Start). NotBegun s (g.D.Disk.view c.args.disk.now) (g.D.Disk.view c.in-Err.unopened.disk.now) c.status_of.result) c.start_of.ensures (c.in-Err.ensures.not_begun c.status_of.result c.status_of.ensures)))
+    (crowd_early c.args.plan.now before (g.D.Disk.view c.in-Err.unopened.disk.now) c.open_status.result _ _ _ _ ended.status ended.lines ended.acks ended.journal (subst (λ (s : Start). NotBegun s (g.D.Disk.view c.args.disk.now) (g.D.Disk.view c.in-Err.unopened.disk.now) c.open_status.result) c.start_of.ensures (c.in-Err.ensures.not_begun c.open_status.result c.open_status.ensures)))
 
 pub returns-in-Err-read_all : goal.returns-in-Err-read_all
 returns-in-Err-read_all g c =

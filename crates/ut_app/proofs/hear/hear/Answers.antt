@@ -1,7 +1,7 @@
 use Rattle.std.proofs.Common.{sym, subst, refl}
 use Rattle.ut_plain.specs.declared.statement.Parsed.{Parsed}
-use Rattle.ut_app.specs.Saying.{IsKnown}
-use Rattle.ut_app.proofs.LineLemmas.{line_known}
+use Rattle.ut_run.specs.Saying.{IsKnown}
+use Rattle.ut_run.proofs.LineLemmas.{line_known}
 use Rattle.ut_app.proofs.HearLemmas.{hears_lacking}
 use Rattle.ut_app.proofs.hear.hear.Goals as goal
 

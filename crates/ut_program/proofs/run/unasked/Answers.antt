@@ -1,6 +1,6 @@
 use Rattle.std.proofs.Common.{refl}
 use Rattle.std.specs.Prelude.{[]}
-use Rattle.ut_app.proofs.RunLemmas.{did_nothing}
+use Rattle.ut_run.proofs.RunLemmas.{did_nothing}
 use Rattle.ut_program.proofs.run.unasked.Goals as goal
 
 pub returns : goal.returns

@@ -1,0 +1,13 @@
+pub mod WriteLemmas
+pub mod LineLemmas
+pub mod SayLemmas
+pub mod TurnLemmas
+pub mod BeginLemmas
+pub mod KeepLemmas
+pub mod TellLemmas
+pub mod MarkLemmas
+pub mod AskLemmas
+pub mod CourseLemmas
+pub mod ServeLemmas
+pub mod EndsLemmas
+pub mod RunLemmas
