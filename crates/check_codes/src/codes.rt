@@ -30,8 +30,8 @@ fn sizes(rt: &impl Abort, alloc: Global, codes: &[u32], reach: u32) -> Result<[u
     Ok([rows * width, runs, rows + (rows - frequent) * width])
 }
 
-// A vector of the codes, which has this form.
-fn vector_of(
+/// A vector of the codes, which has this form.
+pub(crate) fn vector_of(
     rt: &impl Abort,
     alloc: Global,
     codes: &[u32],

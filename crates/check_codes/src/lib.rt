@@ -6,6 +6,8 @@ mod codes;
 #[cfg(test)]
 mod dictmerge;
 #[cfg(test)]
+mod eight;
+#[cfg(test)]
 mod mask;
 #[cfg(test)]
 mod prefix;
@@ -15,3 +17,5 @@ mod recode;
 mod resort;
 #[cfg(test)]
 mod unsorted;
+#[cfg(test)]
+mod weigh;

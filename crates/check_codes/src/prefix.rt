@@ -10,8 +10,12 @@ use std::test::Fail;
 use ut_key::{Cmp, KeyList, Steps, is_ascending};
 use ut_prefix::{DictChain, PrefixDict};
 
-// The dictionary of a few keys that ascend.
-fn dictionary(rt: &impl Abort, alloc: Global, keys: &[&[u8]]) -> Result<PrefixDict, AllocError> {
+/// The dictionary of a few keys that ascend.
+pub(crate) fn dictionary(
+    rt: &impl Abort,
+    alloc: Global,
+    keys: &[&[u8]],
+) -> Result<PrefixDict, AllocError> {
     let mut list = KeyList::with_capacity(alloc, keys.len(), 8 * keys.len())?;
     for key in keys {
         assert!(rt; key.len() < 256);
@@ -68,8 +72,8 @@ fn look_up<L: Ledger>(rt: &impl Abort, alloc: Global, blank: Blank) -> Result<()
     Ok(())
 }
 
-// Adds a dictionary of few keys that the chain lacks.
-fn push_small<L: Ledger>(
+/// Adds a dictionary of few keys that the chain lacks.
+pub(crate) fn push_small<L: Ledger>(
     rt: &impl Abort,
     chain: &mut DictChain,
     dict: Arc<PrefixDict>,

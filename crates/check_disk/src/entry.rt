@@ -13,7 +13,7 @@ const BEGUN: &[u8] = b"\x03\x01\0\0\0\x02\x01\x01";
 
 const ENDED: &[u8] = b"\x04\x07\0\0\0";
 
-fn are_k_and_v(columns: &[Column]) -> bool {
+pub(crate) fn are_k_and_v(columns: &[Column]) -> bool {
     match columns {
         [k, v] => {
             k.kind == Kind::Int
@@ -25,7 +25,7 @@ fn are_k_and_v(columns: &[Column]) -> bool {
     }
 }
 
-fn are_5_and_a(values: &[Value]) -> bool {
+pub(crate) fn are_5_and_a(values: &[Value]) -> bool {
     match values {
         [Value::Int(5), Value::Text(text)] => same_bytes(text.as_slice(), b"a"),
         _ => false,

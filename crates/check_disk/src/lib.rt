@@ -8,7 +8,11 @@ mod entry;
 #[cfg(test)]
 mod image;
 #[cfg(test)]
+mod insert;
+#[cfg(test)]
 mod pages;
+#[cfg(test)]
+mod pieces;
 #[cfg(test)]
 mod reading;
 #[cfg(test)]

@@ -54,3 +54,40 @@ fn rows_are_lists_or_stand_by_columns(rt: HostRuntime) -> Result<(), Fail> {
     assert_eq!(rt; number(&rt, &rows, 2, 0), 8);
     Ok(())
 }
+
+// The values of a column, and where each row's stands among them.
+fn shares(rt: &impl Abort, cells: &Cells, numbers: &[i64], places: &[u32]) {
+    let (values, at) = cells.shared();
+    assert_eq!(rt; values.len(), numbers.len());
+    for (value, number) in values.iter().zip(numbers) {
+        match value {
+            Value::Int(found) => assert_eq!(rt; found, number),
+            Value::Text(_) => panic!(rt; "a text"),
+        }
+    }
+    assert_eq!(rt; at, places);
+}
+
+#[test]
+fn columns_hand_out_what_rows_share(rt: HostRuntime) -> Result<(), Fail> {
+    let alloc = rt.alloc();
+    assert!(rt; Rows::of_lists(Seq::new(alloc)).columns().is_none());
+    let none = Rows::of_columns(0, Vec::new(alloc));
+    assert!(rt; matches!(none.columns(), Some([])));
+    let only = column(alloc)?;
+    assert_eq!(rt; only.len(), 3);
+    let mut columns = Vec::new(alloc);
+    columns.push(only)?;
+    let rows = Rows::of_columns(3, columns);
+    match rows.columns() {
+        Some([only]) => shares(&rt, only, &[7, 8], &[1, 0, 1]),
+        _ => panic!(&rt; "not one column"),
+    }
+    shares(
+        &rt,
+        &Cells::of(numbers(alloc, &[9])?, Vec::new(alloc)),
+        &[9],
+        &[],
+    );
+    Ok(())
+}

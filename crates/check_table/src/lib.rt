@@ -4,6 +4,8 @@
 #[cfg(test)]
 mod joint;
 #[cfg(test)]
+mod load;
+#[cfg(test)]
 mod merge;
 #[cfg(test)]
 mod parts;
@@ -11,3 +13,5 @@ mod parts;
 mod scan;
 #[cfg(test)]
 mod table;
+#[cfg(test)]
+mod tally;

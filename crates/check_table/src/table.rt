@@ -45,13 +45,13 @@ fn row(rt: &impl Abort, alloc: Global, id: u32, number: i64, text: &[u8]) -> Res
 
 /// Where a row comes in.
 #[derive(Clone, Copy)]
-enum Stage {
+pub(crate) enum Stage {
     First,
     Second,
 }
 
-// A row is inserted into the first stage, or loaded into the second.
-fn add(
+/// A row is inserted into the first stage, or loaded into the second.
+pub(crate) fn add(
     rt: &impl Abort,
     alloc: Global,
     table: &mut Table,
@@ -95,8 +95,8 @@ fn move_all(rt: &impl Abort, table: &mut Table, next: u32) -> Result<(), AllocEr
     Ok(())
 }
 
-// Begins a merge that re-sorts nothing.
-fn begin(
+/// Begins a merge that re-sorts nothing.
+pub(crate) fn begin(
     alloc: Global,
     table: &mut Table,
     fates: &Fates,
@@ -121,8 +121,8 @@ fn begin(
     Ok(job)
 }
 
-// Ends a merge by what is built of its job.
-fn end<B: Build>(
+/// Ends a merge by what is built of its job.
+pub(crate) fn end<B: Build>(
     builder: &B,
     alloc: Global,
     table: &mut Table,
@@ -139,8 +139,8 @@ fn end<B: Build>(
     Ok(())
 }
 
-// A comparison by the place of its column.
-fn placed(rt: &impl Abort, columns: &[Column], pred: &Pred) -> ColumnPred
+/// A comparison by the place of its column.
+pub(crate) fn placed(rt: &impl Abort, columns: &[Column], pred: &Pred) -> ColumnPred
     ensures { Compiles columns.now (pred.now ∷ []) (result ∷ []) }
 {
     let known = has_column(columns, pred.column.as_slice());
@@ -160,8 +160,13 @@ fn placed(rt: &impl Abort, columns: &[Column], pred: &Pred) -> ColumnPred
     }
 }
 
-// A comparison of the numbers of the rows.
-fn number_pred(rt: &impl Abort, alloc: Global, op: Cmp, number: i64) -> Result<Pred, AllocError> {
+/// A comparison of the numbers of the rows.
+pub(crate) fn number_pred(
+    rt: &impl Abort,
+    alloc: Global,
+    op: Cmp,
+    number: i64,
+) -> Result<Pred, AllocError> {
     Ok(Pred {
         column: name(rt, alloc, b"k")?,
         op,
@@ -211,8 +216,8 @@ fn has(
     Ok(())
 }
 
-// Rows 1 and 3 have the number 5, and row 2 a negative one.
-fn finds_each(
+/// Rows 1 and 3 have the number 5, and row 2 a negative one.
+pub(crate) fn finds_each(
     rt: &impl Abort,
     alloc: Global,
     table: &Table,
@@ -254,22 +259,29 @@ fn merge<B: Build>(
     finds_each(rt, alloc, table, fates, next)
 }
 
-// A table of rows 1 and 2 in the second stage, and row 3 in the first.
-fn three_rows(rt: &impl Abort, alloc: Global) -> Result<Table, AllocError>
-    ensures { IfOk result (λ table. IsAtRest 4 table.stages) }
+/// A table of a number and a text, without rows.
+pub(crate) fn bare(rt: &impl Abort, alloc: Global) -> Result<Table, AllocError>
+    ensures { IfOk result (λ table. IsAtRest 1 table.stages) }
 {
     let mut columns = Seq::new(alloc);
     columns.push(column(rt, alloc, b"k", Kind::Int)?)?;
     columns.push(column(rt, alloc, b"v", Kind::Text)?)?;
-    let mut table = Table::new(alloc, columns)?;
+    Table::new(alloc, columns)
+}
+
+/// A table of rows 1 and 2 in the second stage, and row 3 in the first.
+pub(crate) fn three_rows(rt: &impl Abort, alloc: Global) -> Result<Table, AllocError>
+    ensures { IfOk result (λ table. IsAtRest 4 table.stages) }
+{
+    let mut table = bare(rt, alloc)?;
     add(rt, alloc, &mut table, Stage::Second, 1, 5, b"a")?;
     add(rt, alloc, &mut table, Stage::Second, 2, -7, b"b")?;
     add(rt, alloc, &mut table, Stage::First, 3, 5, b"c")?;
     Ok(table)
 }
 
-// How many rows stand in L1, in L2 and in the parts.
-fn has_shape(
+/// How many rows stand in L1, in L2 and in the parts.
+pub(crate) fn has_shape(
     rt: &impl Abort,
     alloc: Global,
     table: &Table,
@@ -285,66 +297,8 @@ fn has_shape(
     Ok(())
 }
 
-// Of all rows main has one with the least number and two with the other, and rows 4 and 5 stand
-// outside.
-fn tallies_all(
-    rt: &impl Abort,
-    alloc: Global,
-    table: &Table,
-    fates: &Fates,
-) -> Result<(), AllocError>
-    requires { SeenOnce table.now.stages fates.now 0 None }
-{
-    assert!(rt; table.columns().len() == 2);
-    let all = table.tally(alloc, fates, 0, None, &[], 0)?;
-    assert!(rt; all.counts.as_slice() == [1, 2].as_slice());
-    assert!(rt; all.rest.as_slice().len() == 2);
-    assert!(rt; all.rest[0].id == 4);
-    assert!(rt; all.rest[1].id == 5);
-    Ok(())
-}
-
-// Of the rows whose number meets a comparison main has so many with each code, and one stands
-// outside.
-fn tallies(
-    rt: &impl Abort,
-    alloc: Global,
-    table: &Table,
-    fates: &Fates,
-    op: Cmp,
-    number: i64,
-    counts: &[u32],
-    outside: u32,
-) -> Result<(), AllocError>
-    requires { SeenOnce table.now.stages fates.now 0 None }
-{
-    assert!(rt; table.columns().len() == 2);
-    let pred = number_pred(rt, alloc, op, number)?;
-    let preds = [placed(rt, table.columns(), &pred)];
-    let some = table.tally(alloc, fates, 0, None, &preds, 0)?;
-    assert!(rt; some.counts.as_slice() == counts);
-    assert!(rt; some.rest.as_slice().len() == 1);
-    assert!(rt; some.rest[0].id == outside);
-    Ok(())
-}
-
-// The tallies of rows in two parts and in both other stages.
-fn tallies_each(
-    rt: &impl Abort,
-    alloc: Global,
-    table: &Table,
-    fates: &Fates,
-    next: u32,
-) -> Result<(), AllocError>
-    requires { AreNumbered next table.now.stages }
-{
-    tallies_all(rt, alloc, table, fates)?;
-    tallies(rt, alloc, table, fates, Cmp::Eq, 5, &[0, 2], 5)?;
-    tallies(rt, alloc, table, fates, Cmp::Lt, 5, &[1, 0], 4)
-}
-
-// Of three rows two move to one part of main and one to another, and each is found all the time.
-fn in_two_parts<B: Build>(
+/// Of three rows two move to one part of main and one to another, and each is found all the time.
+pub(crate) fn in_two_parts<B: Build>(
     rt: &impl Abort,
     builder: &B,
     alloc: Global,
@@ -382,18 +336,5 @@ fn rows_are_found_in_each_stage_and_behind_merges(rt: HostRuntime) -> Result<(),
     let kind = MergeKind::Classic;
     merge(&rt, &builder, alloc, &mut table, &fates, kind, 4)?;
     is_one_part(&rt, alloc, &table)?;
-    Ok(())
-}
-
-#[test]
-fn codes_are_counted_in_two_parts(rt: HostRuntime) -> Result<(), Fail> {
-    let alloc = rt.alloc();
-    let fates = Fates::new(alloc)?;
-    let builder = Builder::alone(&rt, &NoHook);
-    let mut table = three_rows(&rt, alloc)?;
-    in_two_parts(&rt, &builder, alloc, &mut table, &fates)?;
-    add(&rt, alloc, &mut table, Stage::Second, 4, -7, b"d")?;
-    add(&rt, alloc, &mut table, Stage::First, 5, 5, b"e")?;
-    tallies_each(&rt, alloc, &table, &fates, 6)?;
     Ok(())
 }
