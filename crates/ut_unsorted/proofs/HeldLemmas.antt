@@ -1,11 +1,12 @@
 -- The keys that a dictionary holds, one more, and in the other form.
-use Rattle.std.proofs.Common.{◌≡◌, ℕ, suc, ◌<◌, Bool, true, false, cond, ◌||◌, List, [], ◌∷◌, ◌++◌, length, get_or, fold, Some, None, if◌then◌else◌, ltb, position, ap, sym, ◌∙◌, subst, arith, refl}
+use Rattle.std.proofs.Common.{◌≡◌, ℕ, suc, ◌<◌, Bool, true, false, cond, ◌||◌, List, [], ◌∷◌, ◌++◌, length, get_or, fold, Option, Some, None, if◌then◌else◌, ltb, position, ap, sym, ◌∙◌, subst, arith, refl}
 use Rattle.std.specs.List.{list_any, position_or_len, IsDistinct}
 use Rattle.std.proofs.lemmas.Map.Keys.{apart_from_distinct}
 use Rattle.std.specs.Cmp.Lexicographic.{nat_list_eq_equiv}
 use Rattle.std.proofs.lemmas.List.{append_assoc, append-nil, length-append, get_or_append_left}
 use Rattle.std.proofs.Math.Seq.{get_or-append_seam}
 use Rattle.ut_unsorted.specs.FirstSeen.{key_eq, note, first_seen}
+use Rattle.ut_unsorted.specs.Rising.{risen}
 use Rattle.ut_unsorted.proofs.FirstSeenLemmas.{absent-length}
 
 -- a key that is found is not new
@@ -25,6 +26,10 @@ note-found k ks i e = by (list_any (key_eq k) ks) refl
     by : (b : Bool) → list_any (key_eq k) ks ≡ b → ks ≡ (if b then ks else ks ++ k ∷ [])
     by true f = refl
     by false f = none f (ltb (position_or_len (key_eq k) ks) (length ks)) refl e
+
+pub risen-found : (r : Option ℕ) (ks : List (List ℕ)) (k : List ℕ) → r ≡ position (key_eq k) ks → ks ≡ risen r ks k
+risen-found (Some i) ks k e = note-found k ks i e
+risen-found None ks k e = refl
 
 -- keys that differ are what is first seen of them
 fresh : (done : List (List ℕ)) (k : List ℕ) (rest : List (List ℕ)) → IsDistinct key_eq (done ++ k ∷ rest) → list_any (key_eq k) done ≡ false

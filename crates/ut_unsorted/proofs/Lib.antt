@@ -3,3 +3,4 @@ pub mod HeldLemmas
 pub mod PostingLemmas
 mod WordLemmas
 mod OrderLemmas
+mod RisingLemmas

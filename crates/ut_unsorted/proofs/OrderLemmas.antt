@@ -21,7 +21,7 @@ map-same : (xs : List ℕ) → map (λ x. x) xs ≡ xs
 map-same [] = refl
 map-same (x ∷ xs) = ap (λ l. x ∷ l) (map-same xs)
 
-range-more : (n : ℕ) → range_with_len 0 (n + 1) ≡ range_with_len 0 n ++ n ∷ []
+pub range-more : (n : ℕ) → range_with_len 0 (n + 1) ≡ range_with_len 0 n ++ n ∷ []
 range-more n = sym (map-same (range_with_len 0 (n + 1))) ∙ map-range_with_len_more (λ x. x) 0 n n (omega arith) ∙ ap (λ l. l ++ n ∷ []) (map-same (range_with_len 0 n))
 
 pub codes-push : {X : Type 0} (code : X → ℕ) (xs : List X) (x : X) → map code xs ≡ range_with_len 0 (code x) → map code (xs ++ x ∷ []) ≡ range_with_len 0 (code x + 1)
@@ -29,7 +29,7 @@ codes-push code xs x h = map-append code xs (x ∷ []) ∙ ap (λ l. l ++ code x
 
 -- ---- keys that differ, none below one in front of it
 
-below : (a b : List ℕ) → key_eq a b ≡ false → is_lt (key_cmp b a) ≡ false → key_cmp a b ≡ Less
+pub below : (a b : List ℕ) → key_eq a b ≡ false → is_lt (key_cmp b a) ≡ false → key_cmp a b ≡ Less
 below a b differ above = nat_list_cmp_total.antisymm a b ∙ by (key_cmp b a) refl
   where
     tied : key_eq b a ≡ is_eq (key_cmp b a)
@@ -40,7 +40,7 @@ below a b differ above = nat_list_cmp_total.antisymm a b ∙ by (key_cmp b a) re
     by Equal is = absurd (true≢false (sym (nat_list_eq_equiv.symm a b ∙ tied ∙ ap is_eq is) ∙ differ))
     by Greater is = refl
 
-keys_at-all : (keys : List (List ℕ)) → keys_at keys (range_with_len 0 (length keys)) ≡ keys
+pub keys_at-all : (keys : List (List ℕ)) → keys_at keys (range_with_len 0 (length keys)) ≡ keys
 keys_at-all keys =
     let n = length-map-range_with_len (λ c. get_or keys c []) 0 (length keys) in
     ext_get_or [] (keys_at keys (range_with_len 0 (length keys))) keys n (λ i lt. get_or-map-range_with_len (λ c. get_or keys c []) 0 (length keys) i i [] (omega (arith, lt, n)) (omega arith))

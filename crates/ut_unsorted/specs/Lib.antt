@@ -3,3 +3,4 @@ pub mod FirstSeen
 pub mod Hashed
 pub mod HeldKeys
 pub mod Posted
+pub mod Rising

@@ -5,10 +5,10 @@ ghost use Rattle.std.specs.List.Sorted.{IsPermutation};
 ghost use Rattle.ut_key.specs.Keys.{IsAscending};
 ghost use Rattle.ut_unsorted.specs.FirstSeen.{key_eq, note, keys_at};
 
-use crate::held::{Held, intern_text, intern_word, text_code, texts_of, word_code};
+use crate::held::{Held, intern_text, intern_word, text_code, texts_of, word_code, words_of};
 use crate::key::Word;
-use crate::order::{order_texts, order_words};
-use indexmap::IndexSet;
+use crate::order::{order_rising, order_texts, order_words};
+use crate::rising::Rising;
 use std::alloc::{AllocError, Global};
 use std::marker::Model;
 use std::sync::ledger::Ledger;
@@ -35,7 +35,7 @@ impl UnsortedDict {
         ensures { result ≡ [] }
     {
         UnsortedDict {
-            held: Held::Words(IndexSet::new(alloc)),
+            held: Held::Rising(Rising::new(alloc)),
             alloc,
         }
     }
@@ -45,6 +45,7 @@ impl UnsortedDict {
         ensures { result ≡ length self.now }
     {
         match &self.held {
+            Held::Rising(words) => words.as_slice().len() as u32,
             Held::Words(words) => words.as_slice().len() as u32,
             Held::Texts(texts) => texts.as_slice().len() as u32,
         }
@@ -58,16 +59,50 @@ impl UnsortedDict {
         ensures keys { OnOk result (self.new ≡ note self.old key.now) }
         ensures err { OnErr result (self.new ≡ self.old) }
     {
-        let alloc = self.alloc;
-        let mut texts = match &mut self.held {
-            Held::Texts(texts) => return intern_text(alloc, texts, key),
+        match &mut self.held {
+            Held::Texts(texts) => return intern_text(self.alloc, texts, key),
             Held::Words(words) => {
                 if key.len() == 8 {
                     return intern_word(words, Word::of(key));
                 }
-                texts_of(alloc, words)?
             }
+            Held::Rising(words) => {
+                if key.len() == 8 {
+                    if let Some(code) = words.intern(Word::of(key))? {
+                        return Ok(code);
+                    }
+                }
+            }
+        }
+        self.intern_apart(key)
+    }
+
+    // The same, with the keys in another form. It is rare, and apart so that no other call pays for its locals.
+    #[cold]
+    #[inline(never)]
+    fn intern_apart(&mut self, key: &[u8]) -> Result<u32, AllocError>
+        requires short { length key.now ≤ 255 }
+        requires count { length self.old < 2 ^ 31 }
+        ensures code { IfOk result (λ c. c ≡ position_or_len (key_eq key.now) self.old) }
+        ensures keys { OnOk result (self.new ≡ note self.old key.now) }
+        ensures err { OnErr result (self.new ≡ self.old) }
+    {
+        let alloc = self.alloc;
+        if let Held::Texts(texts) = &mut self.held {
+            return intern_text(alloc, texts, key);
+        }
+        let words = match &self.held {
+            Held::Rising(words) => words.as_slice(),
+            Held::Words(words) => words.as_slice(),
+            Held::Texts(_) => unreachable!(),
         };
+        if key.len() == 8 {
+            let mut words = words_of(alloc, words)?;
+            let code = intern_word(&mut words, Word::of(key))?;
+            self.held = Held::Words(words);
+            return Ok(code);
+        }
+        let mut texts = texts_of(alloc, words)?;
         let code = intern_text(alloc, &mut texts, key)?;
         self.held = Held::Texts(texts);
         Ok(code)
@@ -79,6 +114,7 @@ impl UnsortedDict {
         ensures { result ≡ position (key_eq key.now) self.now }
     {
         match &self.held {
+            Held::Rising(words) => words.code(key),
             Held::Words(words) => word_code(words, key),
             Held::Texts(texts) => text_code(texts, key),
         }
@@ -91,6 +127,7 @@ impl UnsortedDict {
         ensures short { length result.now ≤ 255 }
     {
         match &self.held {
+            Held::Rising(words) => words.as_slice()[code as usize].as_slice(),
             Held::Words(words) => words.as_slice()[code as usize].as_slice(),
             Held::Texts(texts) => texts.as_slice()[code as usize].as_slice(),
         }
@@ -113,6 +150,7 @@ impl UnsortedDict {
         ensures ascending { IfOk result (λ codes. IsAscending (keys_at self.now codes.items)) }
     {
         match &self.held {
+            Held::Rising(words) => order_rising(alloc, words.as_slice()),
             Held::Words(words) => order_words(alloc, words.as_slice()),
             Held::Texts(texts) => order_texts(alloc, texts.as_slice()),
         }
@@ -124,6 +162,7 @@ impl UnsortedDict {
         ensures { self.new ≡ take n self.old }
     {
         match &mut self.held {
+            Held::Rising(words) => words.truncate(n as usize),
             Held::Words(words) => words.truncate(n as usize),
             Held::Texts(texts) => texts.truncate(n as usize),
         }

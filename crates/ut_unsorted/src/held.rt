@@ -1,15 +1,17 @@
-//! The two forms in which different keys are held: as words while each has eight bytes, then as texts.
+//! The forms in which different keys are held: ascending words at first, then words, then texts.
 ghost use Rattle.std.specs.Prelude.{◌≡◌, ◌^◌, ◌<◌, ◌≤◌, length, position, IfOk, OnOk, OnErr};
-ghost use Rattle.std.specs.List.{position_or_len};
+ghost use Rattle.std.specs.List.{position_or_len, IsDistinct};
 ghost use Rattle.ut_unsorted.specs.FirstSeen.{key_eq, note};
 
 use crate::key::{Sought, Text, Word};
+use crate::rising::Rising;
 use indexmap::IndexSet;
 use std::alloc::{AllocError, Global};
 
-/// The keys, in one of the two forms.
+/// The keys, in one of the three forms.
 #[derive(Drop)]
 pub enum Held {
+    Rising(Rising),
     Words(IndexSet<Word>),
     Texts(IndexSet<Text>),
 }
@@ -45,11 +47,23 @@ pub(crate) fn intern_text(
     Ok(code as u32)
 }
 
-/// The same keys in the other form.
-pub(crate) fn texts_of(alloc: Global, words: &IndexSet<Word>) -> Result<IndexSet<Text>, AllocError>
-    ensures { IfOk result (λ t. t.keys ≡ words.now.keys) }
+/// The same keys in a set.
+pub(crate) fn words_of(alloc: Global, words: &[Word]) -> Result<IndexSet<Word>, AllocError>
+    requires { IsDistinct key_eq words.now }
+    ensures { IfOk result (λ set. set.keys ≡ words.now) }
 {
-    let words = words.as_slice();
+    let mut set = IndexSet::with_capacity(alloc, words.len())?;
+    for word in words {
+        set.insert_full(Word::of(word.as_slice()))?;
+    }
+    Ok(set)
+}
+
+/// The same keys as texts.
+pub(crate) fn texts_of(alloc: Global, words: &[Word]) -> Result<IndexSet<Text>, AllocError>
+    requires { IsDistinct key_eq words.now }
+    ensures { IfOk result (λ t. t.keys ≡ words.now) }
+{
     let mut texts = IndexSet::with_capacity(alloc, words.len())?;
     for word in words {
         texts.insert_full(Text::of(alloc, word.as_slice())?)?;

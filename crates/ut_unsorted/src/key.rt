@@ -12,10 +12,11 @@ use std::alloc::{AllocError, Global};
 use std::hash::{Hash, Hasher};
 use std::marker::Model;
 
-/// A key of eight bytes, as that of a number.
+/// A key of eight bytes, as that of a number. It lies as a number does, so that one is read and written at once.
 #[derive(Drop)]
 pub struct Word {
     bytes: [u8; 8],
+    align: [u64; 0],
 }
 
 impl Model for Word {
@@ -35,6 +36,7 @@ impl Word {
         match key {
             [a, b, c, d, e, f, g, h] => Word {
                 bytes: [*a, *b, *c, *d, *e, *f, *g, *h],
+                align: [],
             },
             _ => unreachable!(),
         }

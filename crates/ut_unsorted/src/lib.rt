@@ -6,6 +6,7 @@ mod held;
 mod key;
 mod order;
 mod postings;
+mod rising;
 
 pub use dictionary::UnsortedDict;
 pub use postings::Postings;

@@ -61,6 +61,26 @@ fn text_codes(alloc: Global, all: &[CodedText<'_>]) -> Result<Vec<u32>, AllocErr
     all.iter().map(|text| text.code).collect(alloc)
 }
 
+fn codes_below(alloc: Global, len: u32) -> Result<Vec<u32>, AllocError>
+    ensures { IfOk result (λ codes. codes.items ≡ range_with_len 0 len) }
+{
+    let mut codes = Vec::with_capacity(alloc, len as usize)?;
+    for code in 0..len {
+        codes.push(code)?;
+    }
+    Ok(codes)
+}
+
+/// The codes of words that ascend.
+pub(crate) fn order_rising(alloc: Global, words: &[Word]) -> Result<Vec<u32>, AllocError>
+    requires few { length words.now < 2 ^ 32 }
+    requires rising { IsAscending words.now }
+    ensures all { IfOk result (λ codes. IsPermutation (range_with_len 0 (length words.now)) codes.items) }
+    ensures ascending { IfOk result (λ codes. IsAscending (keys_at words.now codes.items)) }
+{
+    codes_below(alloc, words.len() as u32)
+}
+
 /// The codes of words, which are compared as numbers.
 pub(crate) fn order_words(alloc: Global, words: &[Word]) -> Result<Vec<u32>, AllocError>
     requires few { length words.now < 2 ^ 32 }

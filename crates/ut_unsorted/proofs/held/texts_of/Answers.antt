@@ -7,10 +7,10 @@ use Rattle.ut_unsorted.proofs.held.texts_of.Goals as goal
 
 pub loop-word-preserved : goal.loop-word-preserved
 loop-word-preserved c =
-    let words = c.as_slice-words.result.now in
+    let words = c.args.words.now in
     let i = c.loop-word.word-index in
     let word = c.word-item.result in
-    let lt : c.loop-word.word-index < length c.as_slice-words.result.now = omega arith in
+    let lt : c.loop-word.word-index < length c.args.words.now = omega arith in
     c.in_ok-insert_full.ensures.keys
     ∙ ap (note c.loop-word.texts.keys) (c.in_ok-of.ensures ∙ c.as_slice.ensures.bytes)
     ∙ ap (λ ks. note ks word) c.loop-word.invariant
@@ -18,9 +18,8 @@ loop-word-preserved c =
 
 pub returns : goal.returns
 returns c =
-    let words = c.as_slice-words.result.now in
-    let n : length c.as_slice-words.result.now ≤ c.loop-word.word-index = c.loop-word-test.false in
+    let words = c.args.words.now in
+    let n : length c.args.words.now ≤ c.loop-word.word-index = c.loop-word-test.false in
     c.loop-word.invariant
     ∙ ap first_seen (take_all c.loop-word.word-index words n)
-    ∙ ap first_seen c.as_slice-words.ensures.keys
-    ∙ distinct-first_seen c.args.words.now.keys c.as_slice-words.ensures.unique
+    ∙ distinct-first_seen words c.requires

@@ -1,5 +1,4 @@
-use Rattle.std.proofs.Common.{◌≡◌, [], ◌≤◌, length, map, get_or, All}
-use Rattle.std.specs.Int.{to_be_bytes, w64}
+use Rattle.std.proofs.Common.{◌≡◌, [], ◌≤◌, map, get_or, All}
 use Rattle.std.specs.List.{range_with_len}
 use Rattle.ut_unsorted.proofs.order.coded_texts.Given as goal
 

@@ -1,4 +1,4 @@
-use Rattle.std.proofs.Common.{◌≡◌, ◌∙◌, [], get_or, map, All, sym, ap, subst, arith, refl}
+use Rattle.std.proofs.Common.{◌∙◌, [], map, All, sym, ap, subst, arith, refl}
 use Rattle.std.proofs.lemmas.List.{get_or_read_under}
 use Rattle.std.proofs.lemmas.List.Elements.{All-push}
 use Rattle.ut_unsorted.specs.declared.order.CodedWord.{CodedWord}

@@ -1,4 +1,4 @@
-use Rattle.std.proofs.Common.{◌≡◌, ◌∙◌, length, map, get_or, sym, ap, subst, arith, rules}
+use Rattle.std.proofs.Common.{◌∙◌, length, map, get_or, sym, ap, subst, arith, rules}
 use Rattle.std.specs.Int.{to_be_bytes, w64}
 use Rattle.std.specs.List.{range_with_len}
 use Rattle.std.specs.List.Sorted.{IsPermutation}
