@@ -12,7 +12,7 @@ use Rattle.ut_exact.specs.Places.{StagedRow}
 use Rattle.ut_l2.specs.KeyRows.{KeyRow}
 use Rattle.ut_main.specs.Parts.{MainValue, dicts_behind, first_parts}
 use Rattle.ut_scan.specs.declared.stages.Stages.{Stages}
-use Rattle.ut_scan.specs.StampLists.{StampLists}
+use Rattle.ut_stamps.specs.StampLists.{StampLists}
 use Rattle.ut_staged.specs.Staged.{Staged, placed_of}
 use Rattle.ut_staged.proofs.ListLemmas.{map-take}
 use Rattle.ut_image.specs.Bytes.{rows_bytes}

@@ -20,7 +20,7 @@ use Rattle.ut_l2.specs.KeyRows.{KeyRow, keyed, no_row}
 use Rattle.ut_l2.specs.Delta.{Delta}
 use Rattle.ut_main.specs.Parts.{MainValue, PartValue, dicts_behind, first_parts}
 use Rattle.ut_scan.specs.declared.stages.Stages.{Stages}
-use Rattle.ut_scan.specs.StampLists.{StampLists}
+use Rattle.ut_stamps.specs.StampLists.{StampLists}
 use Rattle.ut_staged.specs.Staged.{Staged, row_at, row_in, count_of}
 use Rattle.ut_image.specs.Bytes.{row_bytes, rows_bytes}
 use Rattle.ut_table.specs.Contents.{Contents, PendingValue, closed_rows, stamped_rows, decoded_rows, held}

@@ -9,8 +9,8 @@ ghost use Rattle.ut_capture.specs.Live.{live_parts};
 use std::alloc::{AllocError, Global};
 use std::sync::Arc;
 use ut_savepoint::CapturedPart;
-use ut_scan::{PartStamps, Stages};
-use ut_stamps::{Fates, sees};
+use ut_scan::Stages;
+use ut_stamps::{Fates, PartStamps, sees};
 use ut_table::Table;
 use ut_value::Seq;
 

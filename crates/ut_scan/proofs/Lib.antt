@@ -5,4 +5,5 @@ pub mod MainLemmas
 pub mod PartLemmas
 pub mod PickLemmas
 pub mod RangeLemmas
+pub mod SoughtLemmas
 pub mod TallyLemmas

@@ -25,7 +25,7 @@ use Rattle.ut_scan.specs.declared.parts.PartProbe.{PartProbe}
 use Rattle.ut_scan.specs.PartProbes.{IsProbeOf}
 use Rattle.ut_scan.specs.Probes.{is_seen}
 use Rattle.ut_scan.specs.Finds.{all_places, found_at, found_in, is_hit}
-use Rattle.ut_scan.specs.StampLists.{no_stamp}
+use Rattle.ut_stamps.specs.StampLists.{no_stamp}
 use Rattle.ut_scan.specs.StageRows.{found_in_part, AreStampedParts}
 use Rattle.ut_scan.proofs.CodeLemmas.{IsPartOf, held-passes, part-width}
 use Rattle.ut_scan.proofs.RangeLemmas.{filter-both, filter-none, places-filter}

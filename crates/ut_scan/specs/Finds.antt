@@ -9,7 +9,7 @@ use Rattle.ut_l2.specs.KeyRows.{KeyRow, key_at, no_row}
 use Rattle.ut_scan.specs.declared.place.ColumnPred.{ColumnPred}
 use Rattle.ut_scan.specs.declared.place.Found.{Found}
 use Rattle.ut_stamps.specs.declared.place.Place.{Place}
-use Rattle.ut_scan.specs.StampLists.{no_stamp}
+use Rattle.ut_stamps.specs.StampLists.{no_stamp}
 
 -- the row at place i meets a comparison
 abbrev pub meets_at : ColumnPred → List KeyRow → ℕ → Bool

@@ -13,7 +13,7 @@ use Rattle.ut_scan.specs.declared.probe.Probe.{Probe}
 use Rattle.ut_scan.specs.declared.probe.Viewer.{Viewer}
 use Rattle.ut_scan.specs.Finds.{all_places, found_at, found_in, is_hit, meets_at, passes}
 use Rattle.ut_scan.specs.StageRows.{found_in_parts}
-use Rattle.ut_scan.specs.StampLists.{no_stamp}
+use Rattle.ut_stamps.specs.StampLists.{no_stamp}
 
 -- a place of L2 or of the closed stage
 abbrev pub place_in : DeltaStage → ℕ → Place

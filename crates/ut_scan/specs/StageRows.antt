@@ -11,7 +11,7 @@ use Rattle.ut_scan.specs.declared.place.ColumnPred.{ColumnPred}
 use Rattle.ut_scan.specs.declared.place.Found.{Found}
 use Rattle.ut_scan.specs.declared.stages.Stages.{Stages}
 use Rattle.ut_scan.specs.Finds.{found_in}
-use Rattle.ut_scan.specs.StampLists.{StampLists, if_closed}
+use Rattle.ut_stamps.specs.StampLists.{StampLists, if_closed}
 
 -- the rows of each stage, and those of each part of main
 pub record StageRows : Type 0 where

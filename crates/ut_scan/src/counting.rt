@@ -2,7 +2,7 @@
 ghost use Rattle.std.specs.Prelude.{◌≡◌, ◌+◌, ◌<◌, ◌≤◌, length, All, IfOk};
 ghost use Rattle.ut_scan.specs.Probes.{found_for};
 ghost use Rattle.ut_scan.specs.StageRows.{asked_for, rows_in, scan_steps, AreStamped};
-ghost use Rattle.ut_scan.specs.StampLists.{if_closed};
+ghost use Rattle.ut_stamps.specs.StampLists.{if_closed};
 
 use crate::delta_count::count_delta;
 use crate::part_count::count_parts;

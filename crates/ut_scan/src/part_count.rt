@@ -9,12 +9,12 @@ use crate::coded::coded_preds;
 use crate::parts::PartProbe;
 use crate::place::ColumnPred;
 use crate::probe::Viewer;
-use crate::stamp_table::StampTable;
 use std::alloc::{AllocError, Global};
 use std::sync::ledger::Ledger;
 use ut_key::Steps;
 use ut_main::Main;
 use ut_mask::Mask;
+use ut_stamps::StampTable;
 
 /// How many rows of main are seen and meet each comparison.
 pub fn count_parts<'a, L: Ledger>(

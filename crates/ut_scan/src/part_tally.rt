@@ -11,13 +11,13 @@ use crate::coded::{all_dicts, coded_preds};
 use crate::parts::PartProbe;
 use crate::place::ColumnPred;
 use crate::probe::Viewer;
-use crate::stamp_table::StampTable;
 use std::alloc::{AllocError, Global};
 use std::sync::ledger::Ledger;
 use ut_codes::{CodeVec, Form};
 use ut_key::Steps;
 use ut_main::Main;
 use ut_mask::Mask;
+use ut_stamps::StampTable;
 
 /// For each code of a column of main, how many of the rows that are seen and meet each comparison
 /// have it.

@@ -7,16 +7,15 @@ ghost use Rattle.ut_scan.specs.Probes.{found_in_main, is_seen, AreSeenAs, Tells}
 ghost use Rattle.ut_scan.specs.StageRows.{scan_steps, AreStampedParts};
 
 use crate::coded::{CodedPred, below, coded_preds};
-use crate::part_stamps::PartStamps;
 use crate::place::{ColumnPred, Found, Place};
 use crate::probe::Viewer;
-use crate::stamp_table::StampTable;
 use std::alloc::{AllocError, Global};
 use std::sync::ledger::Ledger;
 use ut_codes::CodeVec;
 use ut_key::{CodeRange, Steps};
 use ut_main::{Main, Part};
 use ut_mask::Mask;
+use ut_stamps::{PartStamps, StampTable};
 
 /// A part of main with its number and its stamps, and what its rows must meet.
 #[derive(Drop)]

@@ -1,8 +1,8 @@
 //! The stages of a table.
-use crate::stamp_table::StampTable;
 use ut_l1::L1;
 use ut_l2::L2;
 use ut_main::Main;
+use ut_stamps::StampTable;
 
 /// The stages of a table, and the stamps of their rows. While a merge is pending there is a closed
 /// L2 beside the one that takes new rows.

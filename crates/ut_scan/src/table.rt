@@ -3,7 +3,7 @@ ghost use Rattle.std.specs.Prelude.{◌≡◌, ◌+◌, ◌<◌, ◌≤◌, ◌+
 ghost use Rattle.std.specs.List.Sorted.{IsPermutation, IsNonDecreasingBy};
 ghost use Rattle.ut_scan.specs.Probes.{found_for};
 ghost use Rattle.ut_scan.specs.StageRows.{asked_for, found_outside, rows_in, scan_steps, AreStamped};
-ghost use Rattle.ut_scan.specs.StampLists.{if_closed};
+ghost use Rattle.ut_stamps.specs.StampLists.{if_closed};
 
 use crate::delta::scan_delta;
 use crate::parts::scan_parts;

@@ -8,7 +8,7 @@ use Rattle.ut_value.specs.declared.value.Row.{Row}
 use Rattle.ut_stamps.specs.declared.visibility.Stamp.{Stamp}
 use Rattle.ut_l2.specs.KeyRows.{KeyRow, keyed}
 use Rattle.ut_l2.specs.Delta.{Delta}
-use Rattle.ut_scan.specs.StampLists.{StampLists}
+use Rattle.ut_stamps.specs.StampLists.{StampLists}
 use Rattle.ut_staged.specs.Staged.{Staged, stamped_row, entered_l1, entered_l2, merged_l1}
 use Rattle.ut_table.specs.Contents.{Contents, PendingValue, closed_rows, stamped_rows, held, held_parts, staged}
 use Rattle.ut_table.specs.Kept.{IsRow, IsHeld, IsTable}

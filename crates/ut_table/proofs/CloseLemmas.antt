@@ -8,7 +8,7 @@ use Rattle.ut_stamps.specs.declared.visibility.Stamp.{Stamp}
 use Rattle.ut_plain.specs.declared.stage.PendingMerge.{PendingMerge}
 use Rattle.ut_l2.specs.KeyRows.{KeyRow}
 use Rattle.ut_l2.specs.Delta.{Delta}
-use Rattle.ut_scan.specs.StampLists.{StampLists}
+use Rattle.ut_stamps.specs.StampLists.{StampLists}
 use Rattle.ut_staged.specs.Staged.{Staged, closed_l2}
 use Rattle.ut_merge.specs.Jobs.{JobValue, IsJob, job_value}
 use Rattle.ut_table.specs.Pending.{key_row, job_of, pending_job}

@@ -4,7 +4,7 @@ use Rattle.std.specs.Option.{option_map}
 use Rattle.ut_stamps.specs.declared.visibility.Stamp.{Stamp}
 use Rattle.ut_stamps.specs.declared.place.Place.{Place}
 use Rattle.ut_stamps.specs.declared.place.Place.TheVariants.{L1, L2, Closed, Main}
-use Rattle.ut_scan.specs.StampLists.{StampLists, stamp_at, with_stamp, no_stamp, if_closed}
+use Rattle.ut_stamps.specs.StampLists.{StampLists, stamp_at, with_stamp, no_stamp, if_closed}
 use Rattle.ut_staged.specs.Staged.{ended_in, end_at}
 use Rattle.ut_table.specs.Contents.{Contents, PendingValue, decoded_rows, held, staged}
 use Rattle.ut_table.specs.Kept.{IsTable}

@@ -21,7 +21,7 @@ use Rattle.ut_l2.specs.KeyRows.{KeyRow, no_row}
 use Rattle.ut_scan.specs.declared.place.ColumnPred.{ColumnPred}
 use Rattle.ut_scan.specs.declared.place.Found.{Found}
 use Rattle.ut_scan.specs.Finds.{passes, found_at, is_hit, found_in}
-use Rattle.ut_scan.specs.StampLists.{no_stamp}
+use Rattle.ut_stamps.specs.StampLists.{no_stamp}
 use Rattle.ut_exact.specs.Places.{StagedRow}
 use Rattle.ut_exact.specs.Scan.{IsScan}
 use Rattle.ut_names.specs.Compiled.{Compiles}

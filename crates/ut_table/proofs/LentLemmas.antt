@@ -12,7 +12,7 @@ use Rattle.ut_main.specs.Parts.{MainValue}
 use Rattle.ut_scan.specs.declared.place.ColumnPred.{ColumnPred}
 use Rattle.ut_scan.specs.declared.place.Found.{Found}
 use Rattle.ut_scan.specs.declared.stages.Stages.{Stages}
-use Rattle.ut_scan.specs.StampLists.{StampLists}
+use Rattle.ut_stamps.specs.StampLists.{StampLists}
 use Rattle.ut_scan.specs.StageRows.{AreStamped, rows_in, found_in_parts, found_outside, found_rows, asked_for}
 use Rattle.ut_scan.specs.Tallies.{Tallies}
 use Rattle.ut_staged.specs.Staged.{Staged}

@@ -11,7 +11,7 @@ use Rattle.ut_stamps.specs.declared.place.Place.{Place}
 use Rattle.ut_stamps.specs.declared.place.Place.TheVariants.{L1, L2, Closed, Main}
 use Rattle.ut_exact.specs.Places.{StagedRow}
 use Rattle.ut_l2.specs.KeyRows.{KeyRow, keyed, no_row}
-use Rattle.ut_scan.specs.StampLists.{IsPlace, stamp_at}
+use Rattle.ut_stamps.specs.StampLists.{IsPlace, stamp_at}
 use Rattle.ut_staged.specs.Staged.{row_at, row_in, stamped_row}
 use Rattle.ut_table.specs.Decoded.{decoded_row}
 use Rattle.ut_table.specs.Contents.{Contents, PendingValue, closed_rows, stamped_rows, held, held_parts, staged}

@@ -10,7 +10,7 @@ use Rattle.ut_value.specs.KeyBytes.{is_value}
 use Rattle.ut_plain.specs.Tables.{fits_columns}
 use Rattle.ut_stamps.specs.declared.place.Place.{Place}
 use Rattle.ut_stamps.specs.declared.place.Place.TheVariants.{L1, L2, Closed, Main}
-use Rattle.ut_scan.specs.StampLists.{IsPlace, stamp_at}
+use Rattle.ut_stamps.specs.StampLists.{IsPlace, stamp_at}
 use Rattle.ut_exact.specs.Places.{StagedRow}
 use Rattle.ut_l2.specs.KeyRows.{KeyRow, keyed, no_row}
 use Rattle.ut_l2.specs.Delta.{Delta}

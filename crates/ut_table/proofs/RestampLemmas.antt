@@ -8,7 +8,7 @@ use Rattle.ut_stamps.specs.declared.visibility.Stamp.{Stamp}
 use Rattle.ut_stamps.specs.declared.place.Place.{Place}
 use Rattle.ut_stamps.specs.declared.place.Place.TheVariants.{L1, L2, Closed, Main}
 use Rattle.ut_l2.specs.KeyRows.{KeyRow}
-use Rattle.ut_scan.specs.StampLists.{with_stamp}
+use Rattle.ut_stamps.specs.StampLists.{with_stamp}
 use Rattle.ut_staged.specs.Staged.{stamped_row}
 use Rattle.ut_table.specs.Contents.{Contents, PendingValue, stamped_rows, decoded_rows, held, held_parts, staged}
 use Rattle.ut_table.specs.Kept.{IsTable}

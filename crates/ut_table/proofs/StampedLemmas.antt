@@ -7,7 +7,7 @@ use Rattle.ut_value.specs.declared.value.Column.{Column}
 use Rattle.ut_value.specs.declared.value.Row.{Row}
 use Rattle.ut_stamps.specs.declared.visibility.Stamp.{Stamp}
 use Rattle.ut_l2.specs.KeyRows.{KeyRow, no_row}
-use Rattle.ut_scan.specs.StampLists.{no_stamp}
+use Rattle.ut_stamps.specs.StampLists.{no_stamp}
 use Rattle.ut_staged.specs.Staged.{stamped_row, end_at}
 use Rattle.ut_table.specs.Decoded.{decoded_row}
 use Rattle.ut_table.specs.Contents.{stamped_rows, decoded_rows, held, held_parts}

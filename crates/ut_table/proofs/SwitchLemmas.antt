@@ -16,7 +16,7 @@ use Rattle.ut_plain.specs.Merges as plain
 use Rattle.ut_stamps.specs.declared.visibility.Stamp.{Stamp}
 use Rattle.ut_stamps.specs.declared.place.Place.{Place}
 use Rattle.ut_stamps.specs.declared.place.Place.TheVariants.{Closed, Main}
-use Rattle.ut_scan.specs.StampLists.{StampLists, stamp_at, IsPlace}
+use Rattle.ut_stamps.specs.StampLists.{StampLists, stamp_at, IsPlace}
 use Rattle.ut_exact.specs.Places.{StagedRow}
 use Rattle.ut_l2.specs.KeyRows.{KeyRow, no_row}
 use Rattle.ut_main.specs.Parts.{MainValue}

@@ -9,7 +9,7 @@ use Rattle.ut_exact.specs.Places.{StagedRow}
 use Rattle.ut_l2.specs.KeyRows.{KeyRow}
 use Rattle.ut_l2.specs.Delta.{Delta}
 use Rattle.ut_main.specs.Parts.{MainValue}
-use Rattle.ut_scan.specs.StampLists.{StampLists}
+use Rattle.ut_stamps.specs.StampLists.{StampLists}
 use Rattle.ut_merge.specs.Jobs.{JobValue, job_value}
 use Rattle.ut_staged.specs.Staged.{Staged, stamped_row}
 use Rattle.ut_table.specs.Decoded.{decoded_row}

@@ -8,8 +8,8 @@ ghost use Rattle.ut_table.specs.Filled.{HoldsParts, restamped};
 
 use crate::table::Table;
 use ut_main::Main;
-use ut_scan::{Place, StampTable};
-use ut_stamps::Stamp;
+use ut_scan::Place;
+use ut_stamps::{Stamp, StampTable};
 
 /// The stamps of parts. Takes no memory.
 fn push_parts(stamps: &mut StampTable, parts: Vec<Vec<Stamp>>)

@@ -5,8 +5,7 @@ ghost use Rattle.ut_stamps.specs.Kept.{stamp_keeps};
 ghost use Rattle.ut_table.specs.Flags.{flags_behind};
 
 use std::alloc::{AllocError, Global};
-use ut_scan::{PartStamps, StampTable};
-use ut_stamps::{Fates, Stamp, keeps};
+use ut_stamps::{Fates, PartStamps, Stamp, StampTable, keeps};
 use ut_value::MergeKind;
 
 /// How many parts stay as they are, of so many.

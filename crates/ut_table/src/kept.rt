@@ -4,8 +4,7 @@ ghost use Rattle.std.specs.List.{list_all};
 ghost use Rattle.ut_value.specs.declared.value.Row.{Row};
 ghost use Rattle.ut_value.specs.KeyBytes.{is_value};
 
-use ut_scan::StampTable;
-use ut_stamps::Stamp;
+use ut_stamps::{Stamp, StampTable};
 use ut_value::{Row, values_keep_rules};
 
 /// The values of rows keep their rules, as a fact for a caller.

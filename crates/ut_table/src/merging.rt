@@ -1,7 +1,7 @@
 //! The calls of a merge: which places it keeps, its begin, its job and its end.
 ghost use Rattle.std.specs.Prelude.{◌≡◌, ◌+◌, ◌≤◌, ◌++◌, length, map, vec_len, vec_capacity, All, List, IfOk, OnOk, OnErr, Some, None};
 ghost use Rattle.ut_plain.specs.Merges.{staying};
-ghost use Rattle.ut_scan.specs.StampLists.{stamp_at, IsPlace};
+ghost use Rattle.ut_stamps.specs.StampLists.{stamp_at, IsPlace};
 ghost use Rattle.ut_stamps.specs.declared.place.Place.{Place};
 ghost use Rattle.ut_merge.specs.Jobs.{IsJob};
 ghost use Rattle.ut_staged.specs.Staged.{closed_l2, switched};
@@ -18,8 +18,8 @@ use std::sync::Arc;
 use ut_l2::L2;
 use ut_merge::{Built, Job, Keep, Old, Parts};
 use ut_plain::PendingMerge;
-use ut_scan::{Place, StampTable};
-use ut_stamps::{Fates, Stamp};
+use ut_scan::Place;
+use ut_stamps::{Fates, Stamp, StampTable};
 use ut_value::MergeKind;
 
 fn place_of(old: Old) -> Place

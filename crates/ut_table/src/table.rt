@@ -15,8 +15,8 @@ use std::sync::Arc;
 use ut_l1::L1;
 use ut_l2::L2;
 use ut_main::Main;
-use ut_scan::{Place, StampTable};
-use ut_stamps::Stamp;
+use ut_scan::Place;
+use ut_stamps::{Stamp, StampTable};
 use ut_value::{Column, Row, Seq, Value, values_keep_rules};
 
 /// The stages of a table of at most 64 columns. The first, the second and a closed one hold at

@@ -3,7 +3,7 @@ use Rattle.std.proofs.lemmas.List.{get_or-map}
 use Rattle.ut_stamps.specs.Stamps.{sees}
 use Rattle.ut_l2.specs.KeyRows.{keyed, no_row}
 use Rattle.ut_scan.specs.Finds.{passes, is_hit}
-use Rattle.ut_scan.specs.StampLists.{no_stamp}
+use Rattle.ut_stamps.specs.StampLists.{no_stamp}
 use Rattle.ut_scan.proofs.CountLemmas.{one-counted, none-counted}
 use Rattle.ut_scan.proofs.rows.count_rows.Goals as goal
 use Rattle.ut_scan.proofs.rows.count_rows.Goals.{then-is_hit, else-is_hit}

@@ -5,7 +5,7 @@ use Rattle.ut_l2.specs.KeyRows.{keyed, no_row, KeyRow}
 use Rattle.ut_scan.specs.declared.place.Found.{Found}
 use Rattle.ut_stamps.specs.declared.place.Place.TheVariants.{L1}
 use Rattle.ut_scan.specs.Finds.{passes, found_at, is_hit}
-use Rattle.ut_scan.specs.StampLists.{no_stamp}
+use Rattle.ut_stamps.specs.StampLists.{no_stamp}
 use Rattle.ut_scan.proofs.FindLemmas.{one-found, none-found}
 use Rattle.ut_scan.proofs.rows.scan_rows.Goals as goal
 use Rattle.ut_scan.proofs.rows.scan_rows.Goals.{then-is_hit+in_ok-push, else-is_hit}

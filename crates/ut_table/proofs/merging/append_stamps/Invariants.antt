@@ -1,5 +1,5 @@
 use Rattle.std.proofs.Common.{◌≡◌, ◌+◌, ◌++◌, map, take, vec_len, vec_capacity}
-use Rattle.ut_scan.specs.StampLists.{stamp_at}
+use Rattle.ut_stamps.specs.StampLists.{stamp_at}
 use Rattle.ut_table.specs.Places.{place_of_old}
 use Rattle.ut_table.proofs.merging.append_stamps.Given as goal
 

@@ -1,7 +1,7 @@
 use Rattle.std.proofs.Common.{◌≡◌, ◌∙◌, ◌+◌, ◌&&◌, suc, get_or, drop, ap, sym, arith}
 use Rattle.ut_stamps.specs.Stamps.{sees}
 use Rattle.ut_l2.specs.KeyRows.{no_row}
-use Rattle.ut_scan.specs.StampLists.{no_stamp}
+use Rattle.ut_stamps.specs.StampLists.{no_stamp}
 use Rattle.ut_scan.specs.Finds.{passes, meets_at}
 use Rattle.ut_scan.proofs.PickLemmas.{passes-around}
 use Rattle.ut_scan.proofs.probe.Probe.around.Goals as goal

@@ -1,7 +1,7 @@
 use Rattle.std.proofs.Common.{◌∙◌, ◌+◌, ◌≤◌, ◌++◌, ◌^◌, length, map, replicate, None, refl, ap, arith}
 use Rattle.std.specs.Arc.{arc_value}
 use Rattle.ut_stamps.specs.declared.visibility.Stamp.{Stamp}
-use Rattle.ut_scan.specs.StampLists.{StampLists}
+use Rattle.ut_stamps.specs.StampLists.{StampLists}
 use Rattle.ut_staged.specs.Staged.{entered_l2, begun_row}
 use Rattle.ut_table.specs.Contents.{TableValue, closed_rows}
 use Rattle.ut_table.proofs.ChangeLemmas.{loaded-stages, loaded-kept}

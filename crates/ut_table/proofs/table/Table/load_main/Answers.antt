@@ -3,7 +3,7 @@ use Rattle.std.specs.Arc.{arc_value}
 use Rattle.std.specs.Global.{Vec}
 use Rattle.ut_value.specs.declared.value.Column.{Column}
 use Rattle.ut_stamps.specs.declared.visibility.Stamp.{Stamp}
-use Rattle.ut_scan.specs.StampLists.{StampLists}
+use Rattle.ut_stamps.specs.StampLists.{StampLists}
 use Rattle.ut_staged.specs.Staged.{Staged}
 use Rattle.ut_table.specs.Contents.{TableValue, staged}
 use Rattle.ut_table.specs.Kept.{IsTable}

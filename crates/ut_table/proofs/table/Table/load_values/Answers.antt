@@ -3,7 +3,7 @@ use Rattle.std.specs.Arc.{arc_value}
 use Rattle.std.specs.List.{list_all}
 use Rattle.ut_value.specs.KeyBytes.{is_value}
 use Rattle.ut_stamps.specs.declared.visibility.Stamp.{Stamp}
-use Rattle.ut_scan.specs.StampLists.{StampLists}
+use Rattle.ut_stamps.specs.StampLists.{StampLists}
 use Rattle.ut_staged.specs.Staged.{entered_l2, begun_row}
 use Rattle.ut_l2.specs.Sources.{AreFlat}
 use Rattle.ut_l2.proofs.SourceLemmas.{flat-count}

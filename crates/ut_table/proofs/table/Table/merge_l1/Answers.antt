@@ -4,7 +4,7 @@ use Rattle.std.specs.Arc.{arc_value}
 use Rattle.ut_value.specs.declared.value.Row.{Row}
 use Rattle.ut_stamps.specs.declared.visibility.Stamp.{Stamp}
 use Rattle.ut_l2.specs.KeyRows.{keyed}
-use Rattle.ut_scan.specs.StampLists.{StampLists}
+use Rattle.ut_stamps.specs.StampLists.{StampLists}
 use Rattle.ut_staged.specs.Staged.{merged_l1}
 use Rattle.ut_table.specs.Contents.{TableValue}
 use Rattle.ut_table.specs.Kept.{IsRow}

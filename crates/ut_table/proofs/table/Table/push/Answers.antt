@@ -3,7 +3,7 @@ use Rattle.std.specs.List.{list_all}
 use Rattle.std.specs.Arc.{arc_value}
 use Rattle.ut_value.specs.declared.value.Value.{Value}
 use Rattle.ut_value.specs.KeyBytes.{is_value}
-use Rattle.ut_scan.specs.StampLists.{StampLists}
+use Rattle.ut_stamps.specs.StampLists.{StampLists}
 use Rattle.ut_staged.specs.Staged.{entered_l1, stamped_row}
 use Rattle.ut_table.specs.Contents.{TableValue, closed_rows}
 use Rattle.ut_table.proofs.ChangeLemmas.{pushed-stages, pushed-kept}

@@ -1,6 +1,6 @@
 use Rattle.std.proofs.Common.{◌∙◌, ap, sym, subst}
 use Rattle.std.specs.Arc.{arc_value}
-use Rattle.ut_scan.specs.StampLists.{StampLists}
+use Rattle.ut_stamps.specs.StampLists.{StampLists}
 use Rattle.ut_table.specs.Contents.{TableValue, staged}
 use Rattle.ut_table.specs.Kept.{IsTable}
 use Rattle.ut_table.specs.Filled.{restamped}

@@ -2,7 +2,7 @@ use Rattle.std.proofs.Common.{◌≡◌, ◌∙◌, ◌-◌, ◌++◌, length, m
 use Rattle.std.specs.Arc.{arc_value}
 use Rattle.ut_plain.specs.Merges.{staying}
 use Rattle.ut_stamps.specs.declared.place.Place.{Place}
-use Rattle.ut_scan.specs.StampLists.{stamp_at, IsPlace}
+use Rattle.ut_stamps.specs.StampLists.{stamp_at, IsPlace}
 use Rattle.ut_merge.specs.declared.old.Old.{Old}
 use Rattle.ut_merge.specs.Jobs.{IsBuilt, stay_of}
 use Rattle.ut_staged.specs.Staged.{Staged, switched}

@@ -1,5 +1,5 @@
 use Rattle.std.proofs.Common.{◌≡◌, replicate, vec_len, vec_capacity}
-use Rattle.ut_scan.proofs.part_stamps.write.Given as goal
+use Rattle.ut_stamps.proofs.part_stamps.write.Given as goal
 
 abbrev pub invariant-loop : goal.invariant-loop
 invariant-loop l = record {

@@ -1,14 +1,14 @@
 //! The stamps of a table's rows, in a list for each stage.
 ghost use Rattle.std.specs.Prelude.{◌≡◌, ◌+◌, ◌<◌, ◌≤◌, ◌++◌, [], ◌∷◌, Some, None, length, take, get_or, slice_set, option_map, MatchOption, IfOk, OnOk};
-ghost use Rattle.ut_scan.specs.StampLists.{if_closed, items_of, stamp_at, with_stamp, IsPlace, KeepsStamps, Pushes, Moves};
+ghost use Rattle.ut_stamps.specs.StampLists.{if_closed, items_of, stamp_at, with_stamp, IsPlace, KeepsStamps, Pushes, Moves};
 
 use crate::part_stamps::PartStamps;
 use crate::place::Place;
+use crate::visibility::Stamp;
 use std::alloc::{AllocError, Global};
 use std::marker::Model;
 use std::mem;
 use ut_l1::Queue;
-use ut_stamps::Stamp;
 
 /// How many parts main has at most.
 const MOST_PARTS: usize = 8;
@@ -24,7 +24,7 @@ pub struct StampTable {
 
 impl Model for StampTable {
     ghost use Rattle.std.specs.Prelude.{◌≤◌, vec_len, vec_capacity};
-    ghost use Rattle.ut_scan.specs.StampLists.{items_of, StampLists};
+    ghost use Rattle.ut_stamps.specs.StampLists.{items_of, StampLists};
 
     ghost Value = { StampLists };
 

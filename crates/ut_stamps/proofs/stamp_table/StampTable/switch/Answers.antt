@@ -1,6 +1,6 @@
 use Rattle.std.proofs.Common.{◌≡◌, ◌∙◌, ◌++◌, [], ◌∷◌, None, take, ap}
-use Rattle.ut_scan.specs.StampLists.{StampLists}
-use Rattle.ut_scan.proofs.stamp_table.StampTable.switch.Goals as goal
+use Rattle.ut_stamps.specs.StampLists.{StampLists}
+use Rattle.ut_stamps.proofs.stamp_table.StampTable.switch.Goals as goal
 
 pub returns : goal.returns
 returns c =

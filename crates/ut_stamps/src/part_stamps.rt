@@ -1,10 +1,10 @@
 //! The stamps of a part of main: one of them for all rows, where they agree, or a list.
 ghost use Rattle.std.specs.Prelude.{◌≡◌, ◌<◌, ◌≤◌, [], length, get_or, replicate, slice_set, vec_len, vec_capacity, Some, IfSome};
 ghost use Rattle.ut_stamps.specs.declared.visibility.Stamp.{Stamp};
-ghost use Rattle.ut_scan.specs.StampLists.{no_stamp};
+ghost use Rattle.ut_stamps.specs.StampLists.{no_stamp};
 
+use crate::visibility::Stamp;
 use std::marker::Model;
-use ut_stamps::Stamp;
 
 /// Above so many stamps a list that is no longer needed goes back, and new room stands in its
 /// place.
@@ -23,7 +23,7 @@ pub struct PartStamps {
 impl Model for PartStamps {
     ghost use Rattle.std.specs.Prelude.{List, vec_capacity};
     ghost use Rattle.ut_stamps.specs.declared.visibility.Stamp.{Stamp};
-    ghost use Rattle.ut_scan.specs.StampLists.{held_stamps, IsHeld};
+    ghost use Rattle.ut_stamps.specs.StampLists.{held_stamps, IsHeld};
 
     ghost Value = { List Stamp };
 

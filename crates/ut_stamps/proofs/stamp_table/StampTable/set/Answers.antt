@@ -1,8 +1,8 @@
 use Rattle.std.proofs.Common.{◌≡◌, ◌∙◌, ◌<◌, [], length, get_or, slice_set, ap, sym, subst, arith}
 use Rattle.std.proofs.lemmas.List.{get_or_default}
 use Rattle.ut_stamps.specs.declared.place.Place.{Place}
-use Rattle.ut_scan.specs.StampLists.{StampLists, IsPlace, with_stamp}
-use Rattle.ut_scan.proofs.stamp_table.StampTable.set.Goals as goal
+use Rattle.ut_stamps.specs.StampLists.{StampLists, IsPlace, with_stamp}
+use Rattle.ut_stamps.proofs.stamp_table.StampTable.set.Goals as goal
 
 pub set-requires-in-Main : goal.set-requires-in-Main
 set-requires-in-Main c =

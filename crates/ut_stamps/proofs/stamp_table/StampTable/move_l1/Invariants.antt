@@ -1,6 +1,6 @@
 use Rattle.std.proofs.Common.{◌≡◌, ◌+◌, ◌≤◌, ◌++◌, take, vec_len, vec_capacity}
-use Rattle.ut_scan.specs.StampLists.{items_of}
-use Rattle.ut_scan.proofs.stamp_table.StampTable.move_l1.Given as goal
+use Rattle.ut_stamps.specs.StampLists.{items_of}
+use Rattle.ut_stamps.proofs.stamp_table.StampTable.move_l1.Given as goal
 
 abbrev pub invariant-loop-i : goal.invariant-loop-i
 invariant-loop-i l = record {
