@@ -33,11 +33,12 @@ none-left table id width (v ∷ vs) h = absurd (omega (arith, h))
 pub first-short : (op : Op) (os : List Op) → IsTrue (list_all is_op (op ∷ os)) → op_len op ≤ 16456
 first-short op os h = op_len-short op (and_left (is_op op) (list_all is_op os) h)
 
+-- the bytes of a bulk are those of its first insert, and of the rows behind it
+pub first-len : (rest behind : Bulk) (op : Op) → bulk_ops rest ≡ op ∷ bulk_ops behind → ops_len (bulk_ops rest) ≡ op_len op + ops_len (bulk_ops behind)
+first-len rest behind op is = ap ops_len is ∙ sum_by-cons op_len op (bulk_ops behind)
+
 -- One row more of a bulk is done: what is left, and what was done.
 module _ (all rest behind : Bulk) (op : Op) (is : bulk_ops rest ≡ op ∷ bulk_ops behind) (id : behind.id ≡ rest.id + 1) (from : all.id ≤ rest.id) (left : drop (rest.id - all.id) (bulk_ops all) ≡ bulk_ops rest) where
-  pub first-len : ops_len (bulk_ops rest) ≡ op_len op + ops_len (bulk_ops behind)
-  first-len = ap ops_len is ∙ sum_by-cons op_len op (bulk_ops behind)
-
   next : behind.id - all.id ≡ suc (rest.id - all.id)
   next = omega (arith, id, from)
 

@@ -187,18 +187,6 @@ merge_told reply job n j has is here = by has.0 has.1
     by (Err errors.Memory) tells = let no = tells.0 ∙ is in cc
     by (Err errors.Disk) tells = let no = tells.0 ∙ is in cc
 
--- where no merge began and nothing was refused, the disk failed
-pub no_other : (reply : Reply) (job : Option JobValue) → HasAnswer reply job → ((n : ℕ) → reply ≡ replies.Merge n → ⊥) → ((why : Refusal) → reply ≡ replies.Refused why → ⊥) → (reply ≡ replies.DiskFault → ⊥) → ⊥
-no_other reply job has not_merge not_refused not_fault = by has.0 has.1
-  where
-    by : (answer : Result JobValue BeginError) → Tells answer reply job → ⊥
-    by (Ok x) tells = not_merge x.head.number (sym tells.0)
-    by (Err errors.Name) tells = not_refused _ (sym tells.0)
-    by (Err (errors.Busy k)) tells = not_refused _ (sym tells.0)
-    by (Err errors.Full) tells = not_refused _ (sym tells.0)
-    by (Err errors.Memory) tells = not_refused _ (sym tells.0)
-    by (Err errors.Disk) tells = not_fault (sym tells.0)
-
 -- ---- its reason
 
 abbrev pub ReasonOf : Reply → Bool → Option PendingMerge → Type 0

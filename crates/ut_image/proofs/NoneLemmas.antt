@@ -1,6 +1,5 @@
 -- What is no field, row, part or table, by the part that fails.
 use Rattle.std.proofs.Common.{◌≡◌, ℕ, ◌<◌, ◌^◌, List, [], ◌∷◌, ◌++◌, length, IsTrue, refl, sym, ◌∙◌, ap, append_assoc, true≢false}
-use Rattle.std.specs.Prelude.{◌&&◌}
 use Rattle.std.specs.Int.{w32, to_le_bytes}
 use Rattle.std.specs.List.{flat_map, list_all}
 use Rattle.std.proofs.lemmas.List.{append-nil, flat_map_more}
@@ -125,16 +124,3 @@ l1_fails t ps l2 rest after behind bytes head parts rows none d x h =
     let there = behind_parts t ps rest after bytes head parts d x s in
     let one = one_rows t.columns l2 d.l2 behind (rows_bytes d.l1 ++ x) after rows (along t d.table d.l2 there.0 s.l2, there.1) in
     none d.l1 x (along t d.table d.l1 there.0 s.l1, one.1)
-
--- all of a table that was read
-pub table_read : (t : Table) (ps : List PartRef) (l2 l1 : List Row) (rest after behind last bytes : List ℕ) → Begins head_bytes is_head bytes t rest → Begins parts_bytes are_parts rest ps after
-    → Begins rows_bytes (are_rows t.columns) after l2 behind → Begins rows_bytes (are_rows t.columns) behind l1 last
-    → Begins drawn_bytes is_drawn bytes (record { table = t; parts = ps; l2 = l2; l1 = l1 }) last
-table_read t ps l2 l1 rest after behind last bytes head parts r2 r1 = (
-  (λ i. head.0 i && (parts.0 i && (r2.0 i && r1.0 i))),
-  head.1
-      ∙ ap (λ (l : List ℕ). head_bytes t ++ l) (parts.1 ∙ ap (λ (l : List ℕ). parts_bytes ps ++ l) (r2.1 ∙ ap (λ (l : List ℕ). rows_bytes l2 ++ l) r1.1))
-      ∙ ap (λ (l : List ℕ). head_bytes t ++ (parts_bytes ps ++ l)) (sym (append_assoc (rows_bytes l2) (rows_bytes l1) last))
-      ∙ ap (λ (l : List ℕ). head_bytes t ++ l) (sym (append_assoc (parts_bytes ps) (rows_bytes l2 ++ rows_bytes l1) last))
-      ∙ sym (append_assoc (head_bytes t) (parts_bytes ps ++ (rows_bytes l2 ++ rows_bytes l1)) last),
-)

@@ -1,7 +1,7 @@
 -- The columns of a part's bytes one after the other, and the part that ids and columns make.
 use Rattle.std.proofs.Common.{◌≡◌, inl, inr, ℕ, zero, suc, ◌+◌, ◌^◌, ◌<◌, ◌≤◌, List, [], ◌∷◌, ◌++◌, length, map, drop, get_or, refl, sym, ◌∙◌, ap, subst, arith}
 use Rattle.std.proofs.lemmas.Bool.{cases_lt}
-use Rattle.std.proofs.lemmas.List.{append_assoc, append_cancel_left, length-append, length-map, get_or-map, get_or_append_left, get_or-append-add, drop_more, drop_all, ext_get_or, flat_map_more}
+use Rattle.std.proofs.lemmas.List.{append_assoc, append_cancel_left, length-append, length-map, get_or-map, get_or_append_left, get_or-append-add, drop_more, ext_get_or, flat_map_more}
 use Rattle.std.specs.List.{flat_map}
 use Rattle.ut_bits.specs.Words.{word_bytes}
 use Rattle.ut_l2.specs.KeyRows.{KeyRow, cells_at, key_at, no_row}
@@ -63,9 +63,6 @@ module _ (columns : List Column) (main : MainValue) (rows : ℕ) (bytes : List �
       ends : (xs : List ℕ) → xs ++ [] ≡ xs
       ends [] = refl
       ends (x ∷ xs) = ap (λ (l : List ℕ). x ∷ l) (ends xs)
-
-  pub read-rest : (cs : List ColumnValue) → main.width ≤ j → MayBeColumns columns main rows cs → bytes ≡ flat_map column_bytes cs → rest ≡ []
-  read-rest cs ge may is = h.agrees cs may is ∙ ap (λ (l : List ColumnValue). flat_map column_bytes l) (drop_all j cs (omega (arith, ge, may.count)))
 
 -- ---- a part of ids and columns
 

@@ -1,20 +1,18 @@
 -- The values of a column, of rows that were found.
-use Rattle.std.proofs.Common.{ℕ, zero, suc, ◌+◌, ◌<◌, ◌≡◌, Bool, true, false, not, cond, if◌then◌else◌, List, [], ◌∷◌, length, map, drop, get_or, Option, None, Some, refl, sym, ap, ◌∙◌, arith, slice_get, unwrap_or, IsTrue, true≢false, lt-ltb}
-use Rattle.std.specs.Option.{option_map, option_and_then}
+use Rattle.std.proofs.Common.{ℕ, zero, suc, ◌+◌, ◌<◌, ◌≡◌, Bool, true, false, not, cond, if◌then◌else◌, List, [], ◌∷◌, length, map, drop, get_or, Option, None, Some, refl, sym, ap, ◌∙◌, arith, slice_get, IsTrue, true≢false}
+use Rattle.std.specs.Option.{option_and_then}
 use Rattle.std.specs.List.{list_all, filter_map, find, position_or_len, All, cons_option}
 use Rattle.std.specs.declared.cmp.Ordering.{Ordering}
 use Rattle.ut_value.specs.declared.value.Value.{Value}
 use Rattle.ut_value.specs.declared.value.Kind.{Kind}
-use Rattle.ut_value.specs.declared.value.Kind.TheVariants as kinds
 use Rattle.ut_value.specs.declared.value.Column.{Column}
 use Rattle.ut_value.specs.KeyOrder.{value_cmp}
 use Rattle.ut_value.specs.Text.{same_bytes}
 use Rattle.ut_plain.specs.declared.table.Stored.{Stored}
 use Rattle.ut_plain.specs.Tables.{column_of, fits_columns}
-use Rattle.ut_plain.specs.Kinds.{kind_in, is_int}
 use Rattle.ut_plain.specs.Condition.{value_in}
 use Rattle.ut_plain.specs.Query.{column_values, picked, best_from}
-use Rattle.ut_plain.proofs.ListLemmas.{found_below, position_below}
+use Rattle.ut_plain.proofs.ListLemmas.{position_below}
 use Rattle.ut_scan.specs.declared.place.Found.{Found}
 use Rattle.ut_exact.specs.Places.{StagedRow}
 use Rattle.ut_exact.specs.Scan.{stored_in}
@@ -63,24 +61,6 @@ found_at test (y ∷ xs) x h = by (test y) refl (found_at test xs x)
     by false e more =
         let next : 1 + position_or_len test xs ≡ suc (position_or_len test xs) = omega arith in
         ap (λ b. slice_get (y ∷ xs) (cond (not b) (1 + position_or_len test xs) 0)) e ∙ ap (slice_get (y ∷ xs)) next ∙ more (sym (ap (λ b. cond b (Some y) (find test xs)) e) ∙ h)
-
-int_kind : (k : Kind) → IsTrue (is_int (Some k)) → Some k ≡ Some kinds.Int
-int_kind kinds.Int h = refl
-int_kind kinds.Text h = absurd (true≢false (sym h))
-
--- a column that is found by its name has its kind
-pub numbers_at : (columns : List Column) (name : List ℕ) (c : ℕ) → IsTrue (is_int (kind_in columns name)) → column_of columns name ≡ Some c → option_map (λ (x : Column). x.kind) (slice_get columns c) ≡ Some kinds.Int
-numbers_at columns name c h at = by (find (λ (x : Column). same_bytes x.name name) columns) refl
-  where
-    by : (o : Option Column) → find (λ (x : Column). same_bytes x.name name) columns ≡ o → option_map (λ (x : Column). x.kind) (slice_get columns c) ≡ Some kinds.Int
-    by None e = absurd (true≢false (sym h ∙ ap (λ o. is_int (option_map (λ (x : Column). x.kind) o)) e))
-    by (Some x) e =
-        let place : column_of columns name ≡ Some (position_or_len (λ (x : Column). same_bytes x.name name) columns)
-        = ap (λ b. cond b (Some (position_or_len (λ (x : Column). same_bytes x.name name) columns)) None) (lt-ltb _ _ (found_below (λ (x : Column). same_bytes x.name name) columns x e)) in
-        let same : position_or_len (λ (x : Column). same_bytes x.name name) columns ≡ c = ap (λ o. unwrap_or o c) (sym place ∙ at) in
-        ap (λ n. option_map (λ (x : Column). x.kind) (slice_get columns n)) (sym same)
-        ∙ ap (option_map (λ (x : Column). x.kind)) (found_at (λ (x : Column). same_bytes x.name name) columns x e)
-        ∙ int_kind x.kind (sym (ap (λ o. is_int (option_map (λ (x : Column). x.kind) o)) e) ∙ h)
 
 -- ---- the values of a column
 

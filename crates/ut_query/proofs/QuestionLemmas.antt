@@ -58,9 +58,6 @@ all_are tables name rows at none = record { table = at; preds = record { known =
 pub selected_select : (tables : List Table) (rows : Selection) (columns : Columns) → IsAsked tables (questions.Select rows columns) → IsSelected tables rows
 selected_select tables rows columns a = let f = of_select tables a.query rows columns a.resolves.is in record { name = f.0; asked = f.2; is = f.4 }
 
-pub selected_count : (tables : List Table) (rows : Selection) → IsAsked tables (questions.Count rows) → IsSelected tables rows
-selected_count tables rows a = let f = of_count tables a.query rows a.resolves.is in record { name = f.0; asked = f.1; is = f.3 }
-
 pub selected_sum : (tables : List Table) (rows : Selection) (place : ℕ) → IsAsked tables (questions.Sum rows place) → IsSelected tables rows
 selected_sum tables rows place a = let f = of_sum tables a.query rows place a.resolves.is in record { name = f.0; asked = f.2; is = f.4 }
 

@@ -269,11 +269,6 @@ module _ (tables : List Drawn) (t : Drawn) (others : List Drawn) (mains : List M
       by [] is x = absurd x
       by (main ∷ rest) is x = (main, rest, is, x.0, x.1)
 
-  pub mains_fail : ((main : MainValue) (reached : List ℕ) → StandsMain reached v1.seen.pages t main → ⊥) → IsTold v0 → (all : List MainValue) (reached : List ℕ) → AllZip (StandsMain reached v0.seen.pages) tables all → ⊥
-  mains_fail none told all reached stands =
-      let n = next_main told all reached stands in
-      none n.0 reached (subst (λ (i : Image). StandsMain reached i.pages t n.0) (sym so.reads.seen) n.3)
-
   pub mains_go_on : (main : MainValue) (mains' : List MainValue) (new' : Reader) (v2 : View) → FoundMain t main new new' v1 → mains' ≡ mains ++ main ∷ [] → ReadsOnly v0 v2 → MainsSoFar tables others mains' old new' v0 v2
   mains_go_on main mains' new' v2 found is reads = subst (λ (ms : List MainValue). MainsSoFar tables others ms old new' v0 v2) (sym is) more
     where

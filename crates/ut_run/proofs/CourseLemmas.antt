@@ -1,6 +1,6 @@
 -- Lines that are answered one after the other, one line more at a time.
-use Rattle.std.proofs.Common.{inl, inr, ℕ, ◌≡◌, ◌≤◌, List, [], ◌∷◌, ◌++◌, refl, sym, ap, ◌∙◌, subst, arith, append-nil, false}
-use Rattle.ut_outside.specs.Disk.{View, Image, IsTold}
+use Rattle.std.proofs.Common.{inl, inr, ℕ, ◌≡◌, List, [], ◌∷◌, ◌++◌, refl, sym, ap, ◌∙◌, subst, arith, append-nil, false}
+use Rattle.ut_outside.specs.Disk.{View, IsTold}
 use Rattle.ut_outside.specs.Faults.{Rose}
 use Rattle.ut_outside.specs.declared.ack.Ack.{Ack}
 use Rattle.ut_plain.specs.declared.statement.Parsed.{Parsed}

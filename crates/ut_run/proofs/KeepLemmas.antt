@@ -1,13 +1,11 @@
 -- What a run keeps, line by line.
-use Rattle.std.proofs.Common.{inl, inr, ℕ, ◌≡◌, ◌≤◌, ◌⊎◌, List, [], ◌∷◌, ◌++◌, sym, ap, subst, arith, append_assoc, append-nil}
-use Rattle.std.proofs.lemmas.List.{length-append}
+use Rattle.std.proofs.Common.{inl, inr, ℕ, ◌≤◌, ◌⊎◌, List, [], ◌∷◌, ◌++◌, arith}
 use Rattle.ut_outside.specs.Disk.{View, Image, IsTold}
 use Rattle.ut_outside.specs.Run.{LeavesOnly}
 use Rattle.ut_outside.specs.declared.ack.Ack.{Ack}
-use Rattle.ut_value.specs.declared.entry.Entry.{Entry}
-use Rattle.ut_plain.specs.Journal.{Journal, journal_len, appended}
+use Rattle.ut_plain.specs.Journal.{Journal, journal_len}
 use Rattle.ut_durable.specs.Journals.{HoldsPrefix}
-use Rattle.ut_durable.proofs.MomentLemmas.{prefix_of_more, prefix_of_fewer}
+use Rattle.ut_durable.proofs.MomentLemmas.{prefix_of_fewer}
 use Rattle.ut_run.specs.declared.start.Start.{Start}
 use Rattle.ut_run.specs.declared.start.Start.TheVariants.{New, Open}
 use Rattle.ut_course.specs.Keeping.{GoesOn}

@@ -1,8 +1,8 @@
 -- Writing all of a text, piece by piece.
-use Rattle.std.proofs.Common.{ℕ, ◌+◌, ◌≡◌, ◌≤◌, List, [], ◌++◌, length, take, drop, replicate, Option, None, Some, Ok, Err, refl, sym, ap, ◌∙◌, subst, arith, append_assoc, append-nil}
+use Rattle.std.proofs.Common.{ℕ, ◌+◌, ◌≡◌, ◌≤◌, List, ◌++◌, length, take, drop, replicate, Option, None, Some, Ok, sym, ap, ◌∙◌, subst, arith, append_assoc}
 use Rattle.std.proofs.lemmas.List.{replicate-append-replicate, take-append-drop, length-take-le, length-append}
 use Rattle.ut_outside.specs.Streams.{GivesBytes, NotesMoments}
-use Rattle.ut_run.specs.Writing.{Writes, WritesRest, IsWriting}
+use Rattle.ut_run.specs.Writing.{WritesRest, IsWriting}
 
 more_by : (E : Type 0) (before marks text rest front now : List ℕ) (m count : ℕ) (held : Option (List ℕ)) (then : List ℕ) → text ≡ front ++ rest → now ≡ marks ++ replicate (length front) m → count ≤ length rest
     → GivesBytes {E = E} (Some (before ++ front)) held (Ok count) rest → NotesMoments {E = E} (Some (before ++ front)) now then (Ok count) m → WritesRest before marks text (drop count rest) m held then

@@ -1,10 +1,9 @@
 -- What a crash may leave of a run: what was acknowledged, and what was there at its entry.
-use Rattle.std.specs.Prelude.{ℕ, ◌≡◌, ◌≤◌, ◌⊎◌, List, [], ◌∷◌, ◌++◌}
+use Rattle.std.specs.Prelude.{ℕ, ◌≡◌, ◌≤◌, ◌⊎◌, List}
 use Rattle.ut_outside.specs.Disk.{View, Image, IsTold}
 use Rattle.ut_outside.specs.Run.{Always}
 use Rattle.ut_outside.specs.declared.ack.Ack.{Ack}
 use Rattle.ut_pages.specs.Layout.{IsMade}
-use Rattle.ut_value.specs.declared.entry.Entry.{Entry}
 use Rattle.ut_plain.specs.Journal.{Journal, journal_len}
 use Rattle.ut_durable.specs.Journals.{HoldsPrefix}
 use Rattle.ut_course.specs.Keeping.{AreKept}

@@ -1,5 +1,4 @@
 //! A run of the source's lines.
-ghost use Rattle.std.specs.Prelude.{◌≡◌, ◌≤◌};
 ghost use Rattle.ut_words.specs.Plans.{IsInRange};
 ghost use Rattle.ut_run.specs.Ends.{Run};
 

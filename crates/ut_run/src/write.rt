@@ -1,5 +1,4 @@
 //! Writing to the sink.
-ghost use Rattle.std.specs.Prelude.{◌≡◌};
 ghost use Rattle.ut_outside.specs.Faults.{HasCause};
 ghost use Rattle.ut_run.specs.Writing.{Writes};
 

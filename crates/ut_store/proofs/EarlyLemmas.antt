@@ -5,8 +5,6 @@ use Rattle.ut_plain.specs.declared.statement.Statement.{Statement}
 use Rattle.ut_plain.specs.declared.statement.Statement.TheVariants as statements
 use Rattle.ut_value.specs.declared.value.Column.{Column}
 use Rattle.ut_value.specs.declared.value.Value.{Value}
-use Rattle.ut_plain.specs.declared.statement.Pred.{Pred}
-use Rattle.ut_plain.specs.declared.statement.Query.{Query}
 use Rattle.ut_value.specs.declared.entry.MergeKind.{MergeKind}
 use Rattle.ut_plain.specs.declared.stage.PendingMerge.{PendingMerge}
 use Rattle.ut_plain.specs.declared.reply.Refusal.{Refusal}
@@ -109,14 +107,6 @@ no_save_changes statements.SaveSeal h = cc
 no_save_changes statements.SaveFlip h = cc
 no_save_changes statements.SaveDrop h = cc
 no_save_changes _ h = refl
-
--- each that is none of these finds no rows
-pub finds_none : (st : Statement) → ((query : Query) → st ≡ statements.Ask query → ⊥) → ((name : List ℕ) (preds : List Pred) → st ≡ statements.Delete name preds → ⊥)
-    → ((name column : List ℕ) (value : Value) (preds : List Pred) → st ≡ statements.Update name column value preds → ⊥) → finds_rows st ≡ false
-finds_none (statements.Ask query) ask delete update = absurd (ask query refl)
-finds_none (statements.Delete name preds) ask delete update = absurd (delete name preds refl)
-finds_none (statements.Update name column value preds) ask delete update = absurd (update name column value preds refl)
-finds_none _ ask delete update = refl
 
 -- each that is none of a savepoint and finds no rows is one of these
 pub all_carried : {A : Type 0} (st : Statement) → is_save st ≡ false → finds_rows st ≡ false → ((name : List ℕ) (values : List Value) → st ≡ statements.Insert name values → ⊥) → ((name : List ℕ) (values : List Value) → st ≡ statements.Bulk name values → ⊥)

@@ -1,20 +1,11 @@
 -- Rows that are loaded have values and ids, and suit their table.
-use Rattle.std.proofs.Common.{ℕ, ◌≡◌, refl, ap, subst}
+use Rattle.std.proofs.Common.{ℕ, ◌≡◌, ap, subst}
 use Rattle.ut_change.specs.declared.bulk.Bulk.{Bulk}
 use Rattle.ut_change.specs.Bulks.{CanLoad}
 use Rattle.ut_tables.specs.declared.work.Changes.{Changes}
 use Rattle.ut_tables.specs.declared.work.Changes.TheVariants.{Writes, Loads}
-use Rattle.ut_tables.specs.declared.work.Work.{Work}
 use Rattle.ut_tables.specs.Rows.{Rows}
-use Rattle.ut_tables.specs.Works.{AreChanges, IsWide, LoadsWell}
-
--- what is loaded has values and ids
-pub are_changes : (r : Rows) (w : Work) → LoadsWell r w → AreChanges w.changes
-are_changes r w loads = by w.changes refl
-  where
-    by : (c : Changes) → w.changes ≡ c → AreChanges c
-    by (Writes hits ops) is = tt
-    by (Loads bulk) is = (loads bulk is).0
+use Rattle.ut_tables.specs.Works.{IsWide}
 
 -- the rows that changes load, else these
 abbrev loaded : Bulk → Changes → Bulk

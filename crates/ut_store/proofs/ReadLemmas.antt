@@ -3,7 +3,7 @@ use Rattle.std.proofs.Common.{ℕ, ◌<◌, ◌≡◌, length, Option, None, Som
 use Rattle.std.specs.Option.{option_map}
 use Rattle.std.specs.FinMap as finmap
 use Rattle.ut_plain.specs.declared.transaction.OpenTransaction.{OpenTransaction}
-use Rattle.ut_plain.specs.Plain.{Plain, open_at, seen_by, open_deletes, others}
+use Rattle.ut_plain.specs.Plain.{Plain, open_at, seen_by}
 use Rattle.ut_plain.specs.Plain as plain
 use Rattle.ut_plain.specs.View.{view}
 use Rattle.ut_stamps.specs.Stamps.{counts}

@@ -1,13 +1,11 @@
 -- What is looked for is what the plain store finds.
-use Rattle.std.proofs.Common.{ℕ, ◌+◌, ◌<◌, ◌≤◌, ◌≡◌, inl, inr, Bool, T, true, List, [], ◌∷◌, length, is_some, Option, None, Some, refl, sym, ap, ◌∙◌, subst, arith, slice_get, unwrap_or}
+use Rattle.std.proofs.Common.{ℕ, ◌+◌, ◌<◌, ◌≤◌, ◌≡◌, inl, inr, T, List, [], ◌∷◌, length, is_some, Option, None, Some, refl, sym, ap, ◌∙◌, subst, arith, slice_get, unwrap_or}
 use Rattle.std.proofs.lemmas.Bool.{cases_lt}
 use Rattle.std.specs.Ordering.{nat_cmp, is_lt}
 use Rattle.std.specs.FinMap.{is_sorted}
 use Rattle.std.specs.FinMap.Entries.{below_all}
-use Rattle.ut_value.specs.declared.value.Column.{Column}
 use Rattle.ut_plain.specs.declared.statement.Pred.{Pred}
 use Rattle.ut_plain.specs.Tables.{place_of, place_in, columns_in}
-use Rattle.ut_plain.specs.Names.{known}
 use Rattle.ut_plain.specs.Condition.{meets}
 use Rattle.ut_plain.specs.Plain.{Plain}
 use Rattle.ut_plain.specs.View.{view}
@@ -42,10 +40,6 @@ use Rattle.ut_store.proofs.KindLemmas.{TableAt, table_at}
 use Rattle.ut_staged.proofs.TableLemmas.{here}
 
 -- ---- what can be looked for
-
-pub known_in : (o : Option (List Column)) (test : List Column → Bool) → known test o ≡ true → test (unwrap_or o []) ≡ true
-known_in None test h = cc
-known_in (Some columns) test h = h
 
 pub seen_once : (e : Held) (p : Plain) (session n : ℕ) (table : Staged) → StandsFor e p → slice_get e.rows.staged n ≡ Some table → SeenOnce table e.rows.fates (looks_at e session) (own_at e session)
 seen_once e p session n table s at = record {

@@ -1,5 +1,5 @@
 //! Merges into main: one begins, hands out its job, and ends with what was built of it.
-ghost use Rattle.std.specs.Prelude.{◌≡◌, ◌<◌, ◌≤◌, false, Some, None, IsTrue, IfOk, OnOk, OnErr, length, slice_get};
+ghost use Rattle.std.specs.Prelude.{◌≡◌, ◌<◌, false, Some, None, IsTrue, IfOk, OnOk, OnErr, slice_get};
 ghost use Rattle.ut_value.specs.declared.entry.Entry.TheVariants as entries;
 ghost use Rattle.ut_value.specs.Spelling.{spelling};
 ghost use Rattle.ut_plain.specs.declared.statement.Statement.TheVariants as statements;

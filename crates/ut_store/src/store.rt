@@ -1,5 +1,5 @@
 //! The store: its tables, their rows in stages, the transactions and what became of each.
-ghost use Rattle.std.specs.Prelude.{◌≡◌, ◌<◌, ◌≤◌, ◌^◌, ℕ, List, length, map, IsTrue, IfOk, OnOk};
+ghost use Rattle.std.specs.Prelude.{◌≡◌, ◌<◌, ◌≤◌, ◌^◌, ℕ, map, IfOk};
 ghost use Rattle.ut_plain.specs.Capture.{Directory};
 ghost use Rattle.ut_plain.specs.Plain.{new_store, no_image};
 ghost use Rattle.ut_store.specs.Stands.{StandsFor};

@@ -14,19 +14,15 @@ note_insert-requires-clause-rule c =
     (subst (λ os. IsTrue (list_all is_op os)) c.split.ensures.ops at.invariant.is.rule)
 
 pub note_insert-requires-clause-room : goal.note_insert-requires-clause-room
-note_insert-requires-clause-room c =
-    let at = c.loop-rest in
-    omega (arith, first-len c.args.self at.rest c.split.result.1 _ c.split.ensures.ops c.split.ensures.id at.invariant.from at.invariant.left, at.invariant.room)
+note_insert-requires-clause-room c = omega (arith, first-len c.loop-rest.rest c.split.result.1 _ c.split.ensures.ops, c.loop-rest.invariant.room)
 
 pub note_insert-requires-clause-size : goal.note_insert-requires-clause-size
-note_insert-requires-clause-size c =
-    let at = c.loop-rest in
-    omega (arith, first-len c.args.self at.rest c.split.result.1 _ c.split.ensures.ops c.split.ensures.id at.invariant.from at.invariant.left, at.invariant.size)
+note_insert-requires-clause-size c = omega (arith, first-len c.loop-rest.rest c.split.result.1 _ c.split.ensures.ops, c.loop-rest.invariant.size)
 
 pub loop-rest-preserved : goal.loop-rest-preserved
 loop-rest-preserved c =
     let at = c.loop-rest in
-    let first = first-len c.args.self at.rest c.split.result.1 _ c.split.ensures.ops c.split.ensures.id at.invariant.from at.invariant.left in
+    let first = first-len at.rest c.split.result.1 _ c.split.ensures.ops in
     record {
       is = c.split.ensures.behind;
       from = omega (arith, c.split.ensures.id, at.invariant.from);
