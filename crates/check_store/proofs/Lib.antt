@@ -1,3 +1,1 @@
 pub mod EmptyLemmas
-pub mod InsertLemmas
-pub mod TablesLemmas

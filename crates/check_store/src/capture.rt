@@ -18,7 +18,7 @@ const DELTAS: &[u8] = b"\x01\0\0\0\x01\0\0\0\x80\0\0\0\0\0\0\x01\
 \x02\0\0\0\x03\0\0\0\x80\0\0\0\0\0\0\x03\x06\0\0\0\x80\0\0\0\0\0\0\x06";
 
 /// A column of numbers.
-pub(crate) fn columns(rt: &impl Abort, alloc: Global) -> Result<Seq<Column>, AllocError>
+fn columns(rt: &impl Abort, alloc: Global) -> Result<Seq<Column>, AllocError>
     ensures { IfOk result (λ columns. length columns ≡ 1) }
 {
     let name = name(rt, alloc, b"k")?;
@@ -70,31 +70,59 @@ fn insert(
     ensures count { OnOk result (count_of stages.new.stages ≡ count_of stages.old.stages + 1) }
     ensures columns { OnOk result (stages.new.stages.columns ≡ stages.old.stages.columns) }
 {
-    let values = number(alloc, id)?;
     stages.room(1)?;
+    let values = number(alloc, id)?;
     assert!(rt; fits_columns(stages.columns(), values.as_slice()));
     stages.push(Row { id, values }, Stamp { begin, end });
     Ok(())
 }
 
-/// Rows that are live, deleted, being deleted and being inserted, given up and committed.
-fn fill(
-    rt: &impl Abort,
-    alloc: Global,
-    stages: &mut Stages,
+/// A transaction that was given up, one that is open, and one that was committed.
+#[derive(Clone, Copy)]
+struct Numbers {
     nobody: u64,
     open: u64,
     done: u64,
+}
+
+fn transactions(rt: &impl Abort, fates: &mut Fates) -> Result<Numbers, AllocError> {
+    let nobody = ended(rt, fates, None)?;
+    let open = fates.start()?;
+    let done = ended(rt, fates, Some(1))?;
+    Ok(Numbers { nobody, open, done })
+}
+
+/// Rows that were there at the opening: one is live, one deleted and one being deleted.
+fn fill_old(
+    rt: &impl Abort,
+    alloc: Global,
+    stages: &mut Stages,
+    of: Numbers,
 ) -> Result<(), AllocError>
     requires { count_of stages.old.stages ≡ 0 }
-    ensures { OnOk result (stages.new.stages.columns ≡ stages.old.stages.columns) }
+    ensures count { OnOk result (count_of stages.new.stages ≡ 3) }
+    ensures columns { OnOk result (stages.new.stages.columns ≡ stages.old.stages.columns) }
 {
     insert(rt, alloc, stages, 1, 0, None)?;
-    insert(rt, alloc, stages, 2, 0, Some(done))?;
-    insert(rt, alloc, stages, 3, 0, Some(open))?;
-    insert(rt, alloc, stages, 4, open, None)?;
-    insert(rt, alloc, stages, 5, nobody, None)?;
-    insert(rt, alloc, stages, 6, done, None)
+    insert(rt, alloc, stages, 2, 0, Some(of.done))?;
+    insert(rt, alloc, stages, 3, 0, Some(of.open))?;
+    Ok(())
+}
+
+/// Rows that transactions began: one is being inserted, one was given up and one committed.
+fn fill_new(
+    rt: &impl Abort,
+    alloc: Global,
+    stages: &mut Stages,
+    of: Numbers,
+) -> Result<(), AllocError>
+    requires { count_of stages.old.stages ≡ 3 }
+    ensures { OnOk result (stages.new.stages.columns ≡ stages.old.stages.columns) }
+{
+    insert(rt, alloc, stages, 4, of.open, None)?;
+    insert(rt, alloc, stages, 5, of.nobody, None)?;
+    insert(rt, alloc, stages, 6, of.done, None)?;
+    Ok(())
 }
 
 fn move_two(rt: &impl Abort, stages: &mut Stages) -> Result<(), AllocError>
@@ -105,21 +133,28 @@ fn move_two(rt: &impl Abort, stages: &mut Stages) -> Result<(), AllocError>
     Ok(())
 }
 
+/// Two of the six rows move to the second stage.
+fn fill(rt: &impl Abort, alloc: Global, stages: &mut Stages, of: Numbers) -> Result<(), AllocError>
+    requires { count_of stages.old.stages ≡ 0 }
+    ensures { OnOk result (stages.new.stages.columns ≡ stages.old.stages.columns) }
+{
+    fill_old(rt, alloc, stages, of)?;
+    fill_new(rt, alloc, stages, of)?;
+    move_two(rt, stages)?;
+    Ok(())
+}
+
 fn stages(
     rt: &impl Abort,
     alloc: Global,
     columns: Seq<Column>,
-    fates: &mut Fates,
+    of: Numbers,
 ) -> Result<Stages, AllocError>
     requires { length columns ≡ 1 }
     ensures { IfOk result (λ stages. stages.stages.columns ≡ columns) }
 {
-    let nobody = ended(rt, fates, None)?;
-    let open = fates.start()?;
-    let done = ended(rt, fates, Some(1))?;
     let mut stages = Stages::new(alloc, columns)?;
-    fill(rt, alloc, &mut stages, nobody, open, done)?;
-    move_two(rt, &mut stages)?;
+    fill(rt, alloc, &mut stages, of)?;
     Ok(stages)
 }
 
@@ -147,8 +182,9 @@ fn check_table(
 ) -> Result<(), AllocError>
     requires { length columns ≡ 1 }
 {
+    let of = transactions(rt, fates)?;
     let table = table(rt, alloc, &columns)?;
-    let stages = stages(rt, alloc, columns, fates)?;
+    let stages = stages(rt, alloc, columns, of)?;
     has_deltas(rt, alloc, &table, &stages, fates)
 }
 

@@ -11,9 +11,14 @@ use ut_outside::{Disk, MemDisk, Which};
 use ut_plain::{Progress, Why};
 use ut_value::{MergeKind, Name};
 
-fn creates(rt: &impl Abort, alloc: Global, engine: &mut Engine<'_, MemDisk>) -> Result<bool, Fail> {
+fn creates(
+    rt: &impl Abort,
+    alloc: Global,
+    engine: &mut Engine<'_, MemDisk>,
+) -> Result<(), AllocError> {
     let statement = create(rt, alloc)?;
-    Ok(commits(rt, alloc, engine, statement, 1))
+    assert!(rt; commits(rt, alloc, engine, statement, 1));
+    Ok(())
 }
 
 fn inserts(
@@ -21,16 +26,21 @@ fn inserts(
     alloc: Global,
     engine: &mut Engine<'_, MemDisk>,
     number: i64,
-) -> Result<bool, Fail> {
+) -> Result<(), AllocError> {
     let statement = insert(rt, alloc, number)?;
-    Ok(changes_one(rt, alloc, engine, statement))
+    assert!(rt; changes_one(rt, alloc, engine, statement), "row {number}");
+    Ok(())
 }
 
 /// Makes the table, with two rows.
-fn fill(rt: &impl Abort, alloc: Global, engine: &mut Engine<'_, MemDisk>) -> Result<(), Fail> {
-    assert!(rt; creates(rt, alloc, engine)?);
+fn fill(
+    rt: &impl Abort,
+    alloc: Global,
+    engine: &mut Engine<'_, MemDisk>,
+) -> Result<(), AllocError> {
+    creates(rt, alloc, engine)?;
     for number in [3, 4] {
-        assert!(rt; inserts(rt, alloc, engine, number)?, "row {number}");
+        inserts(rt, alloc, engine, number)?;
     }
     counts(rt, engine);
     Ok(())
@@ -53,15 +63,27 @@ fn ids_of(
     ids(rt, alloc, engine, &table)
 }
 
+/// The rows of the table.
 fn has_both_rows(
     rt: &impl Abort,
     alloc: Global,
     engine: &Engine<'_, MemDisk>,
-) -> Result<bool, AllocError> {
+) -> Result<(), AllocError> {
     match ids_of(rt, alloc, engine, b"T")? {
-        Some(found) => Ok(found.as_slice() == [1, 2].as_slice()),
-        None => Ok(false),
+        Some(found) => assert!(rt; found.as_slice() == [1, 2].as_slice()),
+        None => panic!(rt; "there is no table"),
     }
+    Ok(())
+}
+
+fn has_no_other(
+    rt: &impl Abort,
+    alloc: Global,
+    engine: &Engine<'_, MemDisk>,
+) -> Result<(), AllocError> {
+    let other = ids_of(rt, alloc, engine, b"t")?;
+    assert!(rt; other.is_none());
+    Ok(())
 }
 
 /// The rows of the table, and how many stand in each stage.
@@ -71,22 +93,23 @@ fn check(
     engine: &Engine<'_, MemDisk>,
     l1: u32,
     l2: u32,
-) -> Result<(), Fail> {
+) -> Result<(), AllocError> {
     assert_eq!(rt; lengths(rt, engine), (l1, l2));
-    assert!(rt; has_both_rows(rt, alloc, engine)?);
-    assert!(rt; ids_of(rt, alloc, engine, b"t")?.is_none());
-    Ok(())
+    has_both_rows(rt, alloc, engine)?;
+    has_no_other(rt, alloc, engine)
 }
 
-/// Moves a row of a table to the second stage.
+/// What comes of moving a row of a table to the second stage.
 fn moves(
     rt: &impl Abort,
     alloc: Global,
     engine: &mut Engine<'_, MemDisk>,
     bytes: &[u8],
-) -> Result<Result<u32, L1Error>, AllocError> {
+    wanted: Result<u32, L1Error>,
+) -> Result<(), AllocError> {
     let table = name(rt, alloc, bytes)?;
-    Ok(moved(rt, alloc, engine, &table))
+    assert_eq!(rt; moved(rt, alloc, engine, &table), wanted);
+    Ok(())
 }
 
 /// How many rows of a table stand in its stages, if it is there.
@@ -104,13 +127,27 @@ fn lens_of(
     })
 }
 
-/// Moves a row to the second stage.
-fn merge(rt: &impl Abort, alloc: Global, engine: &mut Engine<'_, MemDisk>) -> Result<(), Fail> {
-    assert_eq!(rt; moves(rt, alloc, engine, b"t")?, Err(L1Error::Name));
-    assert_eq!(rt; moves(rt, alloc, engine, b"T")?, Ok(1));
-    assert_eq!(rt; lens_of(rt, alloc, engine, b"T")?, Some((1, 1)));
-    assert_eq!(rt; lens_of(rt, alloc, engine, b"t")?, None);
+fn has_lens(
+    rt: &impl Abort,
+    alloc: Global,
+    engine: &mut Engine<'_, MemDisk>,
+    bytes: &[u8],
+    wanted: Option<(u32, u32)>,
+) -> Result<(), AllocError> {
+    assert_eq!(rt; lens_of(rt, alloc, engine, bytes)?, wanted);
     Ok(())
+}
+
+/// Moves a row to the second stage.
+fn merge(
+    rt: &impl Abort,
+    alloc: Global,
+    engine: &mut Engine<'_, MemDisk>,
+) -> Result<(), AllocError> {
+    moves(rt, alloc, engine, b"t", Err(L1Error::Name))?;
+    moves(rt, alloc, engine, b"T", Ok(1))?;
+    has_lens(rt, alloc, engine, b"T", Some((1, 1)))?;
+    has_lens(rt, alloc, engine, b"t", None)
 }
 
 /// The table is filled, and a row is moved.
@@ -118,22 +155,26 @@ fn fill_and_merge(
     rt: &impl Abort,
     alloc: Global,
     engine: &mut Engine<'_, MemDisk>,
-) -> Result<(), Fail> {
+) -> Result<(), AllocError> {
     fill(rt, alloc, engine)?;
     check(rt, alloc, engine, 2, 0)?;
     merge(rt, alloc, engine)?;
     check(rt, alloc, engine, 1, 1)
 }
 
+/// A store whose table is filled, of which a row is moved, and then opened again.
+fn fill_and_open(rt: &impl Abort, alloc: Global, disk: &mut MemDisk) -> Result<(), Fail> {
+    let mut engine = made(alloc, disk)?;
+    fill_and_merge(rt, alloc, &mut engine)?;
+    let engine = opened_again(engine, alloc)?;
+    check(rt, alloc, &engine, 2, 0)?;
+    Ok(())
+}
+
 #[test]
 fn a_store_is_made_and_opened_again(rt: HostRuntime) -> Result<(), Fail> {
-    let alloc = rt.alloc();
-    let mut disk = new_disk(alloc)?;
-    let mut engine = made(alloc, &mut disk)?;
-    fill_and_merge(&rt, alloc, &mut engine)?;
-    let engine = opened_again(engine, alloc)?;
-    check(&rt, alloc, &engine, 2, 0)?;
-    Ok(())
+    let mut disk = new_disk(rt.alloc())?;
+    fill_and_open(&rt, rt.alloc(), &mut disk)
 }
 
 /// A merge of a table begins, and has a number.
@@ -149,24 +190,25 @@ fn begins(
     Ok(job.number())
 }
 
-fn begins_of(
+/// What comes of the begin of a merge of a table.
+fn begins_as(
     rt: &impl Abort,
     alloc: Global,
     engine: &mut Engine<'_, MemDisk>,
     bytes: &[u8],
-) -> Result<Result<u32, BeginError>, AllocError> {
+    wanted: Result<u32, BeginError>,
+) -> Result<(), AllocError> {
     let table = name(rt, alloc, bytes)?;
-    Ok(begins(rt, alloc, engine, &table))
+    assert_eq!(rt; begins(rt, alloc, engine, &table), wanted);
+    Ok(())
 }
 
-/// Whether the job of the first merge is had again.
-fn has_job(
-    rt: &impl Abort,
-    alloc: Global,
-    engine: &Engine<'_, MemDisk>,
-) -> Result<bool, AllocError> {
+/// The job of the first merge is had again.
+fn has_job(rt: &impl Abort, alloc: Global, engine: &Engine<'_, MemDisk>) -> Result<(), AllocError> {
     assert!(rt; !engine.down());
-    Ok(matches!(engine.merge_again(alloc)?, Some(job) if job.number() == 1))
+    let job = engine.merge_again(alloc)?;
+    assert!(rt; matches!(&job, Some(job) if job.number() == 1));
+    Ok(())
 }
 
 /// The first merge is pending.
@@ -181,16 +223,13 @@ fn begin_merge(
     rt: &impl Abort,
     alloc: Global,
     engine: &mut Engine<'_, MemDisk>,
-) -> Result<(), Fail> {
-    assert_eq!(rt; begins_of(rt, alloc, engine, b"t")?, Err(BeginError::Name));
+) -> Result<(), AllocError> {
+    begins_as(rt, alloc, engine, b"t", Err(BeginError::Name))?;
     assert!(rt; engine.pending().is_none());
-    assert_eq!(rt; begins_of(rt, alloc, engine, b"T")?, Ok(1));
-    assert_eq!(rt;
-        begins_of(rt, alloc, engine, b"T")?,
-        Err(BeginError::Busy(1))
-    );
-    assert_eq!(rt; begins_of(rt, alloc, engine, b"t")?, Err(BeginError::Name));
-    assert!(rt; has_job(rt, alloc, engine)?);
+    begins_as(rt, alloc, engine, b"T", Ok(1))?;
+    begins_as(rt, alloc, engine, b"T", Err(BeginError::Busy(1)))?;
+    begins_as(rt, alloc, engine, b"t", Err(BeginError::Name))?;
+    has_job(rt, alloc, engine)?;
     it_is_pending(rt, engine);
     Ok(())
 }
@@ -200,7 +239,7 @@ fn fill_and_begin(
     rt: &impl Abort,
     alloc: Global,
     engine: &mut Engine<'_, MemDisk>,
-) -> Result<(), Fail> {
+) -> Result<(), AllocError> {
     fill(rt, alloc, engine)?;
     merge(rt, alloc, engine)?;
     begin_merge(rt, alloc, engine)
@@ -208,46 +247,65 @@ fn fill_and_begin(
 
 #[test]
 fn a_merge_begins_and_hands_out_its_job(rt: HostRuntime) -> Result<(), Fail> {
-    let alloc = rt.alloc();
-    let mut disk = new_disk(alloc)?;
-    let mut engine = made(alloc, &mut disk)?;
-    fill_and_begin(&rt, alloc, &mut engine)?;
+    let mut disk = new_disk(rt.alloc())?;
+    let mut engine = made(rt.alloc(), &mut disk)?;
+    fill_and_begin(&rt, rt.alloc(), &mut engine)?;
     Ok(())
 }
 
-/// A savepoint of one page is written and selected.
-fn save(rt: &impl Abort, alloc: Global, engine: &mut Engine<'_, MemDisk>) -> Result<(), Fail> {
+/// A savepoint of one page begins, and no other one beside it.
+fn begin_save(
+    rt: &impl Abort,
+    alloc: Global,
+    engine: &mut Engine<'_, MemDisk>,
+) -> Result<(), SaveError> {
     assert_eq!(rt; begun(rt, alloc, engine)?, 1);
     assert!(rt; matches!(phase(rt, engine), Progress::Writing { done: 0, pages: 1 }));
-    assert!(rt; matches!(begun(rt, alloc, engine), Err(SaveError::State(Why::Saving))));
+    let again = begun(rt, alloc, engine);
+    assert!(rt; matches!(again, Err(SaveError::State(Why::Saving))));
+    Ok(())
+}
+
+/// The savepoint is written and selected.
+fn end_save(rt: &impl Abort, engine: &mut Engine<'_, MemDisk>) -> Result<(), PhaseError> {
     stepped(rt, engine)?;
     sealed(rt, engine)?;
     assert_eq!(rt; flipped(rt, engine)?, 3);
     Ok(())
 }
 
-/// There is no savepoint to be dropped; then the table is filled, a row is moved, and a savepoint is selected.
-fn fill_and_save(
+fn save(rt: &impl Abort, alloc: Global, engine: &mut Engine<'_, MemDisk>) -> Result<(), Fail> {
+    begin_save(rt, alloc, engine)?;
+    end_save(rt, engine)?;
+    Ok(())
+}
+
+/// There is no savepoint to be dropped; then the table is filled, and a row is moved.
+fn drop_and_fill(
     rt: &impl Abort,
     alloc: Global,
     engine: &mut Engine<'_, MemDisk>,
-) -> Result<(), Fail> {
+) -> Result<(), AllocError> {
     let none = dropped(rt, engine);
     assert!(rt; matches!(none, Err(PhaseError::State(Why::Nothing))));
     fill(rt, alloc, engine)?;
-    merge(rt, alloc, engine)?;
-    save(rt, alloc, engine)
+    merge(rt, alloc, engine)
+}
+
+/// A store with a savepoint, and then opened again.
+fn save_and_open(rt: &impl Abort, alloc: Global, disk: &mut MemDisk) -> Result<(), Fail> {
+    let mut engine = made(alloc, disk)?;
+    drop_and_fill(rt, alloc, &mut engine)?;
+    save(rt, alloc, &mut engine)?;
+    let engine = opened_again(engine, alloc)?;
+    check(rt, alloc, &engine, 1, 1)?;
+    Ok(())
 }
 
 #[test]
 fn a_store_is_opened_from_its_savepoint(rt: HostRuntime) -> Result<(), Fail> {
-    let alloc = rt.alloc();
-    let mut disk = new_disk(alloc)?;
-    let mut engine = made(alloc, &mut disk)?;
-    fill_and_save(&rt, alloc, &mut engine)?;
-    let engine = opened_again(engine, alloc)?;
-    check(&rt, alloc, &engine, 1, 1)?;
-    Ok(())
+    let mut disk = new_disk(rt.alloc())?;
+    save_and_open(&rt, rt.alloc(), &mut disk)
 }
 
 /// Why the store of a disk is not opened, if it isn't.
@@ -275,15 +333,25 @@ fn failing(alloc: Global) -> Result<MemDisk, AllocError> {
     Ok(disk)
 }
 
+/// There is no store, then one is made, and not again.
+fn is_made_once(rt: &impl Abort, alloc: Global, disk: &mut MemDisk) {
+    assert_eq!(rt; cause_of(alloc, disk), Some(OpenError::NotMade));
+    assert_eq!(rt; left(alloc, disk), Ok(()));
+    assert_eq!(rt; left(alloc, disk), Err(OpenError::Made));
+}
+
+/// Without its log there is no store.
+fn is_damaged(rt: &impl Abort, alloc: Global, disk: &MemDisk) -> Result<(), AllocError> {
+    let mut cut = without_log(alloc, disk)?;
+    assert_eq!(rt; cause_of(alloc, &mut cut), Some(OpenError::Damaged));
+    Ok(())
+}
+
 #[test]
 fn it_is_told_why_there_is_no_store(rt: HostRuntime) -> Result<(), Fail> {
-    let alloc = rt.alloc();
-    let mut disk = new_disk(alloc)?;
-    assert_eq!(rt; cause_of(alloc, &mut disk), Some(OpenError::NotMade));
-    assert_eq!(rt; left(alloc, &mut disk), Ok(()));
-    assert_eq!(rt; left(alloc, &mut disk), Err(OpenError::Made));
-    let mut cut = without_log(alloc, &disk)?;
-    assert_eq!(rt; cause_of(alloc, &mut cut), Some(OpenError::Damaged));
+    let mut disk = new_disk(rt.alloc())?;
+    is_made_once(&rt, rt.alloc(), &mut disk);
+    is_damaged(&rt, rt.alloc(), &disk)?;
     Ok(())
 }
 

@@ -2,8 +2,6 @@
 #![tactic(auto)]
 
 #[cfg(test)]
-mod bulk;
-#[cfg(test)]
 mod calls;
 #[cfg(test)]
 mod capture;
@@ -11,5 +9,3 @@ mod capture;
 mod engine;
 #[cfg(test)]
 mod restart;
-#[cfg(test)]
-mod tables;

@@ -3,8 +3,8 @@ use crate::scan::{OLD, stamps};
 use std::alloc::{AllocError, Global};
 use std::process::Abort;
 use std::test::Fail;
-use ut_scan::{Place, StampTable};
-use ut_stamps::Stamp;
+use ut_scan::Place;
+use ut_stamps::{Stamp, StampTable};
 
 // A part that has as many rows as this, of which one ends.
 fn part_of(rt: &impl Abort, alloc: Global, n: u32, ended: u32) -> Result<StampTable, AllocError> {
@@ -16,20 +16,25 @@ fn part_of(rt: &impl Abort, alloc: Global, n: u32, ended: u32) -> Result<StampTa
     Ok(table)
 }
 
+// The row has its end, and no other one has any.
+fn one_ends(rt: &impl Abort, table: &StampTable, n: u32, ended: u32) {
+    assert!(rt; table.parts() == 1);
+    let stamps = table.part(0);
+    assert!(rt; stamps.joint().is_none());
+    assert_eq!(rt; stamps.len(), n as usize);
+    for i in 0..stamps.len() {
+        let end = if i == ended as usize { Some(5) } else { None };
+        assert_eq!(rt; stamps.get(i), Stamp { begin: 0, end });
+    }
+}
+
 // A list of few stamps is emptied in place, one of many makes room for new.
 #[test]
 fn one_row_ends_where_all_stamps_agreed(rt: HostRuntime) -> Result<(), Fail> {
     let alloc = rt.alloc();
     for (n, ended) in [(3, 0), (3, 2), (3000, 0), (3000, 1500), (3000, 2999)] {
         let table = part_of(&rt, alloc, n, ended)?;
-        assert!(rt; table.parts() == 1);
-        let stamps = table.part(0);
-        assert!(rt; stamps.joint().is_none());
-        assert_eq!(rt; stamps.len(), n as usize);
-        for i in 0..stamps.len() {
-            let end = if i == ended as usize { Some(5) } else { None };
-            assert_eq!(rt; stamps.get(i), Stamp { begin: 0, end });
-        }
+        one_ends(&rt, &table, n, ended);
     }
     Ok(())
 }

@@ -2,6 +2,8 @@
 #![tactic(auto)]
 
 #[cfg(test)]
+mod found;
+#[cfg(test)]
 mod joint;
 #[cfg(test)]
 mod load;
@@ -9,6 +11,8 @@ mod load;
 mod merge;
 #[cfg(test)]
 mod parts;
+#[cfg(test)]
+mod rows;
 #[cfg(test)]
 mod scan;
 #[cfg(test)]

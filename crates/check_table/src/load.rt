@@ -1,8 +1,10 @@
 //! Rows whose values stand one row's behind the other's.
-ghost use Rattle.std.specs.Prelude.{◌≡◌, ◌+◌, ◌<◌, OnOk};
+ghost use Rattle.std.specs.Prelude.{◌≡◌, ◌+◌, ◌<◌, ◌≤◌, OnOk};
 ghost use Rattle.ut_table.specs.Numbered.{IsAtRest};
 
-use crate::table::{Stage, add, bare, finds_each, has_shape};
+use crate::found::finds_each;
+use crate::rows::{Stage, add, bare, text};
+use crate::table::has_shape;
 use std::alloc::{AllocError, Global};
 use std::process::Abort;
 use std::test::Fail;
@@ -10,7 +12,7 @@ use ut_l2::L2;
 use ut_plain::fits_columns;
 use ut_stamps::Fates;
 use ut_table::Table;
-use ut_value::{Text, Value, is_text, same_bytes};
+use ut_value::{Value, same_bytes};
 
 // The numbers of so many rows: ten times the row's place, and the column's.
 fn numbers(alloc: Global, width: u8, rows: u32) -> Result<Vec<Value>, AllocError> {
@@ -44,6 +46,7 @@ fn append(
 // From one place on these rows have those numbers, under the ids from one on.
 fn has_rows(rt: &impl Abort, l2: &L2, width: u8, from: u32, first_id: u32, rows: u32)
     requires { l2.now.width ≡ width }
+    ensures { (from ≤ 1000) × (rows ≤ 1000) }
 {
     assert!(rt; from <= 1000);
     assert!(rt; rows <= 1000);
@@ -68,13 +71,30 @@ const APPENDED: [(u32, u32, u32); 5] = [
     (303, 1, 0),
 ];
 
-fn append_each(rt: &impl Abort, alloc: Global, width: u8) -> Result<(), Fail> {
+// Rows of that many values each are appended, and stand where they should.
+fn append_rows(
+    rt: &impl Abort,
+    alloc: Global,
+    l2: &mut L2,
+    width: u8,
+    from: u32,
+    first_id: u32,
+    rows: u32,
+) -> Result<(), AllocError>
+    requires { l2.old.width ≡ width }
+    ensures { l2.new.width ≡ width }
+{
+    let values = numbers(alloc, width, rows)?;
+    append(rt, l2, usize::from(width), first_id, &values)?;
+    has_rows(rt, l2, width, from, first_id, rows);
+    assert_eq!(rt; l2.len(), from + rows);
+    Ok(())
+}
+
+fn append_each(rt: &impl Abort, alloc: Global, width: u8) -> Result<(), AllocError> {
     let mut l2 = L2::new(alloc, width)?;
     for (from, first_id, rows) in APPENDED {
-        let values = numbers(alloc, width, rows)?;
-        append(rt, &mut l2, usize::from(width), first_id, &values)?;
-        assert_eq!(rt; l2.len(), from + rows);
-        has_rows(rt, &l2, width, from, first_id, rows);
+        append_rows(rt, alloc, &mut l2, width, from, first_id, rows)?;
     }
     has_rows(rt, &l2, width, 0, 7, 2);
     Ok(())
@@ -88,23 +108,29 @@ fn values_are_rows_of_each_width(rt: HostRuntime) -> Result<(), Fail> {
     Ok(())
 }
 
-fn text(rt: &impl Abort, alloc: Global, bytes: &[u8]) -> Result<Value, AllocError> {
-    assert!(rt; is_text(bytes));
-    Ok(Value::Text(Text::from_slice(alloc, bytes)?))
+// Adds the values of a row.
+fn push_row(
+    rt: &impl Abort,
+    alloc: Global,
+    values: &mut Vec<Value>,
+    number: i64,
+    bytes: &[u8],
+) -> Result<(), AllocError> {
+    values.push(Value::Int(number))?;
+    values.push(text(rt, alloc, bytes)?)?;
+    Ok(())
 }
 
-/// The values of two rows.
-pub(crate) fn two_rows(rt: &impl Abort, alloc: Global) -> Result<Vec<Value>, AllocError> {
+// The values of two rows.
+fn two_rows(rt: &impl Abort, alloc: Global) -> Result<Vec<Value>, AllocError> {
     let mut values = Vec::new(alloc);
-    values.push(Value::Int(5))?;
-    values.push(text(rt, alloc, b"a")?)?;
-    values.push(Value::Int(-7))?;
-    values.push(text(rt, alloc, b"b")?)?;
+    push_row(rt, alloc, &mut values, 5, b"a")?;
+    push_row(rt, alloc, &mut values, -7, b"b")?;
     Ok(values)
 }
 
-/// Two rows of a number and a text are loaded.
-pub(crate) fn load_two(
+// Two rows of a number and a text are loaded.
+fn load_values(
     rt: &impl Abort,
     table: &mut Table,
     first_id: u32,
@@ -122,6 +148,15 @@ pub(crate) fn load_two(
     Ok(())
 }
 
+/// Rows 1 and 2 are loaded.
+pub(crate) fn load_two(rt: &impl Abort, alloc: Global, table: &mut Table) -> Result<(), AllocError>
+    requires { IsAtRest 1 table.old.stages }
+    ensures { OnOk result (IsAtRest 3 table.new.stages) }
+{
+    let values = two_rows(rt, alloc)?;
+    load_values(rt, table, 1, &values)
+}
+
 fn load_none(rt: &impl Abort, table: &mut Table, next: u32) -> Result<(), AllocError>
     requires rest { IsAtRest next table.old.stages }
     requires small { next < 100 }
@@ -131,16 +166,27 @@ fn load_none(rt: &impl Abort, table: &mut Table, next: u32) -> Result<(), AllocE
     table.load_values(next, &[], 0)
 }
 
+// No row is loaded, then two are, and a row is inserted.
+fn load_three(rt: &impl Abort, alloc: Global, table: &mut Table) -> Result<(), AllocError>
+    requires { IsAtRest 1 table.old.stages }
+    ensures { OnOk result (IsAtRest 4 table.new.stages) }
+{
+    load_none(rt, table, 1)?;
+    has_shape(rt, alloc, table, 0, 0, &[])?;
+    load_two(rt, alloc, table)?;
+    add(rt, alloc, table, Stage::First, 3, 5, b"c")?;
+    has_shape(rt, alloc, table, 1, 2, &[])
+}
+
+fn load_and_find(rt: &impl Abort, alloc: Global, fates: &Fates) -> Result<(), AllocError> {
+    let mut table = bare(rt, alloc)?;
+    load_three(rt, alloc, &mut table)?;
+    finds_each(rt, alloc, &table, fates, 4)
+}
+
 #[test]
 fn loaded_values_are_found(rt: HostRuntime) -> Result<(), Fail> {
-    let alloc = rt.alloc();
-    let fates = Fates::new(alloc)?;
-    let mut table = bare(&rt, alloc)?;
-    load_none(&rt, &mut table, 1)?;
-    has_shape(&rt, alloc, &table, 0, 0, &[])?;
-    load_two(&rt, &mut table, 1, &two_rows(&rt, alloc)?)?;
-    add(&rt, alloc, &mut table, Stage::First, 3, 5, b"c")?;
-    has_shape(&rt, alloc, &table, 1, 2, &[])?;
-    finds_each(&rt, alloc, &table, &fates, 4)?;
+    let fates = Fates::new(rt.alloc())?;
+    load_and_find(&rt, rt.alloc(), &fates)?;
     Ok(())
 }

@@ -1,5 +1,5 @@
 //! Worked merges of one column.
-ghost use Rattle.std.specs.Prelude.{◌≡◌, ◌≢◌, ◌+◌, ◌<◌, ◌++◌, [], ◌∷◌, length, map, IfOk};
+ghost use Rattle.std.specs.Prelude.{◌≡◌, ◌≢◌, ◌+◌, ◌<◌, ◌++◌, [], ◌∷◌, length, map, IfOk, OnOk};
 ghost use Rattle.std.specs.List.{range_with_len};
 ghost use Rattle.ut_l2.specs.KeyRows.{KeyRow};
 
@@ -9,7 +9,7 @@ use std::sync::Arc;
 use std::test::Fail;
 use ut_l2::L2;
 use ut_main::{Main, Part};
-use ut_merge::{Build, Builder, Job, Keep, Old, Parts, build};
+use ut_merge::{Build, Builder, Built, Job, Keep, Old, Parts, build};
 use ut_outside::NoHook;
 use ut_plain::PendingMerge;
 use ut_value::{MergeKind, Row, Seq, Value};
@@ -23,6 +23,19 @@ fn row(alloc: Global, id: u32, number: i64) -> Result<Row, AllocError>
     Ok(Row { id, values })
 }
 
+// A row more.
+fn append(alloc: Global, l2: &mut L2, id: u32, number: i64) -> Result<(), AllocError>
+    requires wide { l2.old.width ≡ 1 }
+    requires few { length l2.old.rows < 100 }
+    ensures wide { l2.new.width ≡ 1 }
+    ensures ids { OnOk result (map (λ (row : KeyRow). row.id) l2.new.rows
+        ≡ map (λ (row : KeyRow). row.id) l2.old.rows ++ id ∷ []) }
+{
+    let row = [row(alloc, id, number)?];
+    l2.append(&row)?;
+    Ok(())
+}
+
 // A stage of a row for each number, whose ids count from `first` on.
 fn stage(alloc: Global, first: u32, numbers: &[i64]) -> Result<L2, AllocError>
     requires { first + length numbers.now < 100 }
@@ -32,8 +45,7 @@ fn stage(alloc: Global, first: u32, numbers: &[i64]) -> Result<L2, AllocError>
 {
     let mut l2 = L2::new(alloc, 1)?;
     for i in 0..numbers.len() {
-        let row = [row(alloc, first + i as u32, numbers[i])?];
-        l2.append(&row)?;
+        append(alloc, &mut l2, first + i as u32, numbers[i])?;
     }
     Ok(l2)
 }
@@ -61,7 +73,33 @@ fn keep(alloc: Global, main: &Main, closed: &L2, dropped: &[(u8, u32)]) -> Resul
     Ok(Keep::of(lists))
 }
 
-// A merge that re-sorts nothing, of fewer than eight parts.
+// The job of a merge that re-sorts nothing, of fewer than eight parts.
+fn job(
+    alloc: Global,
+    kind: MergeKind,
+    main: Main,
+    closed: L2,
+    keep: Keep,
+) -> Result<Job, AllocError>
+    requires kind { kind ≢ MergeKind.Resort }
+    requires wide { (main.width ≡ 1) × (closed.width ≡ 1) }
+    requires flags { map length keep ≡ map length (main.parts ++ closed.rows ∷ []) }
+    ensures { IfOk result (λ job. job.width ≡ 1) }
+{
+    if main.parts() == 8 || main.rows() > 100 || closed.len() > 100 {
+        return Err(AllocError);
+    }
+    let closed = Arc::new(alloc, closed)?;
+    let keep = Arc::new(alloc, keep)?;
+    let head = PendingMerge {
+        number: 1,
+        table: 0,
+        kind,
+    };
+    Ok(Job::new(head, closed, main, keep))
+}
+
+// A merge that re-sorts nothing.
 fn merge<B: Build>(
     builder: &B,
     alloc: Global,
@@ -75,29 +113,22 @@ fn merge<B: Build>(
     requires wide { (main.width ≡ 1) × (closed.width ≡ 1) }
     ensures { IfOk result (λ parts. parts.main.width ≡ 1) }
 {
-    if main.parts() == 8 || main.rows() > 100 || closed.len() > 100 {
-        return Err(AllocError);
-    }
     let keep = keep(alloc, &main, &closed, dropped)?;
-    let (closed, keep) = (Arc::new(alloc, closed)?, Arc::new(alloc, keep)?);
-    let head = PendingMerge {
-        number: 1,
-        table: 0,
-        kind,
-    };
-    let job = Job::new(head, closed, main, keep);
+    let job = job(alloc, kind, main, closed, keep)?;
     Ok(builder.build(alloc, &job)?.take())
 }
 
-/// What a part shows of its column: its own keys, small numbers by their last byte, and the codes.
-#[derive(Drop)]
-struct Shown {
-    keys: Vec<u8>,
-    codes: Vec<u32>,
-    bytes: Vec<u8>,
+// A part of main with a column.
+fn part<'a>(rt: &impl Abort, main: &'a Main, p: u8) -> &'a Part
+    ensures { 0 < length result.now.before }
+{
+    assert!(rt; p < main.parts());
+    assert!(rt; main.width() > 0);
+    main.part(p)
 }
 
-fn show_part(alloc: Global, part: &Part) -> Result<Shown, AllocError>
+// A part's own keys, small numbers by their last byte.
+fn last_bytes(alloc: Global, part: &Part) -> Result<Vec<u8>, AllocError>
     requires { 0 < length part.now.before }
 {
     let dict = part.dict(0).keys(alloc)?;
@@ -105,17 +136,33 @@ fn show_part(alloc: Global, part: &Part) -> Result<Shown, AllocError>
     for i in 0..dict.len() {
         keys.push(*dict.key(i).last().unwrap_or(&0))?;
     }
-    let mut bytes = Vec::new(alloc);
-    part.codes(0).bytes_of(&mut bytes)?;
-    let codes = part.codes(0).codes(alloc)?;
-    Ok(Shown { keys, codes, bytes })
+    Ok(keys)
 }
 
-fn show(alloc: Global, main: &Main, p: u8) -> Result<Shown, AllocError> {
-    if p >= main.parts() || main.width() == 0 {
-        return Err(AllocError);
-    }
-    show_part(alloc, main.part(p))
+fn has_keys(rt: &impl Abort, alloc: Global, part: &Part, keys: &[u8]) -> Result<(), AllocError>
+    requires { 0 < length part.now.before }
+{
+    let found = last_bytes(alloc, part)?;
+    assert!(rt; found.as_slice() == keys);
+    Ok(())
+}
+
+fn has_codes(rt: &impl Abort, alloc: Global, part: &Part, codes: &[u32]) -> Result<(), AllocError>
+    requires { 0 < length part.now.before }
+{
+    let found = part.codes(0).codes(alloc)?;
+    assert!(rt; found.as_slice() == codes);
+    Ok(())
+}
+
+// The codes have these bytes.
+fn has_bytes(rt: &impl Abort, alloc: Global, part: &Part, bytes: &[u8]) -> Result<(), AllocError>
+    requires { 0 < length part.now.before }
+{
+    let mut found = Vec::new(alloc);
+    part.codes(0).bytes_of(&mut found)?;
+    assert!(rt; found.as_slice() == bytes);
+    Ok(())
 }
 
 // The ids of a part's rows.
@@ -151,17 +198,30 @@ fn taken<B: Build>(builder: &B, alloc: Global, main: Main, step: &Step) -> Resul
     merge(builder, alloc, step.kind, main, closed, step.dropped)
 }
 
+// Main behind such a merge.
+fn main_taken<B: Build>(
+    builder: &B,
+    alloc: Global,
+    main: Main,
+    step: &Step,
+) -> Result<Main, AllocError>
+    requires { B.ready builder.now }
+{
+    Ok(taken(builder, alloc, main, step)?.main)
+}
+
 // Main behind such merges, one behind the other.
 fn all_taken<B: Build>(builder: &B, alloc: Global, steps: &[Step]) -> Result<Main, AllocError>
     requires { B.ready builder.now }
 {
     let mut main = Main::new(alloc, 1);
     for step in steps {
-        main = taken(builder, alloc, main, step)?.main;
+        main = main_taken(builder, alloc, main, step)?;
     }
     Ok(main)
 }
 
+// A part has these keys of its own, and its rows these codes.
 fn shows(
     rt: &impl Abort,
     alloc: Global,
@@ -170,10 +230,9 @@ fn shows(
     keys: &[u8],
     codes: &[u32],
 ) -> Result<(), AllocError> {
-    let part = show(alloc, main, p)?;
-    assert!(rt; part.keys.as_slice() == keys);
-    assert!(rt; part.codes.as_slice() == codes);
-    Ok(())
+    let part = part(rt, main, p);
+    has_keys(rt, alloc, part, keys)?;
+    has_codes(rt, alloc, part, codes)
 }
 
 fn has_ids(
@@ -191,8 +250,7 @@ fn has_ids(
 // The rows of 4 and of 4 and 10, behind parts that stay, and their codes' bytes.
 fn has_third_part(rt: &impl Abort, alloc: Global, parts: &Parts) -> Result<(), AllocError> {
     shows(rt, alloc, &parts.main, 2, &[9, 10], &[3, 1, 4])?;
-    let part = show(alloc, &parts.main, 2)?;
-    assert!(rt; part.bytes.as_slice() == [0, 0x0b, 1].as_slice());
+    has_bytes(rt, alloc, part(rt, &parts.main, 2), &[0, 0x0b, 1])?;
     let olds = [Old::Part(2, 0), Old::Closed(0), Old::Closed(1)];
     assert!(rt; parts.olds.as_slice() == olds.as_slice());
     has_ids(rt, alloc, &parts.main, 2, &[4, 5, 6])
@@ -233,14 +291,22 @@ const INTO_ONE: Step = Step {
     dropped: &[(1, 0), (3, 0)],
 };
 
-// The last of three parts is rebuilt, and then all of them are.
-fn rebuilds<B: Build>(rt: &impl Abort, builder: &B, alloc: Global) -> Result<(), AllocError>
+// Main of which the last of three parts is rebuilt.
+fn three_parts<B: Build>(rt: &impl Abort, builder: &B, alloc: Global) -> Result<Main, AllocError>
     requires { B.ready builder.now }
 {
     let main = all_taken(builder, alloc, THREE_PARTS)?;
     let parts = taken(builder, alloc, main, &INTO_THE_LAST)?;
     has_third_part(rt, alloc, &parts)?;
-    let main = taken(builder, alloc, parts.main, &INTO_ONE)?.main;
+    Ok(parts.main)
+}
+
+// The last of three parts is rebuilt, and then all of them are.
+fn rebuilds<B: Build>(rt: &impl Abort, builder: &B, alloc: Global) -> Result<(), AllocError>
+    requires { B.ready builder.now }
+{
+    let main = three_parts(rt, builder, alloc)?;
+    let main = main_taken(builder, alloc, main, &INTO_ONE)?;
     shows(rt, alloc, &main, 0, &[2, 3, 4, 9, 10], &[0, 2, 3, 2, 4, 1])
 }
 
@@ -278,7 +344,7 @@ fn codes_on<B: Build>(rt: &impl Abort, builder: &B, alloc: Global) -> Result<(),
 {
     let main = all_taken(builder, alloc, TWO_PARTS)?;
     shows(rt, alloc, &main, 1, &[1, 9], &[3, 1, 4])?;
-    let main = taken(builder, alloc, main, &INTO_THE_ACTIVE)?.main;
+    let main = main_taken(builder, alloc, main, &INTO_THE_ACTIVE)?;
     shows(rt, alloc, &main, 1, &[1, 9, 11], &[3, 1, 4, 2, 5])
 }
 
@@ -301,14 +367,18 @@ fn resorting(alloc: Global) -> Result<Job, AllocError> {
     Ok(Job::new(head, closed, Main::new(alloc, 1), Arc::new(alloc, keep)?))
 }
 
+fn is_resorted(rt: &impl Abort, alloc: Global, built: Built) -> Result<(), AllocError> {
+    assert!(rt; built.number() == 1);
+    let parts = built.take();
+    has_ids(rt, alloc, &parts.main, 0, &[2, 1, 3])?;
+    shows(rt, alloc, &parts.main, 0, &[1, 2], &[0, 1, 1])
+}
+
 #[test]
 fn rows_are_resorted_by_keys_and_then_by_id(rt: HostRuntime) -> Result<(), Fail> {
     let alloc = rt.alloc();
     let job = resorting(alloc)?;
     let built = build(&rt, alloc, &job, 1, &NoHook)?;
-    assert!(rt; built.number() == 1);
-    let parts = built.take();
-    has_ids(&rt, alloc, &parts.main, 0, &[2, 1, 3])?;
-    shows(&rt, alloc, &parts.main, 0, &[1, 2], &[0, 1, 1])?;
+    is_resorted(&rt, alloc, built)?;
     Ok(())
 }

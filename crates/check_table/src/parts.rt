@@ -3,6 +3,7 @@ ghost use Rattle.std.specs.Prelude.{◌≡◌, IfOk, IfSome};
 ghost use Rattle.ut_main.specs.Parts.{dicts_behind};
 
 use std::alloc::{AllocError, Global};
+use std::process::Abort;
 use std::sync::Arc;
 use std::test::Fail;
 use ut_main::{Main, Part, part_bytes, part_from};
@@ -64,29 +65,73 @@ fn read(
     }
 }
 
+// A part has these bytes.
+fn is_written(rt: &impl Abort, alloc: Global, part: &Part, bytes: &[u8]) -> Result<(), AllocError> {
+    let mut written = Vec::new(alloc);
+    part_bytes(part, &mut written)?;
+    assert_eq!(rt; written.as_slice(), bytes);
+    Ok(())
+}
+
+// A part more of main, where there is room.
+fn push(alloc: Global, main: &mut Main, part: Part) -> Result<(), AllocError>
+    requires { part.before ≡ dicts_behind main.old }
+{
+    if main.parts() < 8 && main.rows() < 100 && part.len() < 100 {
+        main.push(Arc::new(alloc, part)?)?;
+    }
+    Ok(())
+}
+
+// The part whose bytes these are is written back, and stands in main then.
+fn reads(
+    rt: &impl Abort,
+    alloc: Global,
+    columns: &[Column],
+    main: &mut Main,
+    bytes: &[u8],
+) -> Result<(), AllocError> {
+    let Some(part) = read(alloc, bytes, columns, main)? else {
+        return Err(AllocError);
+    };
+    is_written(rt, alloc, &part, bytes)?;
+    push(alloc, main, part)
+}
+
+fn reads_both(
+    rt: &impl Abort,
+    alloc: Global,
+    columns: &[Column],
+    main: &mut Main,
+) -> Result<(), AllocError> {
+    for bytes in [FIRST.as_slice(), &SECOND] {
+        reads(rt, alloc, columns, main, bytes)?;
+    }
+    Ok(())
+}
+
+// Behind the first part of main there is none with such bytes.
+fn refuses(
+    rt: &impl Abort,
+    alloc: Global,
+    columns: &[Column],
+    main: &Main,
+) -> Result<(), AllocError> {
+    assert!(rt; main.parts() > 0);
+    let first = main.first(alloc, 1)?;
+    for bytes in REFUSED {
+        assert!(rt; read(alloc, bytes, columns, &first)?.is_none(), "{bytes:?}");
+    }
+    Ok(())
+}
+
 #[test]
 fn parts_are_read_and_written_back(rt: HostRuntime) -> Result<(), Fail> {
     let alloc = rt.alloc();
     let columns = columns(alloc)?;
     let mut main = Main::new(alloc, 1);
-    for bytes in [FIRST.as_slice(), &SECOND] {
-        let Some(part) = read(alloc, bytes, &columns, &main)? else {
-            return Err(Fail::from(AllocError));
-        };
-        let mut written = Vec::new(alloc);
-        part_bytes(&part, &mut written)?;
-        assert_eq!(rt; written.as_slice(), bytes);
-        if main.parts() < 8 && main.rows() < 100 && part.len() < 100 {
-            main.push(Arc::new(alloc, part)?)?;
-        }
-    }
+    reads_both(&rt, alloc, &columns, &mut main)?;
     assert_eq!(rt; main.rows(), 6);
-    let first = main.first(alloc, 1)?;
-    for bytes in REFUSED {
-        assert!(rt;
-            read(alloc, bytes, &columns, &first)?.is_none(),
-            "{bytes:?}"
-        );
-    }
+    refuses(&rt, alloc, &columns, &main)?;
     Ok(())
 }

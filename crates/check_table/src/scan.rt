@@ -13,8 +13,8 @@ use ut_key::{Cmp, Steps};
 use ut_l1::L1;
 use ut_l2::L2;
 use ut_main::{Main, Part, part_from};
-use ut_scan::{ColumnPred, Found, Stages, StampTable, count, scan};
-use ut_stamps::{Fates, Stamp};
+use ut_scan::{ColumnPred, Found, Stages, count, scan};
+use ut_stamps::{Fates, Stamp, StampTable};
 use ut_value::{Column, Kind, Name, Row, Seq, Value, key_of};
 
 /// Rows 2, 4 and 6 of ids 1 to 3, then rows 1, 4 and 9 of ids 4 to 6 behind them.
@@ -169,30 +169,66 @@ fn table_of(alloc: Global) -> Result<StampTable, AllocError>
     Ok(table)
 }
 
-// Finds and counts the rows whose number compares so with 4.
+// Finds and counts the rows that meet comparisons.
 fn find<L: Ledger>(
     alloc: Global,
     stages: &Stages<'_>,
-    op: Cmp,
+    fates: &Fates,
+    preds: &[ColumnPred],
     blank: Blank,
 ) -> Result<(Vec<Found>, u64), AllocError>
     requires name { blank.name ≡ L.name }
     requires parts { blank.parts ≡ L.parts }
     requires positive { 0 < blank.parts }
     requires stamped { AreStamped stages.now }
+    requires columns { All (λ p. p.column < stages.now.l2.now.width) preds.now }
+{
+    let mut steps = Steps::<L>::new(blank);
+    let found = scan(alloc, stages, fates, 0, None, preds, &mut steps)?;
+    let count = count(alloc, stages, fates, 0, None, preds, &mut steps)?;
+    Ok((found, count))
+}
+
+fn have_ids(rt: &impl Abort, found: &[Found], ids: &[u32]) {
+    assert_eq!(rt; found.len(), ids.len());
+    for i in 0..ids.len() {
+        assert_eq!(rt; found[i].id, ids[i]);
+    }
+}
+
+// The rows whose number compares so with 4 have these ids.
+fn finds(
+    rt: &impl Abort,
+    alloc: Global,
+    stages: &Stages<'_>,
+    fates: &Fates,
+    op: Cmp,
+    ids: &[u32],
+) -> Result<(), AllocError>
+    requires stamped { AreStamped stages.now }
     requires width { stages.now.l2.now.width ≡ 1 }
 {
-    let fates = Fates::new(alloc)?;
-    let mut steps = Steps::<L>::new(blank);
     let pred = ColumnPred {
         column: 0,
         op,
         key: key_of(&Value::Int(4)),
     };
-    let preds = [pred];
-    let found = scan(alloc, stages, &fates, 0, None, &preds, &mut steps)?;
-    let count = count(alloc, stages, &fates, 0, None, &preds, &mut steps)?;
-    Ok((found, count))
+    let (found, count) = find::<Brand>(alloc, stages, fates, &[pred], Blank::new(1))?;
+    assert_eq!(rt; count, ids.len() as u64);
+    have_ids(rt, &found, ids);
+    Ok(())
+}
+
+// The rows are found by each comparison.
+fn finds_each(rt: &impl Abort, alloc: Global, stages: &Stages<'_>) -> Result<(), AllocError>
+    requires stamped { AreStamped stages.now }
+    requires width { stages.now.l2.now.width ≡ 1 }
+{
+    let fates = Fates::new(alloc)?;
+    for (op, ids) in WANTED {
+        finds(rt, alloc, stages, &fates, op, ids)?;
+    }
+    Ok(())
 }
 
 #[test]
@@ -213,13 +249,6 @@ fn rows_are_found_in_all_places(rt: HostRuntime) -> Result<(), Fail> {
         main: &main,
         stamps: &table,
     };
-    for (op, ids) in WANTED {
-        let (found, count) = find::<Brand>(alloc, &stages, op, Blank::new(1))?;
-        assert_eq!(rt; found.len(), ids.len());
-        assert_eq!(rt; count, ids.len() as u64);
-        for i in 0..ids.len() {
-            assert_eq!(rt; found[i].id, ids[i]);
-        }
-    }
+    finds_each(&rt, alloc, &stages)?;
     Ok(())
 }
