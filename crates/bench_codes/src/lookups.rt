@@ -25,6 +25,18 @@ fn sum<L: Ledger>(dict: &PrefixDict, keys: &KeyList, steps: &mut Steps<L>) -> u6
     sum
 }
 
+fn time_finding<R: Print + Eprint + Clock, L: Ledger>(
+    rt: &R,
+    subject: &str,
+    dict: &PrefixDict,
+    keys: &KeyList,
+    steps: &mut Steps<L>,
+) -> Result<()> {
+    let start = Instant::now(rt)?;
+    let sum = sum(dict, keys, steps);
+    say(rt, subject, "find", start, sum)
+}
+
 // Times making a dictionary and looking up its keys.
 fn time_calls<R: Print + Eprint + Clock, L: Ledger>(
     rt: &R,
@@ -39,9 +51,7 @@ fn time_calls<R: Print + Eprint + Clock, L: Ledger>(
     let start = Instant::now(rt)?;
     let dict = PrefixDict::from_sorted(alloc, keys)?;
     say(rt, subject, "from_sorted", start, u64::from(dict.len()))?;
-    let start = Instant::now(rt)?;
-    let sum = sum(&dict, keys, steps);
-    say(rt, subject, "find", start, sum)
+    time_finding(rt, subject, &dict, keys, steps)
 }
 
 /// Times the calls at so many keys of numbers, and of texts.

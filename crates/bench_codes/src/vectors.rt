@@ -56,7 +56,21 @@ fn time_packing<R: Print + Eprint + Clock>(
     say(rt, subject, "pack", start, u64::from(packed.len()))
 }
 
-// Times the scans that list places; the second range holds the code 0.
+// Times a scan that lists places.
+fn time_range<R: Print + Eprint + Clock>(
+    rt: &R,
+    subject: &str,
+    call: &str,
+    vector: &CodeVec,
+    ranges: &[(u32, u32)],
+    places: &mut Vec<u32>,
+) -> Result<()> {
+    let start = Instant::now(rt)?;
+    vector.places_in(ranges, places)?;
+    say(rt, subject, call, start, places.len() as u64)
+}
+
+// The second range holds the code 0.
 fn time_places<R: Print + Eprint + Clock>(
     rt: &R,
     alloc: Global,
@@ -65,16 +79,29 @@ fn time_places<R: Print + Eprint + Clock>(
     reach: u32,
 ) -> Result<()> {
     let mut places = Vec::new(alloc);
-    let start = Instant::now(rt)?;
-    vector.places_in(&[(reach / 4, reach / 2)], &mut places)?;
-    say(rt, subject, "places_in", start, places.len() as u64)?;
+    let range = [(reach / 4, reach / 2)];
+    time_range(rt, subject, "places_in", vector, &range, &mut places)?;
     let mut low = Vec::new(alloc);
-    let start = Instant::now(rt)?;
-    vector.places_in(&[(0, reach / 2)], &mut low)?;
-    say(rt, subject, "places_in_low", start, low.len() as u64)
+    let range = [(0, reach / 2)];
+    time_range(rt, subject, "places_in_low", vector, &range, &mut low)
 }
 
-// Times the scans that narrow a mask, by one range and by two.
+// Times a scan that narrows a mask of all rows.
+fn time_mask<R: Print + Eprint + Clock>(
+    rt: &R,
+    alloc: Global,
+    subject: &str,
+    call: &str,
+    vector: &CodeVec,
+    ranges: &[(u32, u32)],
+) -> Result<()> {
+    let mut mask = Mask::new(alloc, vector.len())?;
+    let start = Instant::now(rt)?;
+    vector.keep_in(ranges, &mut mask);
+    say(rt, subject, call, start, u64::from(mask.count()))
+}
+
+// Narrows by one range, by two, and by a range of one code.
 fn time_masks<R: Print + Eprint + Clock>(
     rt: &R,
     alloc: Global,
@@ -82,30 +109,38 @@ fn time_masks<R: Print + Eprint + Clock>(
     vector: &CodeVec,
     reach: u32,
 ) -> Result<()> {
-    let rows = vector.len();
-    let mut mask = Mask::new(alloc, rows)?;
-    let start = Instant::now(rt)?;
-    vector.keep_in(&[(reach / 4, reach / 2)], &mut mask);
-    say(rt, subject, "keep_in", start, u64::from(mask.count()))?;
-    let mut but = Mask::new(alloc, rows)?;
-    let start = Instant::now(rt)?;
-    vector.keep_in(&[(0, reach / 4), (reach / 2, reach)], &mut but);
-    say(rt, subject, "keep_in_but", start, u64::from(but.count()))
+    let range = [(reach / 4, reach / 2)];
+    time_mask(rt, alloc, subject, "keep_in", vector, &range)?;
+    let ranges = [(0, reach / 4), (reach / 2, reach)];
+    time_mask(rt, alloc, subject, "keep_in_but", vector, &ranges)?;
+    let code = reach / 2;
+    time_mask(rt, alloc, subject, "keep_one", vector, &[(code, code + 1)])
 }
 
-// Times the scan that narrows a mask by a range of one code.
-fn time_point<R: Print + Eprint + Clock>(
+fn time_scans<R: Print + Eprint + Clock>(
     rt: &R,
     alloc: Global,
     subject: &str,
     vector: &CodeVec,
     reach: u32,
 ) -> Result<()> {
-    let mut mask = Mask::new(alloc, vector.len())?;
-    let code = reach / 2;
     let start = Instant::now(rt)?;
-    vector.keep_in(&[(code, code + 1)], &mut mask);
-    say(rt, subject, "keep_one", start, u64::from(mask.count()))
+    let sum = sum(vector);
+    say(rt, subject, "get", start, sum)?;
+    time_places(rt, alloc, subject, vector, reach)?;
+    time_masks(rt, alloc, subject, vector, reach)
+}
+
+// Times writing the bytes, which then stay.
+fn time_bytes<R: Print + Eprint + Clock>(
+    rt: &R,
+    subject: &str,
+    vector: &CodeVec,
+    bytes: &mut Vec<u8>,
+) -> Result<()> {
+    let start = Instant::now(rt)?;
+    vector.bytes_of(bytes)?;
+    say(rt, subject, "bytes_of", start, bytes.len() as u64)
 }
 
 fn time_calls<R: Print + Eprint + Clock>(
@@ -121,16 +156,9 @@ fn time_calls<R: Print + Eprint + Clock>(
     let start = Instant::now(rt)?;
     let vector = CodeVec::from_codes(alloc, codes, reach)?;
     say(rt, subject, "from_codes", start, u64::from(vector.width()))?;
-    let start = Instant::now(rt)?;
-    let sum = sum(&vector);
-    say(rt, subject, "get", start, sum)?;
-    time_places(rt, alloc, subject, &vector, reach)?;
-    time_masks(rt, alloc, subject, &vector, reach)?;
-    time_point(rt, alloc, subject, &vector, reach)?;
+    time_scans(rt, alloc, subject, &vector, reach)?;
     let mut bytes = Vec::new(alloc);
-    let start = Instant::now(rt)?;
-    vector.bytes_of(&mut bytes)?;
-    say(rt, subject, "bytes_of", start, bytes.len() as u64)?;
+    time_bytes(rt, subject, &vector, &mut bytes)?;
     time_reading(rt, alloc, subject, bytes.as_slice(), vector.len(), reach)?;
     time_packing(rt, alloc, subject, codes, reach)
 }

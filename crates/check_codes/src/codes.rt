@@ -1,14 +1,39 @@
-//! Code vectors: their form and their bytes.
+//! Code vectors: their form and their bytes; and what all modules compare their values by.
 ghost use Rattle.std.specs.List.{list_all};
 ghost use Rattle.std.specs.Prelude.{◌≡◌, nat_lt};
 
 use std::alloc::{AllocError, Global};
 use std::process::Abort;
-use std::test::Fail;
 use ut_codes::{CodeVec, Form, width_of};
 use ut_mask::Mask;
 use ut_rle::Runs;
 use ut_sparse::most_frequent;
+
+pub(crate) fn same_number(rt: &impl Abort, got: u32, wanted: u32) {
+    assert_eq!(rt; got, wanted);
+}
+
+pub(crate) fn same_place(rt: &impl Abort, got: Option<u32>, wanted: Option<u32>) {
+    assert_eq!(rt; got, wanted);
+}
+
+pub(crate) fn same_bytes(rt: &impl Abort, got: &[u8], wanted: &[u8]) {
+    assert!(rt; got.len() == wanted.len());
+    for i in 0..got.len() {
+        same_number(rt, u32::from(got[i]), u32::from(wanted[i]));
+    }
+}
+
+pub(crate) fn same_codes(rt: &impl Abort, got: &[u32], wanted: &[u32]) {
+    assert!(rt; got.len() == wanted.len());
+    for i in 0..got.len() {
+        same_number(rt, got[i], wanted[i]);
+    }
+}
+
+pub(crate) fn same_eight(rt: &impl Abort, got: [u32; 8], wanted: [u32; 8]) {
+    same_codes(rt, &got, &wanted);
+}
 
 // Whether every code is below a limit.
 fn are_below(codes: &[u32], limit: u32) -> bool
@@ -17,17 +42,38 @@ fn are_below(codes: &[u32], limit: u32) -> bool
     codes.iter().all(|code| *code < limit)
 }
 
-// The sizes in bits of the packed form, of runs and of the sparse form.
-fn sizes(rt: &impl Abort, alloc: Global, codes: &[u32], reach: u32) -> Result<[u64; 3], Fail> {
+fn run_count(rt: &impl Abort, alloc: Global, codes: &[u32], reach: u32) -> Result<u32, AllocError> {
     assert!(rt; codes.len() <= 1000);
     assert!(rt; are_below(codes, reach));
-    let rows = codes.len() as u64;
     let width = width_of(reach);
-    let frequent = u64::from(most_frequent(alloc, codes)?.count);
+    let runs = Runs::from_codes(alloc, codes, width)?;
+    Ok(runs.run_count())
+}
+
+// The sizes in bits of the packed form, of runs and of the sparse form.
+fn bits_of(rt: &impl Abort, rows: u64, width: u64, frequent: u64, runs: u32) -> [u64; 3] {
+    assert!(rt; rows <= 1000);
+    assert!(rt; width <= 32);
     assert!(rt; frequent <= rows);
-    let runs = 64 * u64::from(Runs::from_codes(alloc, codes, width)?.run_count());
-    let width = u64::from(width);
-    Ok([rows * width, runs, rows + (rows - frequent) * width])
+    [
+        rows * width,
+        64 * u64::from(runs),
+        rows + (rows - frequent) * width,
+    ]
+}
+
+// Those sizes of the codes.
+fn sizes(
+    rt: &impl Abort,
+    alloc: Global,
+    codes: &[u32],
+    reach: u32,
+) -> Result<[u64; 3], AllocError> {
+    let runs = run_count(rt, alloc, codes, reach)?;
+    assert!(rt; codes.len() <= 1000);
+    let frequent = most_frequent(alloc, codes)?;
+    let (rows, width) = (codes.len() as u64, u64::from(width_of(reach)));
+    Ok(bits_of(rt, rows, width, u64::from(frequent.count), runs))
 }
 
 /// A vector of the codes, which has this form.
@@ -41,7 +87,7 @@ pub(crate) fn vector_of(
     assert!(rt; codes.len() <= 1 << 31);
     assert!(rt; are_below(codes, reach));
     let vector = CodeVec::from_codes(alloc, codes, reach)?;
-    assert_eq!(rt; vector.form(), form);
+    assert!(rt; vector.form() == form);
     Ok(vector)
 }
 
@@ -51,26 +97,25 @@ fn bytes_of(alloc: Global, vector: &CodeVec) -> Result<Vec<u8>, AllocError> {
     Ok(bytes)
 }
 
-// The vector that all the bytes are.
-fn vector_from(
-    rt: &impl Abort,
-    alloc: Global,
-    bytes: &[u8],
-    rows: u32,
-    reach: u32,
-) -> Result<CodeVec, Fail> {
-    assert!(rt; rows <= 1 << 31);
-    let read = CodeVec::from_bytes(alloc, bytes, rows, reach)?;
-    let (vector, count) = read.ok_or("not read back")?;
-    assert_eq!(rt; count, bytes.len());
-    Ok(vector)
-}
-
 fn has_codes(rt: &impl Abort, vector: &CodeVec, codes: &[u32]) {
     for i in 0..codes.len() {
         assert!(rt; i < vector.len() as usize);
-        assert_eq!(rt; vector.get(i as u32), codes[i], "at {i}");
+        same_number(rt, vector.get(i as u32), codes[i]);
     }
+}
+
+// Such a vector, of all the bytes, is the vector again.
+fn is_again(
+    rt: &impl Abort,
+    again: &(CodeVec, usize),
+    vector: &CodeVec,
+    bytes: &[u8],
+    codes: &[u32],
+) {
+    assert!(rt; again.1 == bytes.len());
+    assert!(rt; again.0.form() == vector.form());
+    assert!(rt; again.0.width() == vector.width());
+    has_codes(rt, &again.0, codes);
 }
 
 // The bytes are those of the vector again.
@@ -80,25 +125,24 @@ fn is_read_back(
     vector: &CodeVec,
     bytes: &[u8],
     codes: &[u32],
-) -> Result<(), Fail> {
-    let again = vector_from(rt, alloc, bytes, vector.len(), vector.reach())?;
-    assert_eq!(rt; again.form(), vector.form());
-    assert_eq!(rt; again.width(), vector.width());
-    has_codes(rt, &again, codes);
+) -> Result<(), AllocError> {
+    let read = CodeVec::from_bytes(alloc, bytes, vector.len(), vector.reach())?;
+    match &read {
+        Some(again) => is_again(rt, again, vector, bytes, codes),
+        None => panic!(rt; "not read back"),
+    }
     Ok(())
 }
 
-// A vector of the codes, which is written and read back.
+// The bytes of a vector of the codes, which is read back from them.
 fn written(
     rt: &impl Abort,
     alloc: Global,
+    vector: &CodeVec,
     codes: &[u32],
-    reach: u32,
-    form: Form,
-) -> Result<Vec<u8>, Fail> {
-    let vector = vector_of(rt, alloc, codes, reach, form)?;
-    let bytes = bytes_of(alloc, &vector)?;
-    is_read_back(rt, alloc, &vector, &bytes, codes)?;
+) -> Result<Vec<u8>, AllocError> {
+    let bytes = bytes_of(alloc, vector)?;
+    is_read_back(rt, alloc, vector, &bytes, codes)?;
     Ok(bytes)
 }
 
@@ -112,11 +156,12 @@ struct Case<'a> {
     bytes: &'a [u8],
 }
 
-fn has_bytes(rt: &impl Abort, alloc: Global, case: &Case<'_>) -> Result<(), Fail> {
+fn has_bytes(rt: &impl Abort, alloc: Global, case: &Case<'_>) -> Result<(), AllocError> {
     let sizes = sizes(rt, alloc, case.codes, case.reach)?;
-    assert_eq!(rt; sizes, case.sizes);
-    let bytes = written(rt, alloc, case.codes, case.reach, case.form)?;
-    assert_eq!(rt; bytes.as_slice(), case.bytes);
+    assert!(rt; sizes == case.sizes);
+    let vector = vector_of(rt, alloc, case.codes, case.reach, case.form)?;
+    let bytes = written(rt, alloc, &vector, case.codes)?;
+    same_bytes(rt, &bytes, case.bytes);
     Ok(())
 }
 
@@ -138,7 +183,7 @@ const SHORT: [Case<'static>; 2] = [
 ];
 
 #[test]
-fn vectors_have_their_bytes(rt: HostRuntime) -> Result<(), Fail> {
+fn vectors_have_their_bytes(rt: HostRuntime) -> Result<(), AllocError> {
     for case in &SHORT {
         has_bytes(&rt, rt.alloc(), case)?;
     }
@@ -154,7 +199,7 @@ fn zeros_and_ones(alloc: Global, zeros: usize) -> Result<Vec<u32>, AllocError> {
 }
 
 #[test]
-fn zeros_take_no_bits(rt: HostRuntime) -> Result<(), Fail> {
+fn zeros_take_no_bits(rt: HostRuntime) -> Result<(), AllocError> {
     let alloc = rt.alloc();
     let zeros = zeros_and_ones(alloc, 1000)?;
     let case = Case {
@@ -168,7 +213,7 @@ fn zeros_take_no_bits(rt: HostRuntime) -> Result<(), Fail> {
 }
 
 #[test]
-fn two_runs_are_kept_as_runs(rt: HostRuntime) -> Result<(), Fail> {
+fn two_runs_are_kept_as_runs(rt: HostRuntime) -> Result<(), AllocError> {
     let alloc = rt.alloc();
     let halves = zeros_and_ones(alloc, 600)?;
     let case = Case {
@@ -192,53 +237,85 @@ fn tenths(alloc: Global) -> Result<Vec<u32>, AllocError> {
     Ok(codes)
 }
 
-#[test]
-fn few_exceptions_are_sparse(rt: HostRuntime) -> Result<(), Fail> {
-    let alloc = rt.alloc();
-    let codes = tenths(alloc)?;
-    assert_eq!(rt; width_of(11), 4);
-    assert_eq!(rt; sizes(&rt, alloc, &codes, 11)?, [400, 1344, 140]);
-    let bytes = written(&rt, alloc, &codes, 11, Form::Sparse)?;
+fn are_sparse(rt: &impl Abort, alloc: Global, codes: &[u32]) -> Result<(), AllocError> {
+    let sizes = sizes(rt, alloc, codes, 11)?;
+    assert!(rt; sizes == [400, 1344, 140]);
+    let vector = vector_of(rt, alloc, codes, 11, Form::Sparse)?;
+    let bytes = written(rt, alloc, &vector, codes)?;
     assert_eq!(rt; bytes.len(), 1 + 4 + 13 + 5);
     Ok(())
 }
 
-// How many places a mask keeps of a vector of the codes.
+#[test]
+fn few_exceptions_are_sparse(rt: HostRuntime) -> Result<(), AllocError> {
+    let alloc = rt.alloc();
+    assert_eq!(rt; width_of(11), 4);
+    let codes = tenths(alloc)?;
+    are_sparse(&rt, alloc, &codes)
+}
+
+// A thousand codes, again and again from zero.
+fn cycles(alloc: Global) -> Result<Vec<u32>, AllocError> {
+    let mut codes = Vec::new(alloc);
+    for i in 0..1000u32 {
+        codes.push(i % 128)?;
+    }
+    Ok(codes)
+}
+
+// A thousand codes in ten runs.
+fn steps(alloc: Global) -> Result<Vec<u32>, AllocError> {
+    let mut codes = Vec::new(alloc);
+    for i in 0..1000u32 {
+        codes.push(i / 100)?;
+    }
+    Ok(codes)
+}
+
+// A thousand codes: zeros, and in each twentieth place another one.
+fn twentieths(alloc: Global) -> Result<Vec<u32>, AllocError> {
+    let mut codes = Vec::new(alloc);
+    for i in 0..1000u32 {
+        codes.push(if i % 20 == 0 { i / 20 + 1 } else { 0 })?;
+    }
+    Ok(codes)
+}
+
+// How many places a mask keeps of a vector.
 fn kept(
     rt: &impl Abort,
     alloc: Global,
-    codes: &[u32],
-    form: Form,
+    vector: &CodeVec,
     ranges: &[(u32, u32)],
-) -> Result<u32, Fail> {
-    assert!(rt; codes.len() <= 1 << 31);
-    assert!(rt; are_below(codes, 128));
-    let vector = CodeVec::from_codes(alloc, codes, 128)?;
-    assert_eq!(rt; vector.form(), form);
+) -> Result<u32, AllocError> {
     let mut mask = Mask::new(alloc, vector.len())?;
     assert!(rt; mask.len() == vector.len());
     vector.keep_in(ranges, &mut mask);
     Ok(mask.count())
 }
 
-#[test]
-fn a_mask_keeps_the_places_in_ranges(rt: HostRuntime) -> Result<(), Fail> {
-    let alloc = rt.alloc();
-    let mut cycles = Vec::new(alloc);
-    let mut steps = Vec::new(alloc);
-    let mut zeros = Vec::new(alloc);
-    for i in 0..1000u32 {
-        cycles.push(i % 128)?;
-        steps.push(i / 100)?;
-        zeros.push(if i % 20 == 0 { i / 20 + 1 } else { 0 })?;
-    }
-    for (codes, form, ranges, count) in [
-        (cycles.as_slice(), Form::Packed, [(0, 5), (100, 101)], 48),
-        (steps.as_slice(), Form::Runs, [(0, 5), (100, 101)], 500),
-        (zeros.as_slice(), Form::Sparse, [(0, 5), (100, 101)], 954),
-        (zeros.as_slice(), Form::Sparse, [(3, 9), (40, 60)], 17),
-    ] {
-        assert_eq!(rt; kept(&rt, alloc, codes, form, &ranges)?, count);
-    }
+// A mask keeps so many places of a vector of the codes.
+fn keeps(
+    rt: &impl Abort,
+    alloc: Global,
+    codes: &[u32],
+    form: Form,
+    ranges: &[(u32, u32)],
+    count: u32,
+) -> Result<(), AllocError> {
+    let vector = vector_of(rt, alloc, codes, 128, form)?;
+    let places = kept(rt, alloc, &vector, ranges)?;
+    same_number(rt, places, count);
     Ok(())
+}
+
+#[test]
+fn a_mask_keeps_the_places_in_ranges(rt: HostRuntime) -> Result<(), AllocError> {
+    let alloc = rt.alloc();
+    let low = [(0, 5), (100, 101)];
+    keeps(&rt, alloc, &cycles(alloc)?, Form::Packed, &low, 48)?;
+    keeps(&rt, alloc, &steps(alloc)?, Form::Runs, &low, 500)?;
+    keeps(&rt, alloc, &twentieths(alloc)?, Form::Sparse, &low, 954)?;
+    let high = [(3, 9), (40, 60)];
+    keeps(&rt, alloc, &twentieths(alloc)?, Form::Sparse, &high, 17)
 }

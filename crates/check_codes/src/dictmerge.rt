@@ -1,19 +1,10 @@
 //! A worked merge as one piece, and one so great that it is made in two pieces, on real threads.
+use crate::prefix::list_of;
 use std::alloc::{AllocError, Global};
 use std::process::Abort;
-use std::test::Fail;
 use std::thread::Threads;
 use ut_dictmerge::{Cut, Merged, count_piece, cuts, merge};
 use ut_key::{KeyList, is_ascending};
-
-// Keys of one byte each.
-fn keys_of(alloc: Global, bytes: &[u8]) -> Result<KeyList, AllocError> {
-    let mut keys = KeyList::new(alloc);
-    for byte in bytes {
-        keys.push(&[*byte])?;
-    }
-    Ok(keys)
-}
 
 // Whether the merge is 1, 2, 4, 6, 9, and points at them.
 fn is_worked(merged: &Merged) -> bool {
@@ -25,74 +16,96 @@ fn is_worked(merged: &Merged) -> bool {
         && merged.from_b.as_slice() == [Some(0), Some(2), Some(4)].as_slice()
 }
 
-#[test]
-fn equal_keys_at_a_border_are_one(rt: HostRuntime) -> Result<(), Fail> {
-    let alloc = rt.alloc();
-    let a = keys_of(alloc, &[2, 4, 6])?;
-    let b = keys_of(alloc, &[1, 4, 9])?;
-    if !is_ascending(&a) || !is_ascending(&b) || a.len() != 3 || b.len() != 3 {
-        panic!(rt; "not two lists of three");
+fn same_cuts(rt: &impl Abort, got: &[Cut], wanted: &[Cut]) {
+    assert!(rt; got.len() == wanted.len());
+    for i in 0..got.len() {
+        assert!(rt; got[i].a == wanted[i].a);
+        assert!(rt; got[i].b == wanted[i].b);
     }
-    let all = [true; 3];
-    let borders = cuts(alloc, &a, &b, 2)?;
+}
+
+// The merge has these borders between two pieces.
+fn has_borders(
+    rt: &impl Abort,
+    alloc: Global,
+    a: &KeyList,
+    b: &KeyList,
+    wanted: &[Cut],
+) -> Result<(), AllocError> {
+    assert!(rt; is_ascending(a));
+    assert!(rt; is_ascending(b));
+    assert!(rt; a.len() < 100_000);
+    assert!(rt; b.len() < 100_000);
+    let borders = cuts(alloc, a, b, 2)?;
+    same_cuts(rt, &borders, wanted);
+    Ok(())
+}
+
+// The merge of two lists whose keys are all used.
+fn merged<R: Threads + Sync + Abort>(
+    rt: &R,
+    alloc: Global,
+    a: &KeyList,
+    b: &KeyList,
+) -> Result<Merged, AllocError> {
+    assert!(rt; is_ascending(a));
+    assert!(rt; is_ascending(b));
+    assert!(rt; a.len() < 100_000);
+    assert!(rt; b.len() < 100_000);
+    let used_a = vec![in alloc; true; a.len()]?;
+    let used_b = vec![in alloc; true; b.len()]?;
+    merge(rt, alloc, a, &used_a, b, &used_b, 2)
+}
+
+// How many keys a piece of two lists of three has.
+fn count_of(rt: &impl Abort, a: &KeyList, b: &KeyList, used: &[bool], from: &Cut, to: &Cut) -> u32 {
+    assert!(rt; is_ascending(a));
+    assert!(rt; is_ascending(b));
+    assert!(rt; used.len() == a.len());
+    assert!(rt; used.len() == b.len());
+    assert!(rt; used.len() == 3);
+    assert!(rt; from.a <= to.a);
+    assert!(rt; from.b <= to.b);
+    assert!(rt; to.a as usize <= a.len());
+    assert!(rt; to.b as usize <= b.len());
+    count_piece(a, used, b, used, from, to)
+}
+
+// The lists 2, 4, 6 and 1, 4, 9.
+fn check_worked<R: Threads + Sync + Abort>(
+    rt: &R,
+    alloc: Global,
+    a: &KeyList,
+    b: &KeyList,
+) -> Result<(), AllocError> {
     let wanted = [Cut { a: 0, b: 0 }, Cut { a: 2, b: 2 }, Cut { a: 3, b: 3 }];
-    assert!(rt; borders.as_slice() == wanted.as_slice());
-    assert_eq!(rt; count_piece(&a, &all, &b, &all, &wanted[0], &wanted[1]), 3);
-    assert_eq!(rt; count_piece(&a, &all, &b, &all, &wanted[1], &wanted[2]), 2);
-    let whole = merge(&rt, alloc, &a, &all, &b, &all, 2)?;
+    has_borders(rt, alloc, a, b, &wanted)?;
+    let all = [true; 3];
+    assert_eq!(rt; count_of(rt, a, b, &all, &wanted[0], &wanted[1]), 3);
+    assert_eq!(rt; count_of(rt, a, b, &all, &wanted[1], &wanted[2]), 2);
+    let whole = merged(rt, alloc, a, b)?;
     assert!(rt; is_worked(&whole));
     Ok(())
+}
+
+#[test]
+fn equal_keys_at_a_border_are_one(rt: HostRuntime) -> Result<(), AllocError> {
+    let a = list_of(&rt, rt.alloc(), &[&[2], &[4], &[6]])?;
+    let b = list_of(&rt, rt.alloc(), &[&[1], &[4], &[9]])?;
+    check_worked(&rt, rt.alloc(), &a, &b)
 }
 
 /// The last key of both lists: half of all their keys end with one of two equal ones.
 const LAST: u32 = 120_000;
 
-/// Keys of four bytes each, all of which are used.
-#[derive(Drop)]
-struct Side {
-    keys: KeyList,
-    used: Vec<bool>,
-}
-
-// The multiples of a number, up to the last key.
-fn multiples(rt: &impl Abort, alloc: Global, of: usize) -> Result<Side, AllocError> {
+// The multiples of a number, up to the last key, in keys of four bytes each.
+fn multiples(rt: &impl Abort, alloc: Global, of: usize) -> Result<KeyList, AllocError> {
     assert!(rt; of != 0);
     let mut keys = KeyList::new(alloc);
-    let mut used = Vec::new(alloc);
     for number in (0..=LAST).step_by(of) {
         keys.push(&number.to_be_bytes())?;
-        used.push(true)?;
     }
-    Ok(Side { keys, used })
-}
-
-// Ends the test where these are no lists to be merged.
-fn merged<R: Threads + Sync + Abort>(
-    rt: &R,
-    alloc: Global,
-    a: &Side,
-    b: &Side,
-) -> Result<Merged, AllocError> {
-    assert!(rt; is_ascending(&a.keys));
-    assert!(rt; is_ascending(&b.keys));
-    assert!(rt; a.used.len() == a.keys.len());
-    assert!(rt; b.used.len() == b.keys.len());
-    assert!(rt; a.keys.len() < 100_000);
-    assert!(rt; b.keys.len() < 100_000);
-    let borders = cuts(alloc, &a.keys, &b.keys, 2)?;
-    let wanted = [
-        Cut { a: 0, b: 0 },
-        Cut {
-            a: 30_001,
-            b: 20_001,
-        },
-        Cut {
-            a: 60_001,
-            b: 40_001,
-        },
-    ];
-    assert!(rt; borders.as_slice() == wanted.as_slice());
-    merge(rt, alloc, &a.keys, &a.used, &b.keys, &b.used, 2)
+    Ok(keys)
 }
 
 // Whether a key of four bytes stands there.
@@ -102,7 +115,7 @@ fn has_key(keys: &KeyList, place: u32, number: u32) -> bool {
 
 // Whether a key of a list went there.
 fn went_to(from: &[Option<u32>], key: u32, place: u32) -> bool {
-    from.get(key as usize) == Some(&Some(place))
+    (key as usize) < from.len() && from[key as usize] == Some(place)
 }
 
 // The keys of the merge one by one: each multiple of two or of three.
@@ -120,15 +133,36 @@ fn check_each(rt: &impl Abort, merged: &Merged) {
     assert_eq!(rt; place as usize, merged.keys.len());
 }
 
-#[test]
-fn pieces_on_threads_are_one_merge(rt: HostRuntime) -> Result<(), Fail> {
-    let alloc = rt.alloc();
-    let twos = multiples(&rt, alloc, 2)?;
-    let threes = multiples(&rt, alloc, 3)?;
-    let merged = merged(&rt, alloc, &twos, &threes)?;
+// The multiples of two and of three.
+fn check_pieces<R: Threads + Sync + Abort>(
+    rt: &R,
+    alloc: Global,
+    twos: &KeyList,
+    threes: &KeyList,
+) -> Result<(), AllocError> {
+    let wanted = [
+        Cut { a: 0, b: 0 },
+        Cut {
+            a: 30_001,
+            b: 20_001,
+        },
+        Cut {
+            a: 60_001,
+            b: 40_001,
+        },
+    ];
+    has_borders(rt, alloc, twos, threes, &wanted)?;
+    let merged = merged(rt, alloc, twos, threes)?;
     assert_eq!(rt; merged.from_a.len(), 60_001);
     assert_eq!(rt; merged.from_b.len(), 40_001);
     assert_eq!(rt; merged.keys.len(), 80_001);
-    check_each(&rt, &merged);
+    check_each(rt, &merged);
     Ok(())
+}
+
+#[test]
+fn pieces_on_threads_are_one_merge(rt: HostRuntime) -> Result<(), AllocError> {
+    let twos = multiples(&rt, rt.alloc(), 2)?;
+    let threes = multiples(&rt, rt.alloc(), 3)?;
+    check_pieces(&rt, rt.alloc(), &twos, &threes)
 }

@@ -1,8 +1,7 @@
 //! The eight codes from a place on.
-use crate::codes::vector_of;
-use std::alloc::Global;
+use crate::codes::{same_eight, vector_of};
+use std::alloc::{AllocError, Global};
 use std::process::Abort;
-use std::test::Fail;
 use ut_codes::{CodeVec, Form};
 use ut_packed::Packed;
 
@@ -73,19 +72,23 @@ const SPELLED: [Spelled<'static>; 6] = [
     },
 ];
 
-fn is_spelled(rt: &impl Abort, alloc: Global, case: &Spelled<'_>) -> Result<(), Fail> {
+fn is_spelled(rt: &impl Abort, alloc: Global, case: &Spelled<'_>) -> Result<(), AllocError> {
     assert!(rt; case.rows <= 100);
     assert!(rt; case.width <= 32);
-    assert!(rt; case.at <= 100);
     let read = Packed::from_bytes(alloc, case.bytes, case.rows, case.width)?;
-    let (vector, _) = read.ok_or("not read")?;
-    assert!(rt; case.at + 8 <= vector.len());
-    assert_eq!(rt; vector.eight(case.at), case.want, "at {}", case.at);
+    match &read {
+        Some((vector, _)) => {
+            assert!(rt; case.at <= 100);
+            assert!(rt; case.at + 8 <= vector.len());
+            same_eight(rt, vector.eight(case.at), case.want);
+        }
+        None => panic!(rt; "not read"),
+    }
     Ok(())
 }
 
 #[test]
-fn eight_packed_codes_follow_one_another(rt: HostRuntime) -> Result<(), Fail> {
+fn eight_packed_codes_follow_one_another(rt: HostRuntime) -> Result<(), AllocError> {
     for case in &SPELLED {
         is_spelled(&rt, rt.alloc(), case)?;
     }
@@ -134,19 +137,20 @@ const FORMED: [Formed<'static>; 3] = [
     },
 ];
 
-fn has_eight(rt: &impl Abort, vector: &CodeVec, at: u32, want: [u32; 8]) {
-    assert!(rt; at <= 100);
-    assert!(rt; at + 8 <= vector.len());
-    assert_eq!(rt; vector.eight(at), want, "at {at}");
+fn has_each(rt: &impl Abort, alloc: Global, case: &Formed<'_>) -> Result<(), AllocError> {
+    let vector = vector_of(rt, alloc, case.codes, case.reach, case.form)?;
+    for (at, want) in case.wants {
+        assert!(rt; at <= 100);
+        assert!(rt; at + 8 <= vector.len());
+        same_eight(rt, vector.eight(at), want);
+    }
+    Ok(())
 }
 
 #[test]
-fn eight_codes_follow_one_another_in_each_form(rt: HostRuntime) -> Result<(), Fail> {
+fn eight_codes_follow_one_another_in_each_form(rt: HostRuntime) -> Result<(), AllocError> {
     for case in &FORMED {
-        let vector = vector_of(&rt, rt.alloc(), case.codes, case.reach, case.form)?;
-        for (at, want) in case.wants {
-            has_eight(&rt, &vector, at, want);
-        }
+        has_each(&rt, rt.alloc(), case)?;
     }
     Ok(())
 }

@@ -14,8 +14,6 @@ mod prefix;
 #[cfg(test)]
 mod recode;
 #[cfg(test)]
-mod resort;
-#[cfg(test)]
 mod unsorted;
 #[cfg(test)]
 mod weigh;

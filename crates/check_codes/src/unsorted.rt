@@ -1,9 +1,9 @@
 //! The order of codes at a few keys.
 ghost use Rattle.std.specs.Prelude.{◌+◌, ◌<◌, ◌≤◌, length, OnOk};
 
+use crate::codes::same_codes;
 use std::alloc::{AllocError, Global};
 use std::process::Abort;
-use std::test::Fail;
 use ut_unsorted::UnsortedDict;
 
 fn add(rt: &impl Abort, dict: &mut UnsortedDict, key: &[u8]) -> Result<(), AllocError>
@@ -25,17 +25,27 @@ fn order_of(rt: &impl Abort, alloc: Global, keys: &[&[u8]]) -> Result<Vec<u32>, 
     dict.order(alloc)
 }
 
-#[test]
-fn codes_are_ordered_by_their_keys(rt: HostRuntime) -> Result<(), Fail> {
-    let words: [&[u8]; 3] = [
-        b"\x00\x00\x00\x00\x00\x00\x01\x00",
-        b"\xff\x00\x00\x00\x00\x00\x00\x00",
-        b"\x00\x00\x00\x00\x00\x00\x00\xff",
-    ];
-    let codes = order_of(&rt, rt.alloc(), &words)?;
-    assert_eq!(rt; codes.as_slice(), [2, 0, 1].as_slice());
-    let texts: [&[u8]; 4] = [b"b", b"ab", b"", b"a"];
-    let codes = order_of(&rt, rt.alloc(), &texts)?;
-    assert_eq!(rt; codes.as_slice(), [2, 3, 1, 0].as_slice());
+fn is_ordered(
+    rt: &impl Abort,
+    alloc: Global,
+    keys: &[&[u8]],
+    wanted: &[u32],
+) -> Result<(), AllocError> {
+    let codes = order_of(rt, alloc, keys)?;
+    same_codes(rt, &codes, wanted);
     Ok(())
+}
+
+const WORDS: [&[u8]; 3] = [
+    b"\x00\x00\x00\x00\x00\x00\x01\x00",
+    b"\xff\x00\x00\x00\x00\x00\x00\x00",
+    b"\x00\x00\x00\x00\x00\x00\x00\xff",
+];
+
+const TEXTS: [&[u8]; 4] = [b"b", b"ab", b"", b"a"];
+
+#[test]
+fn codes_are_ordered_by_their_keys(rt: HostRuntime) -> Result<(), AllocError> {
+    is_ordered(&rt, rt.alloc(), &WORDS, &[2, 0, 1])?;
+    is_ordered(&rt, rt.alloc(), &TEXTS, &[2, 3, 1, 0])
 }

@@ -1,14 +1,12 @@
 //! Sums of the numbers of a chain's keys, each times its weight.
 ghost use Rattle.std.specs.Prelude.{◌≡◌, ◌<◌};
 
-use crate::prefix::{dictionary, push_small};
+use crate::prefix::{chain_of, dictionary_of, push_dictionary};
 use std::alloc::{AllocError, Global};
 use std::marker::Brand;
 use std::process::Abort;
-use std::sync::Arc;
 use std::sync::ledger::{Blank, Ledger};
-use std::test::Fail;
-use ut_key::{KeyList, Steps, is_ascending};
+use ut_key::{KeyList, Steps};
 use ut_prefix::{DictChain, PrefixDict};
 
 /// The numbers -5, 0 and 7.
@@ -45,75 +43,66 @@ const ROWS: [Row; 11] = [
     (&[1, 1, 1, 0, 1, 0, 6, 7, 8, 9], 102),
 ];
 
-// The chain of both lists of numbers and of the texts.
-fn chain_of<L: Ledger>(
-    rt: &impl Abort,
-    alloc: Global,
-    steps: &mut Steps<L>,
-) -> Result<DictChain, AllocError> {
-    let mut chain = DictChain::new(alloc);
-    for keys in [FIRST.as_slice(), &SECOND, &TEXTS] {
-        let dict = Arc::new(alloc, dictionary(rt, alloc, keys)?)?;
-        push_small(rt, &mut chain, dict, steps)?;
-    }
-    Ok(chain)
+fn weighs(rt: &impl Abort, chain: &DictChain, weights: &[u32], sum: i128) {
+    assert!(rt; chain.weighed_total(weights) == sum, "{weights:?}");
 }
 
-fn weigh_each<L: Ledger>(rt: &impl Abort, alloc: Global, blank: Blank) -> Result<(), Fail>
+fn are_weighed(rt: &impl Abort, chain: &DictChain) {
+    for (weights, sum) in ROWS {
+        weighs(rt, chain, weights, sum);
+    }
+}
+
+fn weigh_each<L: Ledger>(rt: &impl Abort, alloc: Global, blank: Blank) -> Result<(), AllocError>
     requires name { blank.name ≡ L.name }
     requires parts { blank.parts ≡ L.parts }
     requires positive { 0 < blank.parts }
 {
     let mut steps = Steps::<L>::new(blank);
-    assert_eq!(rt; DictChain::new(alloc).weighed_total(&[1, 2]), 0);
-    let chain = chain_of(rt, alloc, &mut steps)?;
-    for (weights, sum) in ROWS {
-        assert_eq!(rt; chain.weighed_total(weights), sum, "{weights:?}");
-    }
+    weighs(rt, &DictChain::new(alloc), &[1, 2], 0);
+    let chain = chain_of(rt, alloc, &[&FIRST, &SECOND, &TEXTS], &mut steps)?;
+    are_weighed(rt, &chain);
     Ok(())
 }
 
 #[test]
-fn numbers_are_weighed_in_each_dictionary(rt: HostRuntime) -> Result<(), Fail> {
+fn numbers_are_weighed_in_each_dictionary(rt: HostRuntime) -> Result<(), AllocError> {
     weigh_each::<Brand>(&rt, rt.alloc(), Blank::new(1))
 }
 
 // The numbers from 0 to 39, whose keys stand in three blocks.
-fn forty<L: Ledger>(
-    rt: &impl Abort,
-    alloc: Global,
-    steps: &mut Steps<L>,
-) -> Result<DictChain, AllocError> {
+fn forty(rt: &impl Abort, alloc: Global) -> Result<PrefixDict, AllocError> {
     let mut keys = KeyList::new(alloc);
     for i in 0..40u8 {
         keys.push(&[0x80, 0, 0, 0, 0, 0, 0, i])?;
     }
-    assert!(rt; is_ascending(&keys));
-    assert!(rt; keys.len() < 100);
-    let dict = Arc::new(alloc, PrefixDict::from_sorted(alloc, &keys)?)?;
-    let mut chain = DictChain::new(alloc);
-    push_small(rt, &mut chain, dict, steps)?;
-    Ok(chain)
+    dictionary_of(rt, alloc, &keys)
 }
 
-fn weigh_forty<L: Ledger>(rt: &impl Abort, alloc: Global, blank: Blank) -> Result<(), Fail>
+fn are_forty_weighed(rt: &impl Abort, chain: &DictChain) {
+    let mut weights = [2; 40];
+    weighs(rt, chain, &weights, 1560);
+    weighs(rt, chain, &weights[..20], 380);
+    weights[20] = 5;
+    weighs(rt, chain, &weights, 1620);
+    weights[39] = 0;
+    weighs(rt, chain, &weights, 1542);
+}
+
+fn weigh_forty<L: Ledger>(rt: &impl Abort, alloc: Global, blank: Blank) -> Result<(), AllocError>
     requires name { blank.name ≡ L.name }
     requires parts { blank.parts ≡ L.parts }
     requires positive { 0 < blank.parts }
 {
     let mut steps = Steps::<L>::new(blank);
-    let chain = forty(rt, alloc, &mut steps)?;
-    let mut weights = [2; 40];
-    assert_eq!(rt; chain.weighed_total(&weights), 1560);
-    assert_eq!(rt; chain.weighed_total(&weights[..20]), 380);
-    weights[20] = 5;
-    assert_eq!(rt; chain.weighed_total(&weights), 1620);
-    weights[39] = 0;
-    assert_eq!(rt; chain.weighed_total(&weights), 1542);
+    let dict = forty(rt, alloc)?;
+    let mut chain = DictChain::new(alloc);
+    push_dictionary(rt, alloc, &mut chain, dict, &mut steps)?;
+    are_forty_weighed(rt, &chain);
     Ok(())
 }
 
 #[test]
-fn numbers_are_weighed_in_each_block(rt: HostRuntime) -> Result<(), Fail> {
+fn numbers_are_weighed_in_each_block(rt: HostRuntime) -> Result<(), AllocError> {
     weigh_forty::<Brand>(&rt, rt.alloc(), Blank::new(1))
 }

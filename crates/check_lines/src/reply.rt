@@ -7,40 +7,66 @@ use ut_reply::{put_reply, put_small};
 use ut_rows::{Cells, Rows};
 use ut_value::{Text, Value, is_text, same_bytes};
 
+fn refused(alloc: Global) -> Result<Vec<u8>, AllocError> {
+    let mut out = Vec::with_capacity(alloc, 96)?;
+    put_small(&mut out, None, &Reply::Refused(Refusal::Syntax));
+    Ok(out)
+}
+
+fn put_changed(out: &mut Vec<u8>) -> Result<(), AllocError> {
+    let changed = Reply::Changed {
+        rows: 2,
+        commit: Some(7),
+    };
+    put_reply(out, Some(3), &changed)
+}
+
 #[test]
 fn replies_stand_one_behind_the_other(rt: HostRuntime) -> Result<(), Fail> {
-    let mut out = Vec::with_capacity(rt.alloc(), 96)?;
-    put_small(&mut out, None, &Reply::Refused(Refusal::Syntax));
-    put_reply(
-        &mut out,
-        Some(3),
-        &Reply::Changed {
-            rows: 2,
-            commit: Some(7),
-        },
-    )?;
-    assert_eq!(rt;
-        out.as_slice(),
-        b"? refused syntax\n3 ok 2 commit 7\n".as_slice()
-    );
+    let mut out = refused(rt.alloc())?;
+    put_changed(&mut out)?;
+    assert!(rt; same_bytes(&out, b"? refused syntax\n3 ok 2 commit 7\n"));
     Ok(())
 }
 
-// A column of so many values, a text and then numbers, which the rows have by turns.
-fn by_turns(rt: &impl Abort, alloc: Global, rows: u32, distinct: u32) -> Result<Cells, AllocError> {
-    assert!(rt; distinct > 0);
-    assert!(rt; is_text(b"it's"));
+fn text(rt: &impl Abort, alloc: Global, bytes: &[u8]) -> Result<Value, AllocError> {
+    assert!(rt; is_text(bytes));
+    Ok(Value::Text(Text::from_slice(alloc, bytes)?))
+}
+
+// So many values, a text and then numbers.
+fn values(rt: &impl Abort, alloc: Global, count: u32) -> Result<Vec<Value>, AllocError> {
     let mut values = Vec::new(alloc);
-    values.push(Value::Text(Text::from_slice(alloc, b"it's")?))?;
-    for number in 1..distinct {
+    values.push(text(rt, alloc, b"it's")?)?;
+    for number in 1..count {
         values.push(Value::Int(i64::from(number)))?;
     }
+    Ok(values)
+}
+
+// A column of so many values, which the rows have by turns.
+fn by_turns(rt: &impl Abort, alloc: Global, rows: u32, distinct: u32) -> Result<Cells, AllocError> {
+    assert!(rt; distinct > 0);
+    let values = values(rt, alloc, distinct)?;
     assert!(rt; values.len() == distinct as usize);
     let mut places = Vec::new(alloc);
     for row in 0..rows {
         places.push(row % distinct)?;
     }
     Ok(Cells::of(values, places))
+}
+
+fn by_columns(
+    rt: &impl Abort,
+    alloc: Global,
+    rows: u32,
+    first: Cells,
+    second: Cells,
+) -> Result<Rows, AllocError> {
+    assert!(rt; first.len() == rows as usize);
+    assert!(rt; second.len() == rows as usize);
+    let columns = vec![in alloc; first, second]?;
+    Ok(Rows::of_columns(rows as usize, columns))
 }
 
 // Rows of two values: one of a few, and one that no other row has.
@@ -52,19 +78,21 @@ fn rows_by_turns(
 ) -> Result<Rows, AllocError> {
     let first = by_turns(rt, alloc, rows, distinct)?;
     let second = by_turns(rt, alloc, rows, rows)?;
-    assert!(rt; first.len() == rows as usize);
-    assert!(rt; second.len() == rows as usize);
-    let mut columns = Vec::new(alloc);
-    columns.push(first)?;
-    columns.push(second)?;
-    Ok(Rows::of_columns(rows as usize, columns))
+    by_columns(rt, alloc, rows, first, second)
 }
 
-fn shown(alloc: Global, place: u32) -> Result<String, AllocError> {
+fn add_shown(alloc: Global, text: &mut String, place: u32) -> Result<(), AllocError> {
     match place {
-        0 => format!(in alloc; "'it''s'"),
-        number => format!(in alloc; "{number}"),
+        0 => text.push_str("'it''s'"),
+        number => text.push_str(&format!(in alloc; "{number}")?),
     }
+}
+
+fn add_row(alloc: Global, text: &mut String, first: u32, second: u32) -> Result<(), AllocError> {
+    text.push('\n')?;
+    add_shown(alloc, text, first)?;
+    text.push(' ')?;
+    add_shown(alloc, text, second)
 }
 
 // The text of the reply of those rows.
@@ -72,12 +100,33 @@ fn wanted(rt: &impl Abort, alloc: Global, rows: u32, distinct: u32) -> Result<St
     assert!(rt; distinct > 0);
     let mut text = format!(in alloc; "7 rows {rows}")?;
     for row in 0..rows {
-        let first = shown(alloc, row % distinct)?;
-        let second = shown(alloc, row)?;
-        text.push_str(&format!(in alloc; "\n{first} {second}")?)?;
+        add_row(alloc, &mut text, row % distinct, row)?;
     }
     text.push('\n')?;
     Ok(text)
+}
+
+fn put(alloc: Global, reply: &Reply) -> Result<Vec<u8>, AllocError> {
+    let mut out = Vec::new(alloc);
+    put_reply(&mut out, Some(7), reply)?;
+    Ok(out)
+}
+
+fn put_rows(
+    rt: &impl Abort,
+    alloc: Global,
+    rows: u32,
+    distinct: u32,
+) -> Result<Vec<u8>, AllocError> {
+    let rows = rows_by_turns(rt, alloc, rows, distinct)?;
+    put(alloc, &Reply::Rows(rows))
+}
+
+fn are_put(rt: &impl Abort, alloc: Global, rows: u32, distinct: u32) -> Result<(), AllocError> {
+    let out = put_rows(rt, alloc, rows, distinct)?;
+    let text = wanted(rt, alloc, rows, distinct)?;
+    assert!(rt; same_bytes(&out, text.as_bytes()), "{rows}, {distinct}");
+    Ok(())
 }
 
 /// Of how many rows, with how many values in the first column: few rows, and many of which each
@@ -86,23 +135,20 @@ const SHARED: [(u32, u32); 4] = [(63, 1), (64, 16), (64, 17), (300, 2)];
 
 #[test]
 fn rows_that_share_values_are_put_as_others(rt: HostRuntime) -> Result<(), Fail> {
-    let alloc = rt.alloc();
     for (rows, distinct) in SHARED {
-        let reply = Reply::Rows(rows_by_turns(&rt, alloc, rows, distinct)?);
-        let mut out = Vec::new(alloc);
-        put_reply(&mut out, Some(7), &reply)?;
-        let text = wanted(&rt, alloc, rows, distinct)?;
-        assert!(rt; same_bytes(&out, text.as_bytes()), "{rows}, {distinct}");
+        are_put(&rt, rt.alloc(), rows, distinct)?;
     }
     Ok(())
 }
 
+fn put_lines(alloc: Global) -> Result<Vec<u8>, AllocError> {
+    let rows = Rows::of_columns(64, Vec::new(alloc));
+    put(alloc, &Reply::Rows(rows))
+}
+
 #[test]
 fn rows_without_columns_are_lines(rt: HostRuntime) -> Result<(), Fail> {
-    let alloc = rt.alloc();
-    let reply = Reply::Rows(Rows::of_columns(64, Vec::new(alloc)));
-    let mut out = Vec::new(alloc);
-    put_reply(&mut out, Some(7), &reply)?;
+    let out = put_lines(rt.alloc())?;
     assert_eq!(rt; out.len(), 9 + 64 + 1);
     assert!(rt; same_bytes(&out[..11], b"7 rows 64\n\n"));
     Ok(())

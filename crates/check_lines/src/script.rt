@@ -1,6 +1,9 @@
 //! Lines of the benchmark's script as another program wrote them.
+use std::alloc::AllocError;
+use std::process::Abort;
 use std::test::Fail;
 use ut_gen::{Script, script_len, script_line};
+use ut_value::same_bytes;
 
 /// A line, by seed, size and number.
 struct Case {
@@ -49,14 +52,19 @@ const CASES: [Case; 6] = [
     },
 ];
 
+fn has_line(rt: &impl Abort, case: &Case, out: &mut Vec<u8>) -> Result<(), AllocError> {
+    assert!(rt; case.size <= 500);
+    assert!(rt; script_line(case.seed, case.size, case.number, out)?);
+    assert!(rt; same_bytes(out, case.line), "line {}", case.number);
+    assert!(rt; !script_line(case.seed, case.size, script_len(case.size), out)?);
+    Ok(())
+}
+
 #[test]
 fn lines_are_found_by_number(rt: HostRuntime) -> Result<(), Fail> {
     for case in &CASES {
-        assert!(rt; case.size <= 500);
         let mut out = Vec::new(rt.alloc());
-        assert!(rt; script_line(case.seed, case.size, case.number, &mut out)?);
-        assert_eq!(rt; out.as_slice(), case.line);
-        assert!(rt; !script_line(case.seed, case.size, script_len(case.size), &mut out)?);
+        has_line(&rt, case, &mut out)?;
     }
     Ok(())
 }
@@ -64,19 +72,33 @@ fn lines_are_found_by_number(rt: HostRuntime) -> Result<(), Fail> {
 /// The lines of seed 1 and size 1, each with its end, make this sum of `31 * sum + byte` modulo 2^32.
 const SUM: u32 = 2313118540;
 
-#[test]
-fn all_lines_come_in_order(rt: HostRuntime) -> Result<(), Fail> {
+fn put_line(rt: &impl Abort, script: &mut Script, out: &mut Vec<u8>) -> Result<(), AllocError> {
+    assert!(rt; script.next_line(out)?);
+    out.push(b'\n')?;
+    Ok(())
+}
+
+fn put_lines(rt: &impl Abort, out: &mut Vec<u8>) -> Result<(), AllocError> {
     let mut script = Script::new(1, 1);
-    let mut out = Vec::new(rt.alloc());
     for _ in 0..50 {
-        assert!(rt; script.next_line(&mut out)?);
-        out.push(b'\n')?;
+        put_line(rt, &mut script, out)?;
     }
-    assert!(rt; !script.next_line(&mut out)?);
+    assert!(rt; !script.next_line(out)?);
+    Ok(())
+}
+
+fn sum_of(bytes: &[u8]) -> u32 {
     let mut sum = 0u32;
-    for byte in &out {
+    for byte in bytes {
         sum = sum.wrapping_mul(31).wrapping_add(u32::from(*byte));
     }
-    assert_eq!(rt; sum, SUM);
+    sum
+}
+
+#[test]
+fn all_lines_come_in_order(rt: HostRuntime) -> Result<(), Fail> {
+    let mut out = Vec::new(rt.alloc());
+    put_lines(&rt, &mut out)?;
+    assert_eq!(rt; sum_of(&out), SUM);
     Ok(())
 }

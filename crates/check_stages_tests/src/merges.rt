@@ -6,11 +6,33 @@ use std::test::Fail;
 use ut_plain::{Placed, TableStages};
 use ut_value::{MergeKind, Seq, Value};
 
-fn place(alloc: Global, id: u32, numbers: &[i64]) -> Result<Placed, AllocError> {
+/// A row: its id and its numbers.
+type Row = (u32, &'static [i64]);
+
+/// The rows of a table's parts and of its second stage.
+struct Table {
+    parts: &'static [&'static [Row]],
+    l2: &'static [Row],
+}
+
+/// A merge that keeps the rows of these ids, and the ids that the parts behind it have in order.
+struct Case {
+    kind: MergeKind,
+    needed: &'static [u32],
+    wanted: &'static [&'static [u32]],
+}
+
+fn values(alloc: Global, numbers: &[i64]) -> Result<Seq<Value>, AllocError> {
     let mut values = Seq::new(alloc);
     for number in numbers {
         values.push(Value::Int(*number))?;
     }
+    Ok(values)
+}
+
+fn place(alloc: Global, row: Row) -> Result<Placed, AllocError> {
+    let (id, numbers) = row;
+    let values = values(alloc, numbers)?;
     Ok(Placed {
         id,
         values,
@@ -18,90 +40,124 @@ fn place(alloc: Global, id: u32, numbers: &[i64]) -> Result<Placed, AllocError> 
     })
 }
 
-// Rows of one number, with ids from one on.
-fn places(alloc: Global, first: u32, numbers: &[i64]) -> Result<Seq<Placed>, AllocError> {
+fn places(alloc: Global, rows: &[Row]) -> Result<Seq<Placed>, AllocError> {
     let mut places = Seq::new(alloc);
-    let mut id = first;
-    for number in numbers {
-        places.push(place(alloc, id, &[*number])?)?;
-        id = id.saturating_add(1);
+    for row in rows {
+        places.push(place(alloc, *row)?)?;
     }
     Ok(places)
 }
 
-fn merged(
-    alloc: Global,
-    needed: &[u32],
-    kind: MergeKind,
-    stages: &TableStages,
-) -> Result<TableStages, AllocError> {
-    let closed = closing(alloc, needed, kind, stages)?;
-    switched(alloc, kind, &closed)
+fn parts(alloc: Global, lists: &[&[Row]]) -> Result<Seq<Seq<Placed>>, AllocError> {
+    let mut parts = Seq::new(alloc);
+    for rows in lists {
+        parts.push(places(alloc, rows)?)?;
+    }
+    Ok(parts)
 }
 
-// A part has the rows of these ids in this order.
-fn check_part(
-    rt: &impl Abort,
-    alloc: Global,
-    stages: &TableStages,
-    part: usize,
-    wanted: &[u32],
-) -> Result<(), AllocError> {
-    let mut ids = Vec::new(alloc);
-    if let Some(places) = stages.parts.as_slice().get(part) {
-        for place in places.as_slice() {
-            ids.push(place.id)?;
-        }
+fn stages(alloc: Global, table: &Table) -> Result<TableStages, AllocError> {
+    let parts = parts(alloc, table.parts)?;
+    let l2 = places(alloc, table.l2)?;
+    let mut stages = no_stages(alloc);
+    stages.parts = parts;
+    stages.l2 = l2;
+    Ok(stages)
+}
+
+fn closed(alloc: Global, table: &Table, case: &Case) -> Result<TableStages, AllocError> {
+    let stages = stages(alloc, table)?;
+    closing(alloc, case.needed, case.kind, &stages)
+}
+
+fn merged(alloc: Global, table: &Table, case: &Case) -> Result<TableStages, AllocError> {
+    let closed = closed(alloc, table, case)?;
+    switched(alloc, case.kind, &closed)
+}
+
+// The places have these ids in this order.
+fn has_ids(rt: &impl Abort, places: &[Placed], wanted: &[u32]) {
+    assert_eq!(rt; places.len(), wanted.len());
+    for (place, id) in places.iter().zip(wanted) {
+        assert_eq!(rt; place.id, *id);
     }
-    let ids = ids.as_slice();
-    assert_eq!(rt; ids, wanted, "part {part}");
+}
+
+// The part has the rows of these ids; one that isn't there has none.
+fn has_part(rt: &impl Abort, stages: &TableStages, part: usize, wanted: &[u32]) {
+    match stages.parts.as_slice().get(part) {
+        Some(places) => has_ids(rt, places.as_slice(), wanted),
+        None => has_ids(rt, &[], wanted),
+    }
+}
+
+fn check(rt: &impl Abort, alloc: Global, table: &Table, case: &Case) -> Result<(), AllocError> {
+    let next = merged(alloc, table, case)?;
+    for (part, wanted) in case.wanted.iter().enumerate() {
+        has_part(rt, &next, part, wanted);
+    }
     Ok(())
 }
 
-// The second column has one key and the first two, so the second comes first.
+/// The second column has one key and the first two, so the second comes first.
+const UNSORTED: Table = Table {
+    parts: &[],
+    l2: &[(1, &[2, 1]), (2, &[1, 1]), (3, &[2, 1]), (4, &[1, 1])],
+};
+
+const RESORT: Case = Case {
+    kind: MergeKind::Resort,
+    needed: &[1, 2, 3, 4],
+    wanted: &[&[2, 4, 1, 3]],
+};
+
 #[test]
 fn a_resorted_part_is_ordered_by_the_column_of_fewest_keys(rt: HostRuntime) -> Result<(), Fail> {
-    let alloc = rt.alloc();
-    let mut stages = no_stages(alloc);
-    stages.l2.push(place(alloc, 1, &[2, 1])?)?;
-    stages.l2.push(place(alloc, 2, &[1, 1])?)?;
-    stages.l2.push(place(alloc, 3, &[2, 1])?)?;
-    stages.l2.push(place(alloc, 4, &[1, 1])?)?;
-    let next = merged(alloc, &[1, 2, 3, 4], MergeKind::Resort, &stages)?;
-    check_part(&rt, alloc, &next, 0, &[2, 4, 1, 3])?;
+    check(&rt, rt.alloc(), &UNSORTED, &RESORT)?;
     Ok(())
 }
 
-// Rows of 2 and 4, of 1 and of 9, and behind them of 4 and 10.
+/// Rows of 2 and 4, of 1 and of 9, and behind them of 4 and 10.
+const THREE: Table = Table {
+    parts: &[&[(1, &[2]), (2, &[4])], &[(3, &[1])], &[(4, &[9])]],
+    l2: &[(5, &[4]), (6, &[10])],
+};
+
+const PARTIAL: Case = Case {
+    kind: MergeKind::Partial,
+    needed: &[1, 2, 3, 4, 5, 6],
+    wanted: &[&[1, 2], &[3], &[4, 5, 6], &[]],
+};
+
 #[test]
 fn a_partial_merge_leaves_two_of_three_parts(rt: HostRuntime) -> Result<(), Fail> {
-    let alloc = rt.alloc();
-    let mut stages = no_stages(alloc);
-    stages.parts.push(places(alloc, 1, &[2, 4])?)?;
-    stages.parts.push(places(alloc, 3, &[1])?)?;
-    stages.parts.push(places(alloc, 4, &[9])?)?;
-    stages.l2 = places(alloc, 5, &[4, 10])?;
-    let next = merged(alloc, &[1, 2, 3, 4, 5, 6], MergeKind::Partial, &stages)?;
-    check_part(&rt, alloc, &next, 0, &[1, 2])?;
-    check_part(&rt, alloc, &next, 1, &[3])?;
-    check_part(&rt, alloc, &next, 2, &[4, 5, 6])?;
-    check_part(&rt, alloc, &next, 3, &[])?;
+    check(&rt, rt.alloc(), &THREE, &PARTIAL)?;
     Ok(())
 }
 
-// A part that stays keeps a row that nobody needs, and a part that is rebuilt drops it.
+/// A part that stays keeps a row that nobody needs, and a part that is rebuilt drops it.
+const ONE: Table = Table {
+    parts: &[&[(1, &[7]), (2, &[8])]],
+    l2: &[(3, &[7]), (4, &[8])],
+};
+
+const EXTEND: Case = Case {
+    kind: MergeKind::Extend,
+    needed: &[2, 3],
+    wanted: &[&[1, 2], &[3]],
+};
+
+const CLASSIC: Case = Case {
+    kind: MergeKind::Classic,
+    needed: &[2, 3],
+    wanted: &[&[2, 3]],
+};
+
 #[test]
 fn a_row_that_nobody_needs_is_dropped_where_its_part_is_rebuilt(
     rt: HostRuntime,
 ) -> Result<(), Fail> {
-    let alloc = rt.alloc();
-    let mut stages = no_stages(alloc);
-    stages.parts.push(places(alloc, 1, &[7, 8])?)?;
-    stages.l2 = places(alloc, 3, &[7, 8])?;
-    let kept = merged(alloc, &[2, 3], MergeKind::Extend, &stages)?;
-    check_part(&rt, alloc, &kept, 0, &[1, 2])?;
-    check_part(&rt, alloc, &kept, 1, &[3])?;
-    let rebuilt = merged(alloc, &[2, 3], MergeKind::Classic, &stages)?;
-    check_part(&rt, alloc, &rebuilt, 0, &[2, 3])?;
+    check(&rt, rt.alloc(), &ONE, &EXTEND)?;
+    check(&rt, rt.alloc(), &ONE, &CLASSIC)?;
     Ok(())
 }

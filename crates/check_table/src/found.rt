@@ -1,5 +1,5 @@
 //! The rows that a scan of a small table finds.
-ghost use Rattle.std.specs.Prelude.{◌≡◌, ◌<◌, ◌∷◌, [], None, IsSome, IfOk, length};
+ghost use Rattle.std.specs.Prelude.{◌<◌, ◌∷◌, [], None, IsSome, IfOk, length};
 ghost use Rattle.ut_names.specs.Compiled.{Compiles};
 ghost use Rattle.ut_staged.specs.Staged.{row_at};
 ghost use Rattle.ut_table.specs.Finds.{SeenOnce, AreThere};

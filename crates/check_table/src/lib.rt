@@ -1,4 +1,4 @@
-//! Checks of a table: the parts of main, scans, the stamps of a part, merges, and a small table with rows in each stage.
+//! Checks of a table: the parts of main, scans, the stamps of a part, and a small table with rows in each stage.
 #![tactic(auto)]
 
 #[cfg(test)]
@@ -7,8 +7,6 @@ mod found;
 mod joint;
 #[cfg(test)]
 mod load;
-#[cfg(test)]
-mod merge;
 #[cfg(test)]
 mod parts;
 #[cfg(test)]

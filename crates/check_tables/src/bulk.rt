@@ -28,24 +28,13 @@ fn text(rt: &impl Abort, alloc: Global, bytes: &[u8]) -> Result<Value, AllocErro
     Ok(Value::Text(Text::from_slice(alloc, bytes)?))
 }
 
-// Adds the values of a row.
-fn push_row(
-    rt: &impl Abort,
-    alloc: Global,
-    values: &mut Vec<Value>,
-    number: i64,
-    bytes: &[u8],
-) -> Result<(), AllocError> {
-    values.push(Value::Int(number))?;
-    values.push(text(rt, alloc, bytes)?)?;
-    Ok(())
-}
-
 // The values of two rows.
 fn values(rt: &impl Abort, alloc: Global) -> Result<Vec<Value>, AllocError> {
     let mut values = Vec::new(alloc);
-    push_row(rt, alloc, &mut values, 5, b"a")?;
-    push_row(rt, alloc, &mut values, -7, b"bc")?;
+    values.push(Value::Int(5))?;
+    values.push(text(rt, alloc, b"a")?)?;
+    values.push(Value::Int(-7))?;
+    values.push(text(rt, alloc, b"bc")?)?;
     Ok(values)
 }
 

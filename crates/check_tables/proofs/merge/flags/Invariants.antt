@@ -1,5 +1,5 @@
 use Rattle.std.proofs.Common.{◌≡◌, length}
-use Rattle.check_table.proofs.merge.flags.Given as goal
+use Rattle.check_tables.proofs.merge.flags.Given as goal
 
 abbrev pub invariant-loop-i : goal.invariant-loop-i
 invariant-loop-i l = length l.flags.items ≡ l.i

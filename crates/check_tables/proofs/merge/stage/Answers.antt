@@ -1,9 +1,9 @@
-use Rattle.std.proofs.Common.{◌≡◌, ◌∙◌, ◌+◌, ◌++◌, [], ◌∷◌, List, ℕ, length, map, ap, sym, refl, arith}
+use Rattle.std.proofs.Common.{◌≡◌, ◌∙◌, ◌+◌, ◌++◌, [], ◌∷◌, List, ℕ, length, ap, sym, refl, arith}
 use Rattle.std.specs.List.{range_with_len}
 use Rattle.std.proofs.lemmas.List.{length-map, map-id}
 use Rattle.std.proofs.lemmas.List.FromFn.{length-range_with_len, map-range_with_len_more}
 use Rattle.ut_l2.specs.KeyRows.{KeyRow}
-use Rattle.check_table.proofs.merge.stage.Goals as goal
+use Rattle.check_tables.proofs.merge.stage.Goals as goal
 
 range-more : (a n b : ℕ) → a + n ≡ b → range_with_len a (n + 1) ≡ range_with_len a n ++ b ∷ []
 range-more a n b e = sym (map-id (range_with_len a (n + 1))) ∙ map-range_with_len_more (λ x. x) a n b e ∙ ap (λ (l : List ℕ). l ++ b ∷ []) (map-id (range_with_len a n))

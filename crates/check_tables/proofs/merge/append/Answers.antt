@@ -1,7 +1,7 @@
-use Rattle.std.proofs.Common.{◌≡◌, ◌∙◌, ◌++◌, [], ◌∷◌, List, ℕ, map, ap}
+use Rattle.std.proofs.Common.{◌∙◌, ◌++◌, [], ◌∷◌, List, map, ap}
 use Rattle.std.proofs.lemmas.List.{map-append}
 use Rattle.ut_l2.specs.KeyRows.{KeyRow, keyed}
-use Rattle.check_table.proofs.merge.append.Goals as goal
+use Rattle.check_tables.proofs.merge.append.Goals as goal
 
 pub returns-clause-ids : goal.returns-clause-ids
 returns-clause-ids c =

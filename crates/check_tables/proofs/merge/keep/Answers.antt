@@ -3,7 +3,7 @@ use Rattle.std.specs.Global.{Vec}
 use Rattle.std.proofs.lemmas.List.{map-append, take_all}
 use Rattle.ut_l2.specs.KeyRows.{KeyRow}
 use Rattle.ut_l2.proofs.DeltaLemmas.{map-map}
-use Rattle.check_table.proofs.merge.keep.Goals as goal
+use Rattle.check_tables.proofs.merge.keep.Goals as goal
 
 pub returns : goal.returns
 returns c =

@@ -10,7 +10,7 @@ use Rattle.ut_main.specs.Parts.{MainValue}
 use Rattle.ut_plain.specs.Merges.{flagged, flagged_all}
 use Rattle.ut_value.specs.declared.entry.MergeKind.TheVariants.{Resort}
 use Rattle.ut_merge.specs.Jobs.{HaveOwnIds, IsJob, job_value}
-use Rattle.check_table.proofs.merge.resorting.Goals as goal
+use Rattle.check_tables.proofs.merge.resorting.Goals as goal
 
 flagged-each : (rows : List KeyRow) → flagged rows (replicate (length rows) true) ≡ rows
 flagged-each [] = refl

@@ -2,7 +2,7 @@ use Rattle.std.proofs.Common.{◌∙◌, List, length, ap, arith}
 use Rattle.ut_main.specs.Columns.{Chain}
 use Rattle.ut_main.specs.Parts.{PartValue, first_parts}
 use Rattle.ut_main.proofs.MainLemmas.{length-dicts_behind}
-use Rattle.check_table.proofs.merge.part.Goals as goal
+use Rattle.check_tables.proofs.merge.part.Goals as goal
 
 pub returns : goal.returns
 returns g c =
