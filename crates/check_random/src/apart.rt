@@ -1,10 +1,11 @@
 //! Where two outputs part.
 ghost use Rattle.std.specs.Prelude.{◌≡◌, ◌↔◌, IfOk, IsNone};
+ghost use Rattle.ut_run.specs.declared.report.Status.TheVariants.{Done};
 
 use crate::run::Ran;
 use crate::told::Script;
+use check_told::has_told;
 use std::alloc::{AllocError, Global};
-use ut_app::Status;
 
 /// A line of a script, and the first lines of the two outputs that differ.
 #[derive(Drop)]
@@ -20,9 +21,9 @@ pub(crate) fn apart_from(
     script: &Script,
     ran: &Ran,
 ) -> Result<Option<Apart>, AllocError>
-    ensures same { IfOk result (λ apart. IsNone apart ↔ (ran.now.status ≡ Status.Done) × (ran.now.told.items ≡ script.now.replies.items)) }
+    ensures same { IfOk result (λ apart. IsNone apart ↔ (ran.now.status ≡ Done) × (ran.now.told.items ≡ script.now.replies.items)) }
 {
-    if ran.status == Status::Done && ran.told.as_slice() == script.replies.as_slice() {
+    if has_told(ran.status, ran.told.as_slice(), script.replies.as_slice()) {
         return Ok(None);
     }
     Ok(Some(place_of(alloc, script, ran)?))

@@ -7,11 +7,11 @@
 mod program;
 mod rows;
 mod slow;
-mod tally;
+mod wrong;
 
 use crate::rows::{Row, rows_of};
-use crate::tally::Tally;
 use anyhow::Result;
+use check_told::Tally;
 use std::alloc::Global;
 use std::process::ExitCode;
 use std::rt::Files;

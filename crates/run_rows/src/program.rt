@@ -1,8 +1,9 @@
 //! Rows on the program's top call, over a disk and streams in memory.
 use crate::rows::Row;
-use crate::tally::{Tally, is_right, say_wrong};
+use crate::wrong::say_wrong;
 use anyhow::Result;
 use check_run::run::{Ran, copy_of, run_on};
+use check_told::{Tally, is_right};
 use std::alloc::{AllocError, Global};
 use std::sync::Wait;
 use std::thread::Threads;
@@ -90,7 +91,7 @@ fn check_call(
     disk: &mut MemDisk,
 ) -> Result<bool> {
     let told = told_by(rt, alloc, row, words, disk)?;
-    let is_right = is_right(row, told.as_slice());
+    let is_right = is_right(told.as_slice(), row.answers.as_slice());
     if !is_right {
         println!(rt; "the words {words:?}")?;
         say_wrong(rt, row, "the program", told.as_slice())?;

@@ -1,9 +1,10 @@
 //! Rows on the slow store of `check_oracle`.
 use crate::rows::{MOST_IDS, Row};
-use crate::tally::{Tally, is_right, say_wrong};
+use crate::wrong::say_wrong;
 use anyhow::Result;
 use check_oracle::Oracle;
 use check_scripts::Answers;
+use check_told::{Tally, is_right};
 use std::alloc::{AllocError, Global};
 
 /// Ids enough for a row that doesn't say how many.
@@ -34,7 +35,7 @@ fn store_for(alloc: Global, stores: &[Oracle], row: &Row<'_>) -> Result<Oracle, 
 
 fn check_row(rt: &impl Print, alloc: Global, store: &mut Oracle, row: &Row<'_>) -> Result<bool> {
     let told = told_by(alloc, store, row)?;
-    let is_right = is_right(row, told.as_slice());
+    let is_right = is_right(told.as_slice(), row.answers.as_slice());
     if !is_right {
         say_wrong(rt, row, "the slow store", told.as_slice())?;
     }
