@@ -188,7 +188,7 @@ fn check_front(rt: &impl Abort, alloc: Global, book: &[Turn]) -> Result<(), Allo
 
 #[test]
 fn each_line_has_its_turn(rt: HostRuntime) -> Result<(), Fail> {
-    let watch = Watch::new(); // the store has a turn before the twentieth line is past
+    let watch = Watch::new(); // the store has a turn before the session of the ninth line goes on
     let lines = of_four(rt.alloc())?;
     let came = run_new(&rt, rt.alloc(), lines, 2, &watch)?;
     check_front(&rt, rt.alloc(), came.book.as_slice())?;

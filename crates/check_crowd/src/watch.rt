@@ -8,8 +8,9 @@ use ut_outside::{Hook, Point};
 /// So many times a thread that is held looks.
 const PATIENCE: u32 = 10_000_000;
 
-/// Which session's line is held: the twentieth that was answered.
-const HELD: u64 = 19;
+/// Behind which line its session is held: the ninth that was answered. Each session has ten lines at least, so this one has lines left,
+/// and the crowd isn't over before it goes on.
+const HELD: u64 = 8;
 
 /// How often each point was reached, and how often a wait was given up.
 #[derive(Drop)]
@@ -47,7 +48,7 @@ impl Watch {
 }
 
 impl Hook for Watch {
-    /// Who answered the twentieth line waits for the first build, and the first build for three more lines.
+    /// Who answered the ninth line waits for the first build, and the first build for three more lines.
     fn reach(&self, point: Point) {
         match point {
             Point::LineDone => {
