@@ -1,7 +1,7 @@
 //! Whether runs told what they had to, for the programs that compare, and how many of them did.
 #![tactic(auto)]
 
-ghost use Rattle.std.specs.Prelude.{◌≡◌, ◌↔◌, IsTrue};
+ghost use Rattle.std.specs.Prelude.{◌≡◌, ◌↔◌, ◌+◌, ◌-◌, ◌^◌, min, false, IsTrue};
 
 use std::fmt;
 use ut_app::Status;
@@ -14,12 +14,20 @@ pub struct Tally {
 }
 
 impl Tally {
-    pub fn new() -> Tally {
+    /// No row was run.
+    pub fn new() -> Tally
+        ensures run { result.run ≡ 0 }
+        ensures right { result.right ≡ 0 }
+    {
         Tally { run: 0, right: 0 }
     }
 
-    /// Counts a row by what it was told.
-    pub fn count(&mut self, is_right: bool) {
+    /// Counts a row by what it was told. Both counts stay at the greatest usize.
+    pub fn count(&mut self, is_right: bool)
+        ensures run { self.new.run ≡ min (self.old.run + 1) (2 ^ 64 - 1) }
+        ensures right { IsTrue is_right → self.new.right ≡ min (self.old.right + 1) (2 ^ 64 - 1) }
+        ensures wrong { is_right ≡ false → self.new.right ≡ self.old.right }
+    {
         self.run = self.run.saturating_add(1);
         if is_right {
             self.right = self.right.saturating_add(1);
