@@ -7,5 +7,6 @@ pub mod DrawLemmas
 pub mod SameLemmas
 pub mod BaseLemmas
 pub mod StoreLemmas
+pub mod RestoredLemmas
 pub mod FindLemmas
 pub mod ImageLemmas

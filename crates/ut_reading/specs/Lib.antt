@@ -2,3 +2,4 @@ pub mod Standing
 pub mod Found
 pub mod Reading
 pub mod Laws
+pub mod Restored

@@ -1,9 +1,10 @@
 -- Bytes on pages: how many they take, and chains on pages one behind the other.
-use Rattle.std.proofs.Common.{◌≡◌, ℕ, zero, suc, ◌+◌, ◌≤◌, List, [], ◌∷◌, ◌++◌, length, take, drop, refl, sym, ◌∙◌, ap, arith, append_assoc, length-append}
+use Rattle.std.proofs.Common.{◌≡◌, ℕ, zero, suc, ◌+◌, ◌≤◌, List, [], ◌∷◌, ◌++◌, length, map, take, drop, refl, sym, ◌∙◌, ap, arith, append_assoc, length-append}
 use Rattle.std.specs.List.{AllByRecursion}
-use Rattle.std.proofs.lemmas.List.{length-take, length-drop, take-append-drop, drop-drop}
+use Rattle.std.proofs.lemmas.List.{length-take, length-drop, map-append, take-append-drop, drop-drop}
 use Rattle.std.proofs.lemmas.List.Sums.{sum_by-cons}
 use Rattle.ut_durable.specs.Bytes.{pages_for}
+use Rattle.ut_durable.specs.Saving.{Planned}
 use Rattle.ut_durable.specs.Plans.{Draft, IsDraft, Ascend, Fills, plan, planned_of, reached_of}
 use Rattle.ut_savepoint.specs.Planning.{pages_of, drafts_of}
 
@@ -77,3 +78,20 @@ plan_long (n ∷ pages) bytes = ap suc (plan_long pages (drop 4090 bytes))
 pub planned_long : (cs : List Draft) → length (planned_of cs) ≡ length (reached_of cs)
 planned_long [] = refl
 planned_long (c ∷ cs) = omega (arith, planned_long cs, plan_long c.pages c.bytes, length-append (plan c.pages c.bytes) (planned_of cs), length-append c.pages (reached_of cs))
+
+-- ---- and which
+
+abbrev number : Planned → ℕ
+number p = p.n
+
+plan_numbers : (pages bytes : List ℕ) → map number (plan pages bytes) ≡ pages
+plan_numbers [] bytes = refl
+plan_numbers (n ∷ pages) bytes = ap (λ (l : List ℕ). n ∷ l) (plan_numbers pages (drop 4090 bytes))
+
+planned_numbers : (cs : List Draft) → map number (planned_of cs) ≡ reached_of cs
+planned_numbers [] = refl
+planned_numbers (c ∷ cs) = map-append number (plan c.pages c.bytes) (planned_of cs) ∙ (λ i. plan_numbers c.pages c.bytes i ++ planned_numbers cs i)
+
+-- those of the parts, and then those of the directory
+pub all_numbers : (parts : List Draft) (own : Draft) → map number (planned_of parts ++ plan own.pages own.bytes) ≡ reached_of parts ++ own.pages
+all_numbers parts own = map-append number (planned_of parts) (plan own.pages own.bytes) ∙ (λ i. planned_numbers parts i ++ plan_numbers own.pages own.bytes i)

@@ -1,5 +1,5 @@
 -- The savepoint of what is captured.
-use Rattle.std.proofs.Common.{◌≡◌, inr, get_or, Fits, ℕ, zero, suc, ◌+◌, ◌<◌, ◌≤◌, ◌^◌, false, List, [], ◌∷◌, ◌++◌, length, drop, refl, sym, ◌∙◌, ap, subst, arith, length-append}
+use Rattle.std.proofs.Common.{◌≡◌, inr, get_or, Fits, ℕ, zero, suc, ◌+◌, ◌<◌, ◌≤◌, ◌^◌, false, List, [], ◌∷◌, ◌++◌, length, map, drop, refl, sym, ◌∙◌, ap, subst, arith, length-append}
 use Rattle.std.specs.Prelude.{Contains}
 use Rattle.std.specs.Int.{w32, to_le_bytes}
 use Rattle.std.proofs.lemmas.List.{append-nil, drop_all}
@@ -8,14 +8,14 @@ use Rattle.ut_pages.specs.declared.root.Root.{Root}
 use Rattle.ut_pages.specs.Layout.{IsRoot}
 use Rattle.ut_pages.specs.Free.{AreFree}
 use Rattle.ut_durable.specs.Rules.{IsDirectory}
-use Rattle.ut_durable.specs.Bytes.{pages_for, image_pages}
+use Rattle.ut_durable.specs.Bytes.{Describes, pages_for, image_pages}
 use Rattle.ut_durable.specs.Saving.{Saving, IsPlan}
-use Rattle.ut_durable.specs.Plans.{Draft, Ascend, first_of, plan, planned_of, reached_of}
+use Rattle.ut_durable.specs.Plans.{Draft, Ascend, chain_of, first_of, plan, planned_of, reached_of}
 use Rattle.ut_durable.proofs.PlanLemmas.{chains_are_plan, free_pages_ascend}
 use Rattle.ut_savepoint.specs.declared.captured.CapturedTable.{CapturedTable}
 use Rattle.ut_savepoint.specs.Captured.{Captures}
 use Rattle.ut_savepoint.specs.Planning.{spelled_all, pages_of, directory_of, tables_bytes, drafts_of, saving_on, Plans, PlansOn}
-use Rattle.ut_savepoint.proofs.PageLemmas.{fills_pages, drafts_are, drafts_reach, plan_long, planned_long}
+use Rattle.ut_savepoint.proofs.PageLemmas.{fills_pages, drafts_are, drafts_reach, plan_long, planned_long, all_numbers}
 use Rattle.ut_savepoint.proofs.SpellLemmas.{AreNumbers, Short, short_parts, chains_all, directory_same, tables_hold, chains_flat, image_takes, directory_long}
 
 -- what is known of the pages: those of the parts, and those of the directory
@@ -140,6 +140,15 @@ module _ (cs : List CapturedTable) (reached first own : List ℕ) (are : ArePage
         first = first_is.1;
       }
 
+  described : (root : Root) (d : Directory) → Captures cs d → IsDirectory root.next root.commits d → Describes (named root) bytes (map chain_of parts) d
+  described root d captures rules = inr (record {
+    rules = rules;
+    chains = chains_all first cs;
+    flat = chains_flat cs first;
+    spelled = directory_same cs d first captures;
+    hold = tables_hold cs d.tables d.stages first captures (fit_first first own are.fit) are.short;
+  })
+
   named_plan : (root : Root) (d : Directory) → Captures cs d → IsDirectory root.next root.commits d → IsPlan (planned_of parts ++ plan own bytes) reached (reached_of parts ++ own) (named root) d
   named_plan root d captures rules =
       let own_all = are.directory in
@@ -151,13 +160,7 @@ module _ (cs : List CapturedTable) (reached first own : List ℕ) (are : ArePage
       (λ k has. (free_pages_ascend reached (first ++ own) are.free).1 k (subst (λ (l : List ℕ). Contains l k) same_both has))
       refl
       refl
-      (inr (record {
-        rules = rules;
-        chains = chains_all first cs;
-        flat = chains_flat cs first;
-        spelled = directory_same cs d first captures;
-        hold = tables_hold cs d.tables d.stages first captures (fit_first first own are.fit) are.short;
-      }))
+      (described root d captures rules)
 
   -- a directory of few pages is short
   short_directory : 3 + (length first + length own) + length reached < 2 ^ 32 → length bytes < 2 ^ 64
@@ -179,6 +182,8 @@ module _ (cs : List CapturedTable) (reached first own : List ℕ) (are : ArePage
             let own_all = are.directory in
             let parts_all = are.parts in
             omega (arith, room, parts_all, own_all, image_takes cs d captures);
+        takes = record { least = subst (AreFree (Contains reached) 3) (sym same_both) are.free; order = all_numbers parts directory };
+        chains = record { parts = parts; own = directory; planned = refl; reached = refl; first = refl; describes = described root d captures };
         plan = named_plan root d captures;
       })
 

@@ -11,9 +11,9 @@ use Rattle.ut_pages.specs.declared.root.Root.{Root}
 use Rattle.ut_pages.specs.Layout.{IsRoot}
 use Rattle.ut_pages.specs.Free.{AreFree}
 use Rattle.ut_durable.specs.Rules.{IsDirectory}
-use Rattle.ut_durable.specs.Bytes.{pages_for, image_pages}
-use Rattle.ut_durable.specs.Plans.{Draft, first_of, plan, planned_of, reached_of}
-use Rattle.ut_durable.specs.Saving.{Saving, IsPlan}
+use Rattle.ut_durable.specs.Bytes.{Describes, pages_for, image_pages}
+use Rattle.ut_durable.specs.Plans.{Draft, chain_of, first_of, plan, planned_of, reached_of}
+use Rattle.ut_durable.specs.Saving.{Planned, Saving, IsPlan}
 use Rattle.ut_savepoint.specs.declared.captured.CapturedPart.{CapturedPart}
 use Rattle.ut_savepoint.specs.declared.captured.CapturedTable.{CapturedTable}
 use Rattle.ut_savepoint.specs.Captured.{Captures}
@@ -75,6 +75,20 @@ saving_on root tables first own = record {
   sealed = false;
 }
 
+-- Its root will reach the least pages from the fourth on that aren't reached now, and no others. It writes each of them once, in order.
+pub record TakesLeast (reached : List ℕ) (s : Saving) : Type 0 where
+  pub least : AreFree (Contains reached) 3 s.reached
+  pub order : map (λ (p : Planned). p.n) s.planned ≡ s.reached
+
+-- On them stand the chains of the directory's parts, in their order, and then its own, which the root names.
+pub record AreChains (d : Directory) (s : Saving) : Type 0 where
+  pub parts : List Draft
+  pub own : Draft
+  pub planned : s.planned ≡ planned_of parts ++ plan own.pages own.bytes
+  pub reached : s.reached ≡ reached_of parts ++ own.pages
+  pub first : s.root.first_page ≡ first_of own.pages
+  pub describes : IsDirectory s.root.next s.root.commits d → Describes s.root own.bytes (map chain_of parts) d
+
 -- It is one of this root, whose image it sets: its pages are a plan of the image of this directory, where an image may have it.
 pub record Plans (root : Root) (reached : List ℕ) (d : Directory) (s : Saving) : Type 0 where
   pub named : s.root ≡ record root { image_len = s.root.image_len; first_page = s.root.first_page }
@@ -85,6 +99,8 @@ pub record Plans (root : Root) (reached : List ℕ) (d : Directory) (s : Saving)
   -- each of its pages is one that the root will reach
   pub even : length s.reached ≡ length s.planned
   pub few : 3 + image_pages d + length reached < 2 ^ 32
+  pub takes : TakesLeast reached s
+  pub chains : AreChains d s
   pub plan : IsDirectory root.next root.commits d → IsPlan s.planned reached s.reached s.root d
 
 -- It is that of what is captured, whatever pages a root reaches, where these are the least others.
