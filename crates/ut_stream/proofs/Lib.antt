@@ -1,0 +1,4 @@
+pub mod FeedLemmas
+pub mod FrontLemmas
+pub mod HeardLemmas
+pub mod StreamLemmas
