@@ -1,5 +1,6 @@
 -- A savepoint begins: what it captures is an image of the journal, and what the store then is.
-use Rattle.std.proofs.Common.{◌≡◌, ◌≢◌, inl, inr, ℕ, ◌+◌, ◌*◌, ◌≤◌, ◌^◌, Bool, true, false, cond, List, length, Option, None, Some, Ok, Err, refl, sym, ◌∙◌, ap, subst, arith}
+use Rattle.std.proofs.Common.{◌≡◌, ◌≢◌, inl, inr, ℕ, ◌+◌, ◌*◌, ◌≤◌, ◌^◌, Bool, true, false, cond, List, length, Option, None, Some, Result, Ok, Err, refl, sym, ◌∙◌, ap, subst, arith}
+use Rattle.std.specs.Prelude.{IfOk}
 use Rattle.std.specs.List.{AllPairs}
 use Rattle.std.proofs.lemmas.Bool.{le-leb, leb-true}
 use Rattle.ut_outside.specs.declared.disk.Which.{Which}
@@ -44,9 +45,10 @@ use Rattle.ut_savepoint.specs.Planning.{Plans}
 use Rattle.ut_store.specs.Stands.{StandsFor}
 use Rattle.ut_engine.specs.Logged.{Logged}
 use Rattle.ut_engine.specs.Runs.{Runs}
+use Rattle.ut_engine.specs.declared.error.SaveError.{SaveError}
 use Rattle.ut_engine.specs.declared.error.SaveError.TheVariants as begins
-use Rattle.ut_engine.specs.Savepoints.{progress_of, told_of, IsCounted, IsOutOfTurn, TellsBegin}
-use Rattle.ut_engine.specs.Saves.{LeavesLog, Moved, Stayed, MayLeaveLog, IsCapturedRoot}
+use Rattle.ut_engine.specs.Savepoints.{progress_of, told_of, save_reply, IsCounted, IsOutOfTurn, TellsBegin}
+use Rattle.ut_engine.specs.Saves.{LeavesLog, Moved, Stayed, MayLeaveLog, IsCapturedRoot, HasPlanned}
 use Rattle.ut_engine.specs.Serves.{IsAnswered, Serves}
 use Rattle.ut_engine.proofs.CapturedLemmas.{captured_distinct}
 use Rattle.ut_engine.proofs.HeldByLemmas.{held_by}
@@ -290,3 +292,18 @@ begun_counted old mid before after p runs none root s captured plans left may =
     let new : Logged = record mid { saving = Some s } in
     let answer = begun_answer old before 0 p runs none root captured s plans after mid new (told_of (progress_of new.saving)) left refl may refl in
     is_counted new after answer.plain answer.runs
+
+-- what it has planned
+pub begun_planned : (old : Logged) (p : Plain) (root : Root) (s : Saving) → StandsFor old.store p → ((q : Plain) → StandsFor old.store q → Plans root old.files.reached (captured_now q) s) → (reply : Reply) → reply ≡ told_of (progress_of (Some s))
+    → (pages : ℕ) → reply ≡ replies.Saving 0 pages → HasPlanned old (Some s) pages
+begun_planned old p root s stands plans reply is pages told =
+    let here = plans p stands in
+    record { begun = s; held = refl; count = counted (sym (first_told root old.files.reached (captured_now p) s here) ∙ sym is ∙ told); takes = here.takes; chains = λ q other. (plans q other).chains }
+  where
+    counted : replies.Saving 0 (length s.planned) ≡ replies.Saving 0 pages → length s.planned ≡ pages
+    counted same = cc
+
+-- and which answer tells it
+pub planned_told : (old : Logged) (saving : Option Saving) (reply : Reply) (answer : Result ℕ SaveError) → save_reply answer ≡ reply → ((pages : ℕ) → reply ≡ replies.Saving 0 pages → HasPlanned old saving pages) → IfOk answer (HasPlanned old saving)
+planned_told old saving reply (Ok pages) is each = each pages (sym is)
+planned_told old saving reply (Err e) is each = tt

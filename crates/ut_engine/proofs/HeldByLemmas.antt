@@ -107,13 +107,28 @@ shown_seen : (b : Bool) (x row : Stored) → cond b (Some x) None ≡ Some row �
 shown_seen true x row is = refl
 shown_seen false x row is = absurd cc
 
-held_some : (counting : ℕ → Bool) (h : Option Stamped) (row : Stored) → shown_by counting h ≡ Some row → (x : Stamped) × (h ≡ Some x) × (x.stored ≡ row)
+pub held_some : (counting : ℕ → Bool) (h : Option Stamped) (row : Stored) → shown_by counting h ≡ Some row → (x : Stamped) × (h ≡ Some x) × (x.stored ≡ row)
 held_some counting None row is = absurd cc
 held_some counting (Some x) row is = (x, refl, by (counting x.stamp.begin && not (has_ended counting x.stamp.end)) is)
   where
     by : (b : Bool) → cond b (Some x.stored) None ≡ Some row → x.stored ≡ row
     by true is = cc
     by false is = absurd cc
+
+module _ (e : Held) (p : Plain) (rows : AreRows e p) where
+  -- the row of an id is what its stamp shows at the journal's end
+  pub shows : p.opening ≤ journal_len p.journal → (id : ℕ) → finmap.get (current p.journal).rows id ≡ shown_by (counts e.rows.fates (journal_len p.journal) None) (rows.held id)
+  shows opened id = ap (λ (s : State). finmap.get s.rows id) (sym (state_at-last p.journal (journal_len p.journal) (omega arith))) ∙ rows.exact.shows (journal_len p.journal) opened (omega arith) id
+
+  -- a row that is there isn't gone
+  pub not_gone : (id : ℕ) (x : Stamped) (row : Stored) → rows.held id ≡ Some x → shown_by (counts e.rows.fates (journal_len p.journal) None) (rows.held id) ≡ Some row → IsGone e.rows.fates p.sessions x.stamp → ⊥
+  not_gone id x row has shown gone =
+      let seen : sees e.rows.fates (journal_len p.journal) None x.stamp ≡ true = shown_seen (sees e.rows.fates (journal_len p.journal) None x.stamp) x.stored row (sym (ap (shown_by (counts e.rows.fates (journal_len p.journal) None)) has) ∙ shown) in
+      let unseen : sees e.rows.fates (journal_len p.journal) None x.stamp ≡ false = gone_unseen e.rows.fates p.sessions x.stamp (journal_len p.journal) None (λ u h. absurd (nobody u h)) (λ b c t over behind le. rows.exact.within t c over) gone in
+      let differ : true ≡ false = sym seen ∙ unseen in absurd cc
+    where
+      nobody : (n : ℕ) → None ≡ Some n → ⊥
+      nobody n h = cc
 
 pub held_by : (e : Held) (p : Plain) → AreRows e p → p.opening ≤ journal_len p.journal → AreHeldBy p.stages (current p.journal).rows
 held_by e p rows opened = record {
@@ -122,24 +137,11 @@ held_by e p rows opened = record {
       let at = from_plain (slice_get e.rows.staged n) pl there in
       row_is n pl at.0 at.1 at.2 at.3 live;
   only = λ id row is.
-      let h = held_some (counts e.rows.fates (journal_len p.journal) None) (rows.held id) row (sym (shows id) ∙ is) in
-      let at = ⊎_elim (λ g. absurd (not_gone id h.0 row h.1 (sym (shows id) ∙ is) g)) (λ found. found) (rows.places.only id h.0 h.1) in
+      let h = held_some (counts e.rows.fates (journal_len p.journal) None) (rows.held id) row (sym (shows e p rows opened id) ∙ is) in
+      let at = ⊎_elim (λ g. absurd (not_gone e p rows id h.0 row h.1 (sym (shows e p rows opened id) ∙ is) g)) (λ found. found) (rows.places.only id h.0 h.1) in
       (at.0, placed_of at.2, stands_in at.0 at.1 at.2 at.3, live_at id row at.2 at.4 at.5 is, at.5, same_row at.0 at.2 h.0 row at.6 h.2);
 }
   where
-    nobody : (n : ℕ) → None ≡ Some n → ⊥
-    nobody n h = cc
-
-    -- a row that is there isn't gone
-    not_gone : (id : ℕ) (x : Stamped) (row : Stored) → rows.held id ≡ Some x → shown_by (counts e.rows.fates (journal_len p.journal) None) (rows.held id) ≡ Some row → IsGone e.rows.fates p.sessions x.stamp → ⊥
-    not_gone id x row has shown gone =
-        let seen : sees e.rows.fates (journal_len p.journal) None x.stamp ≡ true = shown_seen (sees e.rows.fates (journal_len p.journal) None x.stamp) x.stored row (sym (ap (shown_by (counts e.rows.fates (journal_len p.journal) None)) has) ∙ shown) in
-        let unseen : sees e.rows.fates (journal_len p.journal) None x.stamp ≡ false = gone_unseen e.rows.fates p.sessions x.stamp (journal_len p.journal) None (λ u h. absurd (nobody u h)) (λ b c t over behind le. rows.exact.within t c over) gone in
-        let differ : true ≡ false = sym seen ∙ unseen in absurd cc
-
-    shows : (id : ℕ) → finmap.get (current p.journal).rows id ≡ shown_by (counts e.rows.fates (journal_len p.journal) None) (rows.held id)
-    shows id = ap (λ (s : State). finmap.get s.rows id) (sym (state_at-last p.journal (journal_len p.journal) (omega arith))) ∙ rows.exact.shows (journal_len p.journal) opened (omega arith) id
-
     table : (n : ℕ) → slice_get p.stages n ≡ option_map stages_of (slice_get e.rows.staged n)
     table n = ap (λ (l : List TableStages). slice_get l n) rows.stages ∙ slice_get-map stages_of e.rows.staged n
 
@@ -157,7 +159,7 @@ held_by e p rows opened = record {
     row_is n pl q r at same live =
         let alive : is_dead r.stamp ≡ false = ap (λ (x : Placed). x.dead) same ∙ not_true pl.dead (and_first (not pl.dead) (is_some (finmap.get (current p.journal).rows pl.id)) live) in
         let id : r.id ≡ pl.id = ap (λ (x : Placed). x.id) same in
-        let shown = shows r.id ∙ ap (shown_by (counts e.rows.fates (journal_len p.journal) None)) (rows.places.each n q r at alive) in
+        let shown = shows e p rows opened r.id ∙ ap (shown_by (counts e.rows.fates (journal_len p.journal) None)) (rows.places.each n q r at alive) in
         let some : is_some (finmap.get (current p.journal).rows r.id) ≡ true = ap (λ (i : ℕ). is_some (finmap.get (current p.journal).rows i)) id ∙ and_second (not pl.dead) (is_some (finmap.get (current p.journal).rows pl.id)) live in
         let is = shown_some (counts e.rows.fates (journal_len p.journal) None r.stamp.begin && not (has_ended (counts e.rows.fates (journal_len p.journal) None) r.stamp.end)) (stamped_in n r).stored (finmap.get (current p.journal).rows r.id) shown some in
         ap (λ (i : ℕ). finmap.get (current p.journal).rows i) (sym id) ∙ is ∙ ap (λ (x : Placed). Some (row_of n x)) same

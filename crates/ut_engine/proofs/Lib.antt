@@ -22,6 +22,7 @@ pub mod RootLemmas
 pub mod FileLemmas
 pub mod RowsLemmas
 pub mod LentLemmas
+pub mod RestoringLemmas
 pub mod StagingLemmas
 pub mod TableLemmas
 pub mod MergingLemmas

@@ -1,6 +1,7 @@
 pub mod Logged
 pub mod Opening
 pub mod Runs
+pub mod Restoring
 pub mod Serves
 pub mod Handing
 pub mod Lent

@@ -7,12 +7,15 @@ use Rattle.ut_redo.specs.Appends.{LogPlace}
 use Rattle.ut_redo.specs.Logs.{switched_place}
 use Rattle.ut_plain.specs.Journal.{Journal}
 use Rattle.ut_plain.specs.Capture.{Directory}
-use Rattle.ut_plain.specs.Plain.{Writing, Sealed}
+use Rattle.ut_plain.specs.Plain.{Plain, Writing, Sealed}
+use Rattle.ut_plain.specs.View.{captured_now}
 use Rattle.ut_pages.specs.declared.root.Root.{Root}
 use Rattle.ut_pages.specs.Layout.{other}
 use Rattle.ut_durable.specs.Calls.{BecomesReady, Flips, Moves, MayMove}
 use Rattle.ut_durable.specs.Journals.{log_file, place_of}
 use Rattle.ut_durable.specs.Saving.{Saving, IsStored}
+use Rattle.ut_savepoint.specs.Planning.{TakesLeast, AreChains}
+use Rattle.ut_store.specs.Stands.{StandsFor}
 use Rattle.ut_engine.specs.Logged.{Logged}
 
 -- ---- pages
@@ -103,3 +106,14 @@ pub record IsCapturedRoot (e : Logged) (root : Root) : Type 0 where
   pub place : IsLeft e (place_of root)
   pub file : root.file < 2
   pub no_image : (root.image_len ≡ 0) × (root.first_page ≡ 0)
+
+-- ---- the beginning
+
+-- The savepoint that has begun has so many pages, the least that the selected root doesn't reach.
+-- On them stand the chains of the parts that were captured, in order, and then the directory's.
+pub record HasPlanned (old : Logged) (saving : Option Saving) (pages : ℕ) : Type 0 where
+  pub begun : Saving
+  pub held : saving ≡ Some begun
+  pub count : length begun.planned ≡ pages
+  pub takes : TakesLeast old.files.reached begun
+  pub chains : (p : Plain) → StandsFor old.store p → AreChains (captured_now p) begun

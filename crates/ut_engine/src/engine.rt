@@ -1,7 +1,8 @@
 //! The store and the disk that it is lent.
-ghost use Rattle.std.specs.Prelude.{◌≡◌, ◌<◌, ◌≤◌, ◌^◌, false, IsTrue};
+ghost use Rattle.std.specs.Prelude.{◌≡◌, ◌<◌, ◌≤◌, ◌^◌, false, IfOk, IsTrue};
 ghost use Rattle.ut_plain.specs.Spelled.{is_spelled};
 ghost use Rattle.ut_store.specs.Standing.{suits_session};
+ghost use Rattle.ut_engine.specs.Restoring.{Restores};
 ghost use Rattle.ut_engine.specs.Serves.{Serves};
 ghost use Rattle.ut_engine.specs.Beginning.{disk_left, loan_left, store_or_cause, Makes, Reopens};
 
@@ -47,10 +48,12 @@ impl<'d, D: Disk> Engine<'d, D> {
     }
 
     /// Opens a store with what its files say. It writes nothing. Where it can't, the disk is handed back.
-    #[tactic(auto, using(crate::proofs::LentLemmas::opened_runs))]
+    #[tactic(auto, using(crate::proofs::LentLemmas::opened_runs, crate::proofs::RestoringLemmas::opened_restores))]
     pub fn open(alloc: Global, disk: &'d mut D, rows: u32) -> Result<Engine<'d, D>, Unopened<'d, D>>
         requires { rows ≤ 2 ^ 31 }
         ensures opens { Reopens rows (D.view disk.old) (D.view (disk_left result)) (store_or_cause result) }
+        // Of files that held a prefix of a journal it has the rows and the commits of one.
+        ensures restores { IfOk (store_or_cause result) (λ e. Restores e (D.view disk.old) (D.view (disk_left result))) }
         ensures loan { loan_left result ≡ disk.entry.ghost_name }
     {
         match LoggedStore::open(alloc, disk, rows) {

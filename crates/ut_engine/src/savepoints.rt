@@ -1,9 +1,10 @@
 //! A savepoint, call by call: it begins, each page, the root, the choice of that root, or it is dropped.
-ghost use Rattle.std.specs.Prelude.{◌≡◌, false, IsErrOf, Option};
+ghost use Rattle.std.specs.Prelude.{◌≡◌, false, IfOk, IsErrOf, Option};
 ghost use Rattle.ut_outside.specs.Faults.{Rose};
 ghost use Rattle.ut_plain.specs.declared.statement.Statement.TheVariants as statements;
 ghost use Rattle.ut_engine.specs.Savepoints.{progress_of, save_reply, phase_reply, flip_reply, is_save_fault, is_phase_fault, TellsBegin, TellsPhase, TellsFlip};
 ghost use Rattle.ut_durable.specs.Saving.{Saving};
+ghost use Rattle.ut_engine.specs.Saves.{HasPlanned};
 ghost use Rattle.ut_engine.specs.Serves.{Serves};
 
 use crate::engine::Engine;
@@ -17,6 +18,7 @@ impl<'d, D: Disk> Engine<'d, D> {
     pub fn save_begin(&mut self, alloc: Global) -> Result<u32, SaveError>
         requires up { self.old.store.down ≡ false }
         ensures serves { Serves self.old.store (D.view self.old.disk) 0 statements.SaveBegin (save_reply result) self.new.store (D.view self.new.disk) }
+        ensures planned { IfOk result (HasPlanned self.old.store self.new.store.saving) }
         ensures cause { IsErrOf result SaveError.Disk → Rose (D.view self.old.disk).faults (D.view self.new.disk).faults }
         // It is down exactly where the disk failed.
         ensures down { self.new.store.down ≡ is_save_fault result }

@@ -1,6 +1,7 @@
 //! The savepoint of a store: it begins, writes its pages and then its root, selects that, or is dropped.
 ghost use Rattle.std.specs.Prelude.{◌≡◌, ◌<◌, ◌≤◌, ◌+◌, ◌^◌, ℕ, min, true, None, Some, length, IsTrue, IfOk, IfSome, IfNone, IsSome, OnOk};
 ghost use Rattle.ut_outside.specs.Faults.{HasCause};
+ghost use Rattle.ut_plain.specs.declared.reply.Reply.TheVariants as replies;
 ghost use Rattle.ut_plain.specs.declared.statement.Statement.TheVariants as statements;
 ghost use Rattle.ut_plain.specs.Plain.{Plain};
 ghost use Rattle.ut_plain.specs.Refusals.{is_save};
@@ -17,7 +18,7 @@ ghost use Rattle.ut_store.specs.Standing.{Stands};
 ghost use Rattle.ut_engine.specs.Handing.{AreReady};
 ghost use Rattle.ut_engine.specs.Runs.{Runs};
 ghost use Rattle.ut_engine.specs.Savepoints.{progress_of, told_of, IsCounted, IsInTurn, IsOutOfTurn, TellsBegin, TellsPhase, TellsFlip};
-ghost use Rattle.ut_engine.specs.Saves.{pages_left, MayGoOn, Goes, Seals, MaySelect, SelectsRoot, IsLeft, LeavesLog, MayLeaveLog, IsCapturedRoot};
+ghost use Rattle.ut_engine.specs.Saves.{pages_left, MayGoOn, Goes, Seals, MaySelect, SelectsRoot, IsLeft, LeavesLog, MayLeaveLog, IsCapturedRoot, HasPlanned};
 ghost use Rattle.ut_engine.specs.Serves.{Serves};
 
 use crate::logged::LoggedStore;
@@ -51,6 +52,7 @@ impl LoggedStore {
         requires runs { (p : Plain) × Runs self.old (D.view disk.old) p }
         ensures serves { (session : ℕ) → Serves self.old (D.view disk.old) session statements.SaveBegin result self.new (D.view disk.new) }
         ensures tells { TellsBegin result }
+        ensures planned { (pages : ℕ) → result ≡ replies.Saving 0 pages → HasPlanned self.old self.new.saving pages }
     {
         if let Some(reply) = self.refused(&Statement::SaveBegin) {
             return reply;

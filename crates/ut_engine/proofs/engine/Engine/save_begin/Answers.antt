@@ -1,12 +1,15 @@
 use Rattle.std.proofs.Common.{◌≡◌, ℕ, false, Result, sym, ◌∙◌, ap, subst}
+use Rattle.std.specs.Prelude.{IfOk}
 use Rattle.ut_outside.specs.Faults.{Rose}
 use Rattle.ut_plain.specs.declared.statement.Statement.TheVariants as statements
 use Rattle.ut_plain.specs.declared.reply.Reply.{Reply}
 use Rattle.ut_engine.specs.declared.error.SaveError.{SaveError}
 use Rattle.ut_engine.specs.Lent.{Lent}
 use Rattle.ut_engine.specs.Savepoints.{save_reply}
+use Rattle.ut_engine.specs.Saves.{HasPlanned}
 use Rattle.ut_engine.specs.Serves.{Serves}
 use Rattle.ut_engine.proofs.AnswerLemmas.{begin_down}
+use Rattle.ut_engine.proofs.BeginLemmas.{planned_told}
 use Rattle.ut_engine.proofs.LentLemmas.{goes_on}
 use Rattle.ut_engine.proofs.engine.Engine.save_begin.Goals as goal
 
@@ -40,3 +43,8 @@ pub returns-clause-cause : goal.returns-clause-cause
 returns-clause-cause g c is =
     let w = g.D.Disk.view c.save_begin.new.disk in
     subst (λ (x : Lent g.row.D.Denot). Rose (g.D.Disk.view x.disk).faults w.faults) c.self.view_is ((c.save_begin.ensures.serves 0).cause (sym c.begin_answer.ensures ∙ ap (λ (r : Result ℕ SaveError). save_reply r) is))
+
+pub returns-clause-planned : goal.returns-clause-planned
+returns-clause-planned g c =
+    subst (λ (x : Lent g.row.D.Denot). IfOk c.begin_answer.result (HasPlanned x.store c.save_begin.new.self.saving)) c.self.view_is
+    (planned_told c.self.inside.store c.save_begin.new.self.saving c.save_begin.result c.begin_answer.result c.begin_answer.ensures c.save_begin.ensures.planned)

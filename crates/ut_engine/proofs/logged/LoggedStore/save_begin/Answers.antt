@@ -1,7 +1,7 @@
-use Rattle.std.proofs.Common.{refl, ap}
+use Rattle.std.proofs.Common.{refl, sym, ◌∙◌, ap}
 use Rattle.ut_plain.specs.declared.statement.Statement.TheVariants as statements
 use Rattle.ut_engine.specs.Logged.{Logged}
-use Rattle.ut_engine.proofs.BeginLemmas.{begun_counted, begun_told, full_told, memory_told, out_of_turn_begin, fault_begin, serves_full, serves_no_memory, serves_begun, serves_unbegun}
+use Rattle.ut_engine.proofs.BeginLemmas.{begun_counted, begun_told, begun_planned, full_told, memory_told, out_of_turn_begin, fault_begin, serves_full, serves_no_memory, serves_begun, serves_unbegun}
 use Rattle.ut_engine.proofs.PhaseLemmas.{in_turn, is_counted}
 use Rattle.ut_engine.proofs.RunsLemmas.{are_ready, runs_stand}
 use Rattle.ut_engine.proofs.UnchangedLemmas.{serves_out_of_turn}
@@ -64,3 +64,21 @@ returns-in-Err-leave_log-clause-serves g c session =
 
 pub returns-in-Err-leave_log-clause-tells : goal.returns-in-Err-leave_log-clause-tells
 returns-in-Err-leave_log-clause-tells g c = fault_begin c.goes_down.result c.goes_down.ensures.reply
+
+-- what is planned
+pub returns-in-Some-clause-planned : goal.returns-in-Some-clause-planned
+returns-in-Some-clause-planned g c pages told = absurd (let says = sym c.in-Some.ensures.refused.says ∙ told in cc)
+
+pub returns-in-Err-clause-planned : goal.returns-in-Err-clause-planned
+returns-in-Err-clause-planned g c pages told = absurd cc
+
+pub returns-in-Ok-None-clause-planned : goal.returns-in-Ok-None-clause-planned
+returns-in-Ok-None-clause-planned g c pages told = absurd cc
+
+pub returns-in-Ok-clause-planned : goal.returns-in-Ok-clause-planned
+returns-in-Ok-clause-planned g c pages told =
+    let planned = rw c.in-Ok-Some.field-0-is at c.in-Ok-Some.ensures.planned in
+    begun_planned c.args.self.now c.requires.runs.0 planned.0 c.in-Ok-Some.savepoint c.requires.runs.1.stands planned.2 c.told.result c.told.ensures pages told
+
+pub returns-in-Err-leave_log-clause-planned : goal.returns-in-Err-leave_log-clause-planned
+returns-in-Err-leave_log-clause-planned g c pages told = absurd (let fault = sym c.goes_down.ensures.reply ∙ told in cc)
