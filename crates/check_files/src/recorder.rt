@@ -1,9 +1,9 @@
 //! A folder that notes what is done in it.
-ghost use Rattle.std.specs.Prelude.{◌≡◌, ◌++◌, ◌∷◌, ◌≤◌, ℕ, [], length, take, Some, MatchResult, IfOk};
+ghost use Rattle.std.specs.Prelude.{◌≡◌, ◌++◌, ◌∷◌, ◌≤◌, ℕ, MatchResult, [], length, take, Some, IfOk};
 ghost use Rattle.ut_files.specs.Deeds.{Done, Notes, opening};
 ghost use Rattle.ut_files.specs.declared.folder.Deed.TheVariants as deeds;
 
-use std::alloc::Global;
+use std::alloc::{AllocError, Global};
 use std::io;
 use ut_files::{Deed, Folder};
 use ut_outside::Which;
@@ -15,6 +15,7 @@ pub(crate) struct Recorder {
     bytes: Vec<u8>,
     there: bool,
     fails: Option<Deed>,
+    failures: u64,
 }
 
 impl Recorder {
@@ -24,6 +25,7 @@ impl Recorder {
             bytes: Vec::new(alloc),
             there,
             fails,
+            failures: 0,
         }
     }
 
@@ -36,13 +38,20 @@ impl Recorder {
     }
 
     fn note(&mut self, deed: Deed, bytes: &[u8]) -> io::Result<()>
-        ensures { MatchResult result
-            (λ _. (self.new.deeds.items ≡ self.old.deeds.items ++ deed ∷ []) × (self.new.bytes.items ≡ self.old.bytes.items ++ bytes.now))
-            (λ _. (self.new.deeds.items ≡ self.old.deeds.items) × (self.new.bytes.items ≡ self.old.bytes.items)) }
+        ensures { Notes (Some (record { deeds = self.old.deeds.items; bytes = self.old.bytes.items; failures = self.old.failures })) (Some (record { deeds = self.new.deeds.items; bytes = self.new.bytes.items; failures = self.new.failures })) result (λ _. deed) (λ _. bytes.now) }
     {
-        if self.fails == Some(deed) {
+        if self.fails == Some(deed) || self.add(deed, bytes).is_err() {
+            self.failures = self.failures.saturating_add(1);
             return Err(io::ErrorKind::Other.into());
         }
+        Ok(())
+    }
+
+    fn add(&mut self, deed: Deed, bytes: &[u8]) -> Result<(), AllocError>
+        ensures deeds { MatchResult result (λ _. self.new.deeds.items ≡ self.old.deeds.items ++ deed ∷ []) (λ _. self.new.deeds.items ≡ self.old.deeds.items) }
+        ensures bytes { MatchResult result (λ _. self.new.bytes.items ≡ self.old.bytes.items ++ bytes.now) (λ _. self.new.bytes.items ≡ self.old.bytes.items) }
+        ensures failures { self.new.failures ≡ self.old.failures }
+    {
         self.deeds.reserve(1)?;
         self.bytes.extend_from_slice(bytes)?;
         self.deeds.push_reserved(deed);
@@ -51,7 +60,7 @@ impl Recorder {
 }
 
 impl Folder for Recorder {
-    ghost done = { λ s. Some (record { deeds = s.deeds.items; bytes = s.bytes.items }) };
+    ghost done = { λ s. Some (record { deeds = s.deeds.items; bytes = s.bytes.items; failures = s.failures }) };
 
     fn fill_streams(&mut self) -> io::Result<()> {
         self.note(Deed::Filled, &[])

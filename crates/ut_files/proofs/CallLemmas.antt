@@ -73,9 +73,10 @@ makes_open file a b within c found makes same adds =
 pub makes_file : (file : Which) (a b c : Option Done) → Grows (IsMaking file) a b → Adds (deeds.Made file) [] b c → Grows (IsMaking file) a c
 makes_file file a b c makes adds = grows_on (IsMaking file) a b c makes (grows_one (IsMaking file) b c (deeds.Made file) adds (inl refl))
 
-pub on_ok : {T E X : Type 0} (result : Result T E) → X → OnOk result X
-on_ok (Ok x) fact = fact
-on_ok (Err e) fact = tt
+-- a call that answers as another one did goes on from what that one leaves
+pub then_ok : {T E X Y : Type 0} (result : Result T E) → (X → Y) → OnOk result X → OnOk result Y
+then_ok (Ok x) implies fact = implies fact
+then_ok (Err e) implies fact = tt
 
 -- ---- the call itself, on an open file
 

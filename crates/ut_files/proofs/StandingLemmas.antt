@@ -1,5 +1,5 @@
 -- What is noted of the files stays true by each call.
-use Rattle.std.proofs.Common.{◌≡◌, ◌≢◌, ℕ, Bool, true, false, List, [], Option, Result, Ok, Err, refl, ◌∙◌, subst, sym}
+use Rattle.std.proofs.Common.{◌≡◌, ◌≢◌, ℕ, ◌+◌, ◌-◌, ◌^◌, min, Bool, true, false, List, [], Option, None, Some, Result, Ok, Err, refl, ◌∙◌, subst, sym}
 use Rattle.std.proofs.lemmas.Bool.{false≢true}
 use Rattle.ut_outside.specs.declared.disk.Which.{Which}
 use Rattle.ut_outside.specs.declared.disk.Which.TheVariants.{Pages}
@@ -9,7 +9,7 @@ use Rattle.ut_files.specs.declared.file_set.FileSet.{FileSet}
 use Rattle.ut_files.specs.declared.files.Hold.{Hold}
 use Rattle.ut_files.specs.declared.files.Hold.TheVariants as holds
 use Rattle.ut_files.specs.FileSets.{is_in, with_file}
-use Rattle.ut_files.specs.Deeds.{Done, Adds, Notes, KeepsName, AreFilled, IsHeld, IsMissing, IsNamed, opening}
+use Rattle.ut_files.specs.Deeds.{Done, Adds, Notes, KeepsName, AreFilled, IsHeld, IsMissing, IsNamed, failed, opening}
 use Rattle.ut_files.specs.Standing.{Files, HoldsStore, IsSought, Stands}
 use Rattle.ut_files.proofs.DeedLemmas.{named_kept, named_now, filled_now, filled_kept, held_now, held_kept, missing_now, missing_kept}
 use Rattle.ut_files.proofs.FileSetLemmas.{differs, added, is_pages_kept}
@@ -34,14 +34,30 @@ stands_added a b deed bytes hold named adds keeps each stands = record {
   names = λ file is. named_kept file a b deed bytes adds (each file is) (stands.names file is);
 }
 
-pub stands_same : (a b : Option Done) (hold : Hold) (named : FileSet) → b ≡ a → Stands (files a hold named) → Stands (files b hold named)
-stands_same a b hold named same stands = subst (λ d. Stands (files d hold named)) (sym same) stands
+-- what was done is what it was, however many calls failed
+store_counted : (o : Done) (failures : ℕ) (hold : Hold) (named : FileSet) → HoldsStore hold (Some o) named
+    → HoldsStore hold (Some (record { deeds = o.deeds; bytes = o.bytes; failures = failures })) named
+store_counted o failures holds.Unsought named store = store
+store_counted o failures holds.Missing named store = store
+store_counted o failures holds.Held named store = store
+store_counted o failures holds.Lost named store = store
+
+failed_stands : (a : Option Done) (hold : Hold) (named : FileSet) → Stands (files a hold named) → Stands (files (failed a) hold named)
+failed_stands None hold named stands = stands
+failed_stands (Some o) hold named stands = record {
+  store = store_counted o (min (o.failures + 1) (2 ^ 64 - 1)) hold named stands.store;
+  names = stands.names;
+}
+
+-- a call that failed
+pub stands_failed : (a b : Option Done) (hold : Hold) (named : FileSet) → b ≡ failed a → Stands (files a hold named) → Stands (files b hold named)
+stands_failed a b hold named same stands = subst (λ d. Stands (files d hold named)) (sym same) (failed_stands a hold named stands)
 
 -- a call that did this or failed
 pub stands_noted : {T E : Type 0} (a b : Option Done) (result : Result T E) (deed : T → Deed) (bytes : T → List ℕ) (hold : Hold) (named : FileSet)
     → Notes a b result deed bytes → ((x : T) (file : Which) → KeepsName file (deed x)) → Stands (files a hold named) → Stands (files b hold named)
 stands_noted a b (Ok x) deed bytes hold named notes keeps stands = stands_added a b (deed x) (bytes x) hold named notes (keeps x Pages) (λ file is. keeps x file) stands
-stands_noted a b (Err e) deed bytes hold named notes keeps stands = stands_same a b hold named notes stands
+stands_noted a b (Err e) deed bytes hold named notes keeps stands = stands_failed a b hold named notes stands
 
 -- ---- another file is opened, or made
 

@@ -1,5 +1,5 @@
 -- What was done in a folder: the deeds in order, what they say, and what a call adds to them.
-use Rattle.std.specs.Prelude.{◌≡◌, ◌≢◌, ◌⊎◌, ℕ, Bool, true, false, List, [], ◌∷◌, ◌++◌, All, Option, None, Some, Result, MatchResult}
+use Rattle.std.specs.Prelude.{◌≡◌, ◌≢◌, ◌⊎◌, ℕ, ◌+◌, ◌-◌, ◌^◌, min, Bool, true, false, List, [], ◌∷◌, ◌++◌, All, Option, None, Some, Result, MatchResult}
 use Rattle.ut_outside.specs.declared.disk.Which.{Which}
 use Rattle.ut_outside.specs.declared.disk.Which.TheVariants.{Pages}
 use Rattle.ut_files.specs.declared.folder.Deed.{Deed}
@@ -9,19 +9,26 @@ use Rattle.ut_files.specs.declared.folder.Deed.TheVariants as deeds
 pub record Done : Type 0 where
   pub deeds : List Deed
   pub bytes : List ℕ
+  -- how many calls failed: the count stays at the greatest u64
+  pub failures : ℕ
 
--- these deeds behind those from before, and the bytes that they moved
+-- these deeds behind those from before, and the bytes that they moved; no call failed
 abbrev pub behind : Done → List Deed → List ℕ → Done
-behind old more bytes = record { deeds = old.deeds ++ more; bytes = old.bytes ++ bytes }
+behind old more bytes = record { deeds = old.deeds ++ more; bytes = old.bytes ++ bytes; failures = old.failures }
+
+-- a call failed, which may have done any part of its work
+abbrev pub failed : Option Done → Option Done
+failed None = None
+failed (Some old) = Some (record { deeds = old.deeds; bytes = old.bytes; failures = min (old.failures + 1) (2 ^ 64 - 1) })
 
 -- this was done, where the folder tells, and these bytes were moved
 abbrev pub Adds : Deed → List ℕ → Option Done → Option Done → Type 0
 Adds deed bytes None new = new ≡ None
 Adds deed bytes (Some old) new = new ≡ Some (behind old (deed ∷ []) bytes)
 
--- a call that answers Ok adds its deed and the bytes that it moved, and one that fails adds nothing
+-- a call that answers Ok adds its deed and the bytes that it moved, and one that fails is counted
 abbrev pub Notes : {T E : Type 0} → Option Done → Option Done → Result T E → (T → Deed) → (T → List ℕ) → Type 0
-Notes old new result deed bytes = MatchResult result (λ x. Adds (deed x) (bytes x) old new) (λ _. new ≡ old)
+Notes old new result deed bytes = MatchResult result (λ x. Adds (deed x) (bytes x) old new) (λ _. new ≡ failed old)
 
 -- ---- what was done before
 
@@ -83,12 +90,12 @@ abbrev pub IsMaking : Which → Deed → Type 0
 IsMaking file (deeds.Made other) = (other ≡ file) ⊎ (other ≡ Pages)
 IsMaking file deed = IsOpening deed
 
--- nothing but what is allowed was done between, and no byte was moved
+-- nothing but what is allowed was done between, no byte was moved, and no call failed
 abbrev pub Grows : (Deed → Type 0) → Option Done → Option Done → Type 0
 Grows Allowed None new = new ≡ None
 Grows Allowed (Some old) new = (more : List Deed) × All Allowed more × (new ≡ Some (behind old more []))
 
--- after what is allowed this was done, with these bytes, and nothing behind it
+-- after what is allowed this was done, with these bytes, and nothing behind it; no call failed
 abbrev pub Ends : (Deed → Type 0) → Deed → List ℕ → Option Done → Option Done → Type 0
 Ends Allowed deed bytes None new = new ≡ None
 Ends Allowed deed bytes (Some old) new = (more : List Deed) × All Allowed more × (new ≡ Some (behind old (more ++ deed ∷ []) bytes))

@@ -62,7 +62,7 @@ impl<F: Folder> StoreFiles<F> {
 
     // Seeks the page file, before the first file is touched. Where it is there, it is locked.
     fn seek(&mut self) -> io::Result<()>
-        ensures opens { Grows IsOpening self.old.done self.new.done }
+        ensures opens { OnOk result (Grows IsOpening self.old.done self.new.done) }
         ensures sought { OnOk result (IsSought self.new.hold) }
     {
         match self.hold {
@@ -75,7 +75,7 @@ impl<F: Folder> StoreFiles<F> {
 
     fn look(&mut self) -> io::Result<()>
         requires { self.old.hold ≡ Hold.Unsought }
-        ensures opens { Grows IsOpening self.old.done self.new.done }
+        ensures opens { OnOk result (Grows IsOpening self.old.done self.new.done) }
         ensures sought { OnOk result (IsSought self.new.hold) }
     {
         self.folder.fill_streams()?;
@@ -89,7 +89,7 @@ impl<F: Folder> StoreFiles<F> {
     // Locks the page file that was just opened or made.
     fn lock(&mut self) -> io::Result<()>
         requires { AreFilled self.old.done }
-        ensures opens { Grows IsOpening self.old.done self.new.done }
+        ensures opens { OnOk result (Grows IsOpening self.old.done self.new.done) }
         ensures held { OnOk result (self.new.hold ≡ Hold.Held) }
     {
         self.folder.lock()?;
@@ -101,7 +101,7 @@ impl<F: Folder> StoreFiles<F> {
 
     // Takes the store: makes the page file where there is none.
     fn take(&mut self) -> io::Result<()>
-        ensures makes { Grows (IsMaking PagesFile) self.old.done self.new.done }
+        ensures makes { OnOk result (Grows (IsMaking PagesFile) self.old.done self.new.done) }
         ensures held { OnOk result (self.new.hold ≡ Hold.Held) }
     {
         self.seek()?;
@@ -114,7 +114,7 @@ impl<F: Folder> StoreFiles<F> {
 
     fn make(&mut self) -> io::Result<()>
         requires { self.old.hold ≡ Hold.Missing }
-        ensures makes { Grows (IsMaking PagesFile) self.old.done self.new.done }
+        ensures makes { OnOk result (Grows (IsMaking PagesFile) self.old.done self.new.done) }
         ensures held { OnOk result (self.new.hold ≡ Hold.Held) }
     {
         self.hold = Hold::Lost;
@@ -125,7 +125,7 @@ impl<F: Folder> StoreFiles<F> {
     // Makes the name of an open file durable.
     fn name(&mut self, file: Which) -> io::Result<()>
         requires { file ≢ PagesFile }
-        ensures opens { Grows IsOpening self.old.done self.new.done }
+        ensures opens { OnOk result (Grows IsOpening self.old.done self.new.done) }
         ensures named { OnOk result (is_in file self.new.named ≡ true) }
         ensures hold { self.new.hold ≡ self.old.hold }
     {
@@ -136,7 +136,7 @@ impl<F: Folder> StoreFiles<F> {
 
     // Opens the file, and says whether it is there.
     fn reach(&mut self, file: Which) -> io::Result<bool>
-        ensures opens { Grows IsOpening self.old.done self.new.done }
+        ensures opens { OnOk result (Grows IsOpening self.old.done self.new.done) }
         ensures found { IfOk result (λ found. MatchBool found (is_in file self.new.named ≡ true) (IsMissing file self.new.done)) }
     {
         self.seek()?;

@@ -1,13 +1,13 @@
 use Rattle.std.proofs.Common.{ap, ◌∙◌}
 use Rattle.ut_files.proofs.DeedLemmas.{filled_now, filled_kept}
-use Rattle.ut_files.proofs.StandingLemmas.{stands_same, stands_added, stands_found, stands_missing}
+use Rattle.ut_files.proofs.StandingLemmas.{stands_failed, stands_added, stands_found, stands_missing}
 use Rattle.ut_files.proofs.files.StoreFiles.look.Goals as goal
 
 pub open-requires : goal.open-requires
 open-requires g c = filled_now _ _ c.in_ok-fill_streams.ensures
 
 pub invariant_of-self-in_err-open : goal.invariant_of-self-in_err-open
-invariant_of-self-in_err-open g c = stands_same _ _ _ _ c.in_err-open.ensures
+invariant_of-self-in_err-open g c = stands_failed _ _ _ _ c.in_err-open.ensures
     (stands_added _ _ _ _ _ _ c.in_ok-fill_streams.ensures tt (λ file is. tt) c.self.invariant)
 
 pub invariant_of-self-then-branch : goal.invariant_of-self-then-branch

@@ -17,10 +17,6 @@ invariant_of-self-2 g c =
     let other : c.args.file ≢ Pages = search rules in
     stands_opened _ _ c.args.file c.in_ok-open.field-0 _ _ c.in_ok-open.ensures other (sym c.if-has.ensures) c.self.invariant
 
-pub returns-in_err-name-clause-opens : goal.returns-in_err-name-clause-opens
-returns-in_err-name-clause-opens g c = opens_more _ _ _
-    (opens_by _ _ _ _ c.args.file c.in_ok-open.field-0 c.in_ok-seek.ensures.opens (ap (λ f. f.done) c.self.view_is) c.in_ok-open.ensures) c.in_err-name.ensures.opens
-
 pub returns-clause-opens : goal.returns-clause-opens
 returns-clause-opens g c = opens_more _ _ _
     (opens_by _ _ _ _ c.args.file c.in_ok-open.field-0 c.in_ok-seek.ensures.opens (ap (λ f. f.done) c.self.view_is) c.in_ok-open.ensures) c.in_ok-name.ensures.opens
