@@ -9,7 +9,7 @@ ghost use Rattle.ut_change.specs.Bulks.{bulk_ops, CanLoad};
 
 use std::alloc::{AllocError, Global};
 use ut_entry::insert_len;
-use ut_redo::Frame;
+use ut_frame::Frame;
 use ut_txn::Sessions;
 use ut_value::{ENTRY_LIMIT, Value};
 

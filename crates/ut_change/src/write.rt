@@ -12,7 +12,7 @@ ghost use Rattle.ut_change.specs.Writes.{CanWrite, written_one, hits_behind};
 
 use std::alloc::{AllocError, Global};
 use ut_entry::op_len;
-use ut_redo::Frame;
+use ut_frame::Frame;
 use ut_scan::Found;
 use ut_stamps::Stamp;
 use ut_table::Table as Stages;

@@ -1,7 +1,8 @@
-//! The six comparisons of a key with another.
+//! The six comparisons of a key with another, and comparisons of a column's keys.
 ghost use Rattle.std.specs.Prelude.{◌≡◌};
 ghost use Rattle.ut_key.specs.Keys.{allows, meets};
 
+use crate::key::Key;
 use std::cmp::Ordering;
 
 /// A comparison.
@@ -36,4 +37,12 @@ impl Cmp {
     {
         self.allows(key.cmp(&with))
     }
+}
+
+/// A comparison of a column's key with a given one.
+#[derive(Drop)]
+pub struct ColumnPred {
+    pub column: u8,
+    pub op: Cmp,
+    pub key: Key,
 }

@@ -6,7 +6,7 @@ mod key;
 mod key_list;
 mod steps;
 
-pub use comparison::Cmp;
+pub use comparison::{Cmp, ColumnPred};
 pub use key::{Key, compare};
 pub use key_list::{KeyList, compare_at, is_ascending};
 pub use steps::Steps;

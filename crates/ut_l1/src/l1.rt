@@ -1,9 +1,9 @@
 //! The list of rows.
 ghost use Rattle.std.specs.Prelude.{◌≡◌, ◌+◌, ◌^◌, ◌<◌, ◌≤◌, ◌++◌, [], ◌∷◌, length, drop, slice_index_or, OnOk};
 
-use crate::queue::Queue;
 use std::alloc::{AllocError, Global};
 use std::marker::Model;
+use ut_queue::Queue;
 use ut_value::Row;
 
 /// At most 2^31 rows.
@@ -15,7 +15,7 @@ pub struct L1 {
 impl Model for L1 {
     ghost use Rattle.std.specs.Prelude.{◌≤◌, ◌^◌, length};
     ghost use Rattle.ut_value.specs.declared.value.Row.{Row};
-    ghost use Rattle.ut_l1.specs.Queued.{Queued};
+    ghost use Rattle.ut_queue.specs.Queued.{Queued};
 
     ghost Value = { Queued Row };
 

@@ -2,7 +2,5 @@
 #![tactic(auto)]
 
 mod l1;
-mod queue;
 
 pub use l1::L1;
-pub use queue::Queue;

@@ -7,17 +7,18 @@ use Rattle.ut_value.specs.Text.{same_bytes}
 use Rattle.ut_plain.specs.declared.table.Table.{Table}
 use Rattle.ut_plain.specs.declared.statement.Pred.{Pred}
 use Rattle.ut_plain.proofs.ListLemmas.{position_below}
-use Rattle.ut_scan.specs.declared.place.ColumnPred.{ColumnPred}
+use Rattle.ut_key.specs.declared.comparison.ColumnPred.{ColumnPred}
 use Rattle.ut_scan.specs.declared.place.Found.{Found}
 use Rattle.ut_staged.specs.Staged.{Staged}
 use Rattle.ut_table.specs.Contents.{TableValue}
 use Rattle.ut_table.specs.Finds.{Counts, Finds, SeenOnce}
 use Rattle.ut_table.specs.Tallied.{Tallied}
 use Rattle.ut_names.specs.declared.resolved.Selection.{Selection}
-use Rattle.ut_names.specs.Compiled.{Compiles}
+use Rattle.ut_plain.specs.Compiled.{Compiles}
 use Rattle.ut_names.proofs.CompiledLemmas.{compiled_below}
-use Rattle.ut_query.specs.declared.look.Look.{Look}
-use Rattle.ut_query.specs.Look.{CanLook, sight}
+use Rattle.ut_look.specs.declared.look.Look.{Look}
+use Rattle.ut_look.specs.Look.{sight}
+use Rattle.ut_query.specs.Look.{CanLook}
 use Rattle.ut_query.specs.Tells.{IsSelected, Shows, ShowsCount, ShowsTally}
 use Rattle.ut_query.proofs.ShowLemmas.{compiles, shows_count, shows_found, shows_tally}
 

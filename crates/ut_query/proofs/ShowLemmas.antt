@@ -8,7 +8,6 @@ use Rattle.std.specs.Option.{option_map, option_and_then}
 use Rattle.std.specs.List.{list_all}
 use Rattle.std.specs.Ordering.{nat_cmp}
 use Rattle.std.specs.FinMap.{find}
-use Rattle.ut_value.specs.declared.value.Value.{Value}
 use Rattle.ut_value.specs.declared.value.Column.{Column}
 use Rattle.ut_value.specs.KeyBytes.{is_value}
 use Rattle.ut_plain.specs.declared.table.Table.{Table}
@@ -19,10 +18,9 @@ use Rattle.ut_plain.specs.Condition.{meets}
 use Rattle.ut_plain.specs.Rows.{table_rows}
 use Rattle.ut_plain.specs.Tables.{columns_at, columns_in, fits_columns, fits_table}
 use Rattle.ut_plain.proofs.BoolLemmas.{and_both}
-use Rattle.ut_stamps.specs.declared.fates.Fate.{Fate}
 use Rattle.ut_stamps.specs.declared.place.Place.{Place}
 use Rattle.ut_scan.specs.declared.place.Found.{Found}
-use Rattle.ut_exact.specs.Scan.{IsScan, stored_in}
+use Rattle.ut_exact.specs.Scan.{stored_in}
 use Rattle.ut_exact.proofs.OrderLemmas.{AllFound, all_found}
 use Rattle.ut_exact.proofs.ScanLemmas.{scan-seen}
 use Rattle.ut_staged.specs.Staged.{Staged, row_at}
@@ -32,19 +30,12 @@ use Rattle.ut_table.specs.Finds.{Counts, Finds, hits_of, rows_at}
 use Rattle.ut_table.specs.Tallied.{Tallied}
 use Rattle.ut_ops.specs.Fit.{Fit, is_row}
 use Rattle.ut_names.specs.declared.resolved.Selection.{Selection}
-use Rattle.ut_names.specs.Compiled.{Compiles}
+use Rattle.ut_plain.specs.Compiled.{Compiles}
 use Rattle.ut_names.specs.Resolved.{IsSelection}
-use Rattle.ut_query.specs.Look.{CanLook, Sees, Sight}
+use Rattle.ut_look.specs.Look.{Sight}
+use Rattle.ut_look.proofs.LookLemmas.{scan_of}
+use Rattle.ut_query.specs.Look.{CanLook, Sees}
 use Rattle.ut_query.specs.Tells.{IsSelected, Shows, ShowsCount, ShowsTally}
-
--- a scan of one table, as one of all
-pub scan_of : (staged : List Staged) (place : ℕ) (s : Staged) (fates : List Fate) (snapshot : ℕ) (own : Option ℕ) (test : List Value → Bool) (hits : List (ℕ × Place)) → slice_get staged place ≡ Some s
-    → IsScan (λ n p. row_at s p) 0 fates snapshot own test hits → IsScan (place_at staged) place fates snapshot own test hits
-scan_of staged place s fates snapshot own test hits is h = record {
-  sorted = h.sorted;
-  sound = λ id p at. let x = h.sound id p at in (x.0, here staged place s p is ∙ x.1, x.2, x.3, x.4);
-  complete = λ p row at. h.complete p row (sym (here staged place s p is) ∙ at);
-}
 
 pub plain-is : (staged : List Staged) (n : ℕ) (s : Staged) (hits : List Found) → slice_get staged n ≡ Some s → map (λ (x : ℕ × Place). (x.0, stored_in n (place_at staged n x.1))) (hits_of hits) ≡ rows_at n s hits
 plain-is staged n s [] is = refl

@@ -26,7 +26,7 @@ use Rattle.ut_names.specs.declared.resolved.Columns.{Columns}
 use Rattle.ut_names.specs.declared.resolved.Question.TheVariants as questions
 use Rattle.ut_names.specs.declared.resolved.Selection.{Selection}
 use Rattle.ut_names.specs.Resolved.{AreColumns, IsSelection}
-use Rattle.ut_query.specs.Look.{Sight}
+use Rattle.ut_look.specs.Look.{Sight}
 use Rattle.ut_query.specs.Tells.{IsAsked, Shows, ShowsCount, ShowsTally, Tells}
 use Rattle.ut_query.proofs.QuestionLemmas.{all_are, of_select, of_count, of_sum, of_min, of_max, of_group, of_join}
 

@@ -1,5 +1,5 @@
--- What a question looks at, and the rows that are seen there.
-use Rattle.std.specs.Prelude.{ℕ, ◌≤◌, ◌≡◌, ◌^◌, List, map, length, Option, Some, slice_get, IsTrue}
+-- The rows that are seen where a question looks.
+use Rattle.std.specs.Prelude.{ℕ, ◌≤◌, ◌≡◌, ◌^◌, List, map, length, Some, slice_get, IsTrue}
 use Rattle.std.specs.List.{list_all}
 use Rattle.std.specs.Ordering.{nat_cmp}
 use Rattle.std.specs.FinMap.{find}
@@ -7,32 +7,12 @@ use Rattle.ut_value.specs.KeyBytes.{is_value}
 use Rattle.ut_plain.specs.declared.table.Table.{Table}
 use Rattle.ut_plain.specs.declared.table.Stored.{Stored}
 use Rattle.ut_plain.specs.Tables.{columns_at, fits_table}
-use Rattle.ut_stamps.specs.declared.fates.Fate.{Fate}
 use Rattle.ut_exact.specs.Scan.{AreSeen}
 use Rattle.ut_staged.specs.Staged.{Staged}
 use Rattle.ut_staged.specs.Tables.{place_at}
-use Rattle.ut_table.specs.Contents.{TableValue}
 use Rattle.ut_table.specs.Finds.{SeenOnce}
 use Rattle.ut_names.specs.Resolved.{AreNarrow}
-use Rattle.ut_query.specs.declared.look.Look.{Look}
-
--- the tables with their stages, what became of each transaction, the length of the journal that counts, and an own transaction
-pub record Sight : Type 0 where
-  pub tables : List Table
-  pub staged : List Staged
-  pub fates : List Fate
-  pub snapshot : ℕ
-  pub own : Option ℕ
-
--- what a look in memory shows
-abbrev pub sight : Look → Sight
-sight look = record {
-  tables = look.tables.now;
-  staged = map (λ (t : TableValue). t.stages) look.stages.now;
-  fates = look.fates.now;
-  snapshot = look.snapshot;
-  own = look.own;
-}
+use Rattle.ut_look.specs.Look.{Sight}
 
 -- a row has a value of the right kind for each column of its table, each under its rule
 pub record KeepsRules (tables : List Table) (row : Stored) : Type 0 where

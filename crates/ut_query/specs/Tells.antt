@@ -18,7 +18,8 @@ use Rattle.ut_ops.specs.Fit.{Fit}
 use Rattle.ut_names.specs.declared.resolved.Question.{Question}
 use Rattle.ut_names.specs.declared.resolved.Selection.{Selection}
 use Rattle.ut_names.specs.Resolved.{IsSelection, Resolves}
-use Rattle.ut_query.specs.Look.{Sight, Sees}
+use Rattle.ut_look.specs.Look.{Sight}
+use Rattle.ut_query.specs.Look.{Sees}
 
 -- The question names what is there, and the reply is what it means on the rows that are seen, whichever these are.
 pub record IsAnswer (l : Sight) (query : Query) (reply : Reply) : Type 0 where

@@ -1,12 +1,13 @@
 //! What a question is answered, by the operator that it asks for.
 ghost use Rattle.std.specs.Prelude.{◌≡◌, [], IfOk};
 ghost use Rattle.ut_names.specs.declared.resolved.Question.TheVariants as questions;
-ghost use Rattle.ut_query.specs.Look.{CanLook, sight};
+ghost use Rattle.ut_look.specs.Look.{sight};
+ghost use Rattle.ut_query.specs.Look.{CanLook};
 ghost use Rattle.ut_query.specs.Tells.{IsAsked, Tells};
 
-use crate::look::Look;
 use crate::rows::{count, found, tally};
 use std::alloc::{AllocError, Global};
+use ut_look::Look;
 use ut_names::{Columns, Selection};
 use ut_ops::{greatest, group, join, least, select, sum, sum_tally, tallied_column};
 use ut_plain::Reply;

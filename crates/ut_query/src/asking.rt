@@ -3,12 +3,13 @@ ghost use Rattle.std.specs.Prelude.{IfOk, IfErr};
 ghost use Rattle.ut_plain.specs.Names.{query_known};
 ghost use Rattle.ut_plain.specs.Kinds.{query_fits};
 ghost use Rattle.ut_names.specs.Resolved.{Hinders};
-ghost use Rattle.ut_query.specs.Look.{CanLook, sight};
+ghost use Rattle.ut_look.specs.Look.{sight};
+ghost use Rattle.ut_query.specs.Look.{CanLook};
 ghost use Rattle.ut_query.specs.Tells.{IsAsked, IsAnswer, Tells};
 
 use crate::answers::{count_rows, greatest_of, groups_of, least_of, pairs_of, select_rows, sum_of};
-use crate::look::Look;
 use std::alloc::{AllocError, Global};
+use ut_look::Look;
 use ut_names::{Question, question};
 use ut_plain::{Query, Refusal, Reply};
 

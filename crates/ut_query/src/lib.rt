@@ -3,8 +3,7 @@
 
 mod answers;
 mod asking;
-mod look;
 mod rows;
 
 pub use asking::ask;
-pub use look::Look;
+pub use ut_look::Look;

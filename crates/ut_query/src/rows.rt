@@ -3,11 +3,12 @@ ghost use Rattle.std.specs.Prelude.{◌≡◌, ◌<◌, ◌≤◌, ◌^◌, leng
 ghost use Rattle.ut_staged.specs.Staged.{Staged};
 ghost use Rattle.ut_table.specs.Tallied.{IsTally};
 ghost use Rattle.ut_scan.specs.declared.place.Found.{Found};
-ghost use Rattle.ut_query.specs.Look.{CanLook, sight};
+ghost use Rattle.ut_look.specs.Look.{sight};
+ghost use Rattle.ut_query.specs.Look.{CanLook};
 ghost use Rattle.ut_query.specs.Tells.{IsSelected, Shows, ShowsTally, ShowsCount};
 
-use crate::look::Look;
 use std::alloc::{AllocError, Global};
+use ut_look::Look;
 use ut_names::Selection;
 use ut_scan::{CodeTally, Found};
 

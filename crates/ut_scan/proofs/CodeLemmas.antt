@@ -22,7 +22,7 @@ use Rattle.ut_main.proofs.KeyLemmas.{at-place, in-at}
 use Rattle.ut_main.proofs.OwnLemmas.{cell-known}
 use Rattle.ut_main.proofs.MainLemmas.{dicts-next, first-all, length-dicts_behind}
 use Rattle.ut_scan.specs.declared.coded.CodedPred.{CodedPred}
-use Rattle.ut_scan.specs.declared.place.ColumnPred.{ColumnPred}
+use Rattle.ut_key.specs.declared.comparison.ColumnPred.{ColumnPred}
 use Rattle.ut_scan.specs.Finds.{passes}
 use Rattle.ut_scan.specs.Coded.{keys_in, IsCoded, AreCoded, code_at, is_held}
 use Rattle.ut_scan.specs.StageRows.{scan_steps}

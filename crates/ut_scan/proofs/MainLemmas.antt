@@ -17,7 +17,7 @@ use Rattle.ut_prefix.specs.Chain.{end_to_end}
 use Rattle.ut_main.specs.Columns.{chain_of, place_of}
 use Rattle.ut_main.specs.Parts.{MainValue, PartValue}
 use Rattle.ut_scan.specs.declared.coded.CodedPred.{CodedPred}
-use Rattle.ut_scan.specs.declared.place.ColumnPred.{ColumnPred}
+use Rattle.ut_key.specs.declared.comparison.ColumnPred.{ColumnPred}
 use Rattle.ut_scan.specs.declared.place.Found.{Found}
 use Rattle.ut_scan.specs.Coded.{AreCoded, code_at, codes_in, held_mask, held_places, is_held, seen_at, standing}
 use Rattle.ut_scan.specs.declared.probe.Viewer.{Viewer}

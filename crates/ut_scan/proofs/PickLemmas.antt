@@ -12,7 +12,7 @@ use Rattle.ut_unsorted.specs.FirstSeen.{key_eq, first_seen}
 use Rattle.ut_l2.specs.Cells.{cells_of}
 use Rattle.ut_l2.specs.Places.{places_from, places_where}
 use Rattle.ut_l2.specs.KeyRows.{KeyRow, key_at, cells_at, no_row}
-use Rattle.ut_scan.specs.declared.place.ColumnPred.{ColumnPred}
+use Rattle.ut_key.specs.declared.comparison.ColumnPred.{ColumnPred}
 use Rattle.ut_scan.specs.Finds.{meets_at, passes}
 
 module _ (T U : ℕ → Bool) where

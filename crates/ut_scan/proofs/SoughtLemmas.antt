@@ -7,7 +7,7 @@ use Rattle.ut_value.specs.declared.value.Value.{Value}
 use Rattle.ut_value.specs.declared.value.Row.{Row}
 use Rattle.ut_value.specs.KeyBytes.{int_key, key_of}
 use Rattle.ut_l2.specs.KeyRows.{keyed}
-use Rattle.ut_scan.specs.declared.place.ColumnPred.{ColumnPred}
+use Rattle.ut_key.specs.declared.comparison.ColumnPred.{ColumnPred}
 use Rattle.ut_scan.specs.declared.sought.Sought.{Sought}
 use Rattle.ut_scan.specs.Finds.{passes}
 use Rattle.ut_scan.specs.Seeks.{IsSought}

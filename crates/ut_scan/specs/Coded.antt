@@ -11,7 +11,7 @@ use Rattle.ut_prefix.specs.Chain.{code_meets, end_to_end}
 use Rattle.ut_main.specs.Columns.{vector_of}
 use Rattle.ut_main.specs.Parts.{MainValue, PartValue, dicts_behind}
 use Rattle.ut_scan.specs.declared.coded.CodedPred.{CodedPred}
-use Rattle.ut_scan.specs.declared.place.ColumnPred.{ColumnPred}
+use Rattle.ut_key.specs.declared.comparison.ColumnPred.{ColumnPred}
 use Rattle.ut_scan.specs.declared.place.Found.{Found}
 use Rattle.ut_scan.specs.declared.probe.Viewer.{Viewer}
 use Rattle.ut_scan.specs.Finds.{all_places, found_at}

@@ -4,7 +4,7 @@ use Rattle.ut_key.specs.declared.comparison.Cmp.TheVariants.{Eq}
 use Rattle.ut_key.specs.Keys.{meets}
 use Rattle.ut_value.specs.KeyBytes.{int_key}
 use Rattle.ut_l2.specs.KeyRows.{KeyRow, key_at}
-use Rattle.ut_scan.specs.declared.place.ColumnPred.{ColumnPred}
+use Rattle.ut_key.specs.declared.comparison.ColumnPred.{ColumnPred}
 use Rattle.ut_scan.specs.declared.sought.Sought.{Sought}
 use Rattle.ut_scan.specs.Finds.{passes}
 

@@ -7,7 +7,7 @@ use Rattle.ut_stamps.specs.declared.place.Place.TheVariants.{L1, L2, Closed, Mai
 use Rattle.ut_l2.specs.KeyRows.{KeyRow, keyed}
 use Rattle.ut_prefix.specs.Chain.{chain_steps}
 use Rattle.ut_main.specs.Parts.{MainValue, dicts_behind}
-use Rattle.ut_scan.specs.declared.place.ColumnPred.{ColumnPred}
+use Rattle.ut_key.specs.declared.comparison.ColumnPred.{ColumnPred}
 use Rattle.ut_scan.specs.declared.place.Found.{Found}
 use Rattle.ut_scan.specs.declared.stages.Stages.{Stages}
 use Rattle.ut_scan.specs.Finds.{found_in}

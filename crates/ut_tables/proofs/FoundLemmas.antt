@@ -14,14 +14,14 @@ use Rattle.ut_plain.specs.declared.statement.Pred.{Pred}
 use Rattle.ut_stamps.specs.declared.fates.Fate.{Fate}
 use Rattle.ut_stamps.specs.declared.place.Place.{Place}
 use Rattle.ut_scan.specs.declared.place.Found.{Found}
-use Rattle.ut_names.specs.Compiled.{Compiles}
+use Rattle.ut_plain.specs.Compiled.{Compiles}
 use Rattle.ut_exact.specs.Places.{StagedRow}
 use Rattle.ut_exact.specs.Scan.{stored_in}
 use Rattle.ut_exact.proofs.OrderLemmas.{T_first, T_second, less, not_tied, first_found}
 use Rattle.ut_staged.specs.Staged.{Staged, row_at}
 use Rattle.ut_staged.proofs.TableLemmas.{here}
 use Rattle.ut_table.specs.Finds.{AreThere, Finds, hits_of}
-use Rattle.ut_query.proofs.ShowLemmas.{scan_of}
+use Rattle.ut_look.proofs.LookLemmas.{scan_of}
 use Rattle.ut_tables.specs.Rows.{Rows}
 use Rattle.ut_tables.specs.Finds.{Hits, row_of, row_in}
 

@@ -10,14 +10,14 @@ use Rattle.ut_plain.specs.Tables.{place_of}
 use Rattle.ut_stamps.specs.declared.fates.Fate.{Fate}
 use Rattle.ut_stamps.specs.declared.place.Place.{Place}
 use Rattle.ut_stamps.specs.Stamps.{is_taken}
-use Rattle.ut_scan.specs.declared.place.ColumnPred.{ColumnPred}
+use Rattle.ut_key.specs.declared.comparison.ColumnPred.{ColumnPred}
 use Rattle.ut_scan.specs.declared.place.Found.{Found}
 use Rattle.ut_exact.specs.Scan.{IsScan, stored_in}
 use Rattle.ut_staged.specs.Staged.{Staged, row_at}
 use Rattle.ut_staged.specs.Tables.{place_at}
 use Rattle.ut_table.specs.Finds.{SeenOnce, hits_of}
 use Rattle.ut_change.specs.Conflicts.{stamp_in}
-use Rattle.ut_query.specs.Look.{Sight}
+use Rattle.ut_look.specs.Look.{Sight}
 use Rattle.ut_tables.specs.Rows.{HasTable, Rows}
 
 -- all that a question looks at

@@ -2,20 +2,20 @@
 ghost use Rattle.std.specs.Prelude.{◌≡◌, List, Some, IfOk, map, slice_get};
 ghost use Rattle.ut_plain.specs.Condition.{meets};
 ghost use Rattle.ut_plain.specs.declared.statement.Pred.{Pred};
-ghost use Rattle.ut_names.specs.Compiled.{Compiles};
+ghost use Rattle.ut_plain.specs.Compiled.{Compiles};
 ghost use Rattle.ut_staged.specs.Staged.{Staged};
 ghost use Rattle.ut_table.specs.Finds as finds;
 ghost use Rattle.ut_table.specs.Finds.{hits_of};
 ghost use Rattle.ut_change.specs.Writes.{AreThere};
-ghost use Rattle.ut_query.specs.Look.{sight};
+ghost use Rattle.ut_look.specs.Look.{sight};
 ghost use Rattle.ut_tables.specs.Finds.{CanList, CanScan, Hits, ListsSeen, first_taken_of, row_in, sight_of};
 ghost use Rattle.ut_tables.specs.Rows.{HasTable};
 
 use crate::Rows;
 use std::alloc::{AllocError, Global};
 use ut_change::first_taken_in;
+use ut_look::Look;
 use ut_plain::place_of;
-use ut_query::Look;
 use ut_scan::{ColumnPred, Found};
 use ut_table::Table as Stages;
 use ut_value::{Row, Seq};

@@ -9,7 +9,7 @@ use crate::opened::Opened;
 use std::alloc::{AllocError, Global};
 use std::marker::Model;
 use std::mem;
-use ut_redo::Frame;
+use ut_frame::Frame;
 use ut_value::{Op, Value};
 
 /// The bytes of a transaction without operations.

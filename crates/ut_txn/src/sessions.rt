@@ -11,7 +11,7 @@ use crate::opened::Opened;
 use crate::seated::Seated;
 use std::alloc::{AllocError, Global};
 use std::marker::Model;
-use ut_redo::Frame;
+use ut_frame::Frame;
 use ut_value::{Op, SEATS, Value};
 
 /// The seats, by the number of the session.

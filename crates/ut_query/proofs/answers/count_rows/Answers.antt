@@ -1,4 +1,4 @@
-use Rattle.ut_query.specs.Look.{sight}
+use Rattle.ut_look.specs.Look.{sight}
 use Rattle.ut_query.proofs.TellLemmas.{tells_count}
 use Rattle.ut_query.proofs.answers.count_rows.Goals as goal
 

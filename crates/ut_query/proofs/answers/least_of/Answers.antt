@@ -1,6 +1,6 @@
 use Rattle.std.proofs.Common.{List, get_or, sym, subst}
 use Rattle.ut_scan.specs.declared.place.Found.{Found}
-use Rattle.ut_query.specs.Look.{sight}
+use Rattle.ut_look.specs.Look.{sight}
 use Rattle.ut_query.specs.Tells.{Shows}
 use Rattle.ut_query.proofs.QuestionLemmas.{selected_min}
 use Rattle.ut_query.proofs.RowLemmas.{read}

@@ -2,7 +2,7 @@ use Rattle.std.proofs.Common.{◌≡◌, ◌∙◌, List, arith, get_or, of_z, s
 use Rattle.std.proofs.lemmas.Int.{ints, to_z-of_z}
 use Rattle.std.specs.Int.{w128}
 use Rattle.ut_scan.specs.declared.place.Found.{Found}
-use Rattle.ut_query.specs.Look.{sight}
+use Rattle.ut_look.specs.Look.{sight}
 use Rattle.ut_query.specs.Tells.{Shows}
 use Rattle.ut_query.proofs.QuestionLemmas.{selected_sum}
 use Rattle.ut_query.proofs.RowLemmas.{read}

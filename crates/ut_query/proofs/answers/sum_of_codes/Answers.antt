@@ -1,7 +1,7 @@
 use Rattle.std.proofs.Common.{◌≡◌, ◌∙◌, arith, get_or, of_z, to_z}
 use Rattle.std.proofs.lemmas.Int.{ints, to_z-of_z}
 use Rattle.std.specs.Int.{w128}
-use Rattle.ut_query.specs.Look.{sight}
+use Rattle.ut_look.specs.Look.{sight}
 use Rattle.ut_query.proofs.QuestionLemmas.{selected_sum}
 use Rattle.ut_query.proofs.RowLemmas.{read}
 use Rattle.ut_query.proofs.ShowLemmas.{columns_are}

@@ -1,5 +1,5 @@
 use Rattle.std.proofs.Common.{◌≡◌, ◌+◌, ◌<◌, length, take, sym, subst, arith}
-use Rattle.ut_scan.specs.declared.place.ColumnPred.{ColumnPred}
+use Rattle.ut_key.specs.declared.comparison.ColumnPred.{ColumnPred}
 use Rattle.ut_scan.specs.Coded.{AreCoded}
 use Rattle.ut_scan.proofs.CodeLemmas.{coded-more, coded-sorted, cost-more, cost-within}
 use Rattle.ut_scan.proofs.coded.coded_preds.Goals as goal

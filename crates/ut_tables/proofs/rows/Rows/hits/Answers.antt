@@ -1,6 +1,6 @@
 use Rattle.std.proofs.Common.{refl, sym, ap, subst}
 use Rattle.std.proofs.lemmas.Result.{IfOk-weaker}
-use Rattle.ut_names.specs.Compiled.{Compiles}
+use Rattle.ut_plain.specs.Compiled.{Compiles}
 use Rattle.ut_staged.specs.Staged.{Staged}
 use Rattle.ut_tables.specs.Rows.{RowsValue}
 use Rattle.ut_tables.specs.contracts.rows.Rows.{the_view}

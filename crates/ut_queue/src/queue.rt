@@ -14,7 +14,7 @@ pub struct Queue<T: Drop> {
 
 impl<T: Drop> Model for Queue<T> {
     ghost use Rattle.std.specs.Prelude.{◌-◌, ◌≤◌, length, drop, vec_len, vec_capacity};
-    ghost use Rattle.ut_l1.specs.Queued.{Queued};
+    ghost use Rattle.ut_queue.specs.Queued.{Queued};
 
     ghost Value = { Queued T };
 

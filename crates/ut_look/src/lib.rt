@@ -1,0 +1,6 @@
+//! What a question looks at.
+#![tactic(auto)]
+
+mod look;
+
+pub use look::Look;
