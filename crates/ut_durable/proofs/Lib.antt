@@ -1,5 +1,6 @@
 pub mod BeginLemmas
 pub mod CallLemmas
+pub mod GroupLemmas
 pub mod ImageLemmas
 pub mod JournalLemmas
 pub mod OpenLemmas

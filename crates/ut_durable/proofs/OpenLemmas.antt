@@ -17,7 +17,8 @@ use Rattle.ut_plain.specs.Capture.{Directory, StandsInTable}
 use Rattle.ut_durable.specs.Bytes.{no_directory}
 use Rattle.ut_plain.specs.Plain.{Opening, Idle, opened_store}
 use Rattle.ut_plain.proofs.OpenedLaws.{IsPlain-opened}
-use Rattle.ut_redo.specs.Appends.{LogPlace, IsClosedAt}
+use Rattle.ut_redo.specs.Appends.{IsClosedAt}
+use Rattle.ut_redo.specs.Groups.{Log, no_group}
 use Rattle.ut_redo.specs.Logs.{LogHolds}
 use Rattle.ut_redo.specs.Logs.LogHolds.{Straight}
 use Rattle.ut_pages.specs.Selection.{Selection}
@@ -136,7 +137,7 @@ made_is_stored {D} view f v is may left_by =
     })
 
 -- what was just made is settled
-pub made_settled : (f : FilesHeld) (redo : LogPlace) (pages : Selection) (root : Root) (bytes : List ℕ) (v1 v2 v3 : View) → f ≡ record { log = redo; slot = pages.slot; reached = pages.reached } → redo ≡ place_of empty_root → ((c : Image) → v1.crash_states c → IsClosedAt redo.end (content redo.file c))
+pub made_settled : (f : FilesHeld) (redo : Log) (pages : Selection) (root : Root) (bytes : List ℕ) (v1 v2 v3 : View) → f ≡ record { log = redo.place; group = redo.group; slot = pages.slot; reached = pages.reached } → redo ≡ record { place = place_of empty_root; group = no_group } → ((c : Image) → v1.crash_states c → IsClosedAt redo.place.end (content redo.place.file c))
     → v2.seen.pages ≡ made_pages → ((c : Image) → v2.crash_states c → ComesFrom v1 Pages (λ _ x. x ≡ made_pages) c) → ReadsOnly v2 v3 → IsRead pages.slot pages.reached root bytes v2.seen.pages → (f ≡ made_held) × IsSettled f v3
 made_settled f redo pages root bytes v1 v2 v3 is begins gate seen left_by reads read = (same, λ told c left. subst (λ (h : FilesHeld). IsClosedAt h.log.end (content h.log.file c) × Stands h.slot h.reached c.pages) (sym same) (settled c left))
   where
@@ -144,11 +145,11 @@ made_settled f redo pages root bytes v1 v2 v3 is begins gate seen left_by reads 
     one = one_read First pages.slot [] pages.reached empty_root root [] bytes made_pages made_is_read (subst (IsRead pages.slot pages.reached root bytes) seen read)
 
     same : f ≡ made_held
-    same = is ∙ ap (λ (l : LogPlace). record { log = l; slot = pages.slot; reached = pages.reached }) begins ∙ ap (λ (s : Slot). record { log = place_of empty_root; slot = s; reached = pages.reached }) (sym one.0)
-        ∙ ap (λ (l : List ℕ). record { log = place_of empty_root; slot = First; reached = l }) (sym one.2)
+    same = is ∙ ap (λ (l : Log). record { log = l.place; group = l.group; slot = pages.slot; reached = pages.reached }) begins ∙ ap (λ (s : Slot). record { log = place_of empty_root; group = no_group; slot = s; reached = pages.reached }) (sym one.0)
+        ∙ ap (λ (l : List ℕ). record { log = place_of empty_root; group = no_group; slot = First; reached = l }) (sym one.2)
 
     settled : (c : Image) → v3.crash_states c → IsClosedAt 0 c.redo × Stands First [] c.pages
     settled c left =
         let from = left_by c (reads.no_more c left) in
-        let there = subst (λ (l : LogPlace). IsClosedAt l.end (content l.file from.0)) begins (gate from.0 from.1) in
+        let there = subst (λ (l : Log). IsClosedAt l.place.end (content l.place.file from.0)) begins (gate from.0 from.1) in
         (subst (IsClosedAt 0) (sym (from.2 Redo (λ e. cc))) there, subst (Stands First []) (sym from.3) made_stands)

@@ -7,6 +7,7 @@ use Rattle.ut_value.specs.Spelling.{Spells}
 use Rattle.ut_plain.specs.Journal.{Journal, journal_len, appended}
 use Rattle.ut_plain.specs.Capture.{Directory}
 use Rattle.ut_redo.specs.Appends.{LogPlace, IsClosedAt}
+use Rattle.ut_redo.specs.Groups.{Group}
 use Rattle.ut_pages.specs.declared.slot.Slot.{Slot}
 use Rattle.ut_pages.specs.declared.root.Root.{Root}
 use Rattle.ut_pages.specs.Layout.{other}
@@ -14,9 +15,10 @@ use Rattle.ut_pages.specs.Crash.{Stands}
 use Rattle.ut_durable.specs.Journals.{place_of, HoldsPrefix}
 use Rattle.ut_durable.specs.Files.{IsImageOf, IsStaged, HasSelected, Rests, IsSealed, LogBehind}
 
--- where the next frame goes, which slot is selected, and the pages that its root reaches
+-- where the next frame goes and what of a group stands behind that gate, which slot is selected, and the pages that its root reaches
 pub record FilesHeld : Type 0 where
   pub log : LogPlace
+  pub group : Group
   pub slot : Slot
   pub reached : List ℕ
 

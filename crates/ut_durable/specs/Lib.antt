@@ -2,6 +2,7 @@ pub mod Rules
 pub mod Bytes
 pub mod Calls
 pub mod Directories
+pub mod Groups
 pub mod Images
 pub mod Journals
 pub mod Files

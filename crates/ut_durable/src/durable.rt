@@ -1,13 +1,16 @@
 //! The log's end and the selected root, with the pages that it reaches.
-ghost use Rattle.std.specs.Prelude.{◌≡◌, ◌+◌, ◌^◌, ◌<◌, ◌≤◌, Contains, length, IfOk, IfSome, IfNone, OnOk, MatchResult};
+ghost use Rattle.std.specs.Prelude.{◌≡◌, ◌+◌, ◌^◌, ◌<◌, ◌≤◌, ◌++◌, [], List, ℕ, Contains, length, IfOk, IfSome, IfNone, OnOk, MatchResult};
 ghost use Rattle.ut_outside.specs.Disk.{IsTold, OnFile};
 ghost use Rattle.ut_outside.specs.Faults.{HasCause};
+ghost use Rattle.ut_outside.specs.Run.{IsCounted};
 ghost use Rattle.ut_outside.specs.declared.disk.Which.TheVariants.{Pages as PagesFile};
 ghost use Rattle.ut_redo.specs.Appends.{behind};
 ghost use Rattle.ut_redo.specs.Logs.{IsLogFile, switched_place};
+ghost use Rattle.ut_redo.specs.Groups.{IsUnderWay, behind_group};
 ghost use Rattle.ut_pages.specs.Layout.{IsRoot, HasPage, other};
 ghost use Rattle.ut_pages.specs.Crash.{ChangesOnly};
 ghost use Rattle.ut_pages.specs.Free.{AreFree};
+ghost use Rattle.ut_durable.specs.Groups.{GainsGroup, MayGainGroup, Waits, log_held};
 ghost use Rattle.ut_durable.specs.Calls.{IsSettled, Gains, MayGain, Stays, BecomesReady, Flips, MayFlip, Moves, MayMove};
 
 use std::alloc::{AllocError, Global};
@@ -28,13 +31,13 @@ impl Model for Durable {
 
     ghost Value = { FilesHeld };
 
-    ghost view = { λ f. record { log = f.redo; slot = f.pages.slot; reached = f.pages.reached } };
+    ghost view = { λ f. record { log = f.redo.place; group = f.redo.group; slot = f.pages.slot; reached = f.pages.reached } };
 }
 
 impl Durable {
     /// What was made, or read, of the log and of the pages.
     pub fn new(redo: Redo, pages: Pages) -> Durable
-        ensures { result ≡ record { log = redo; slot = pages.slot; reached = pages.reached } }
+        ensures { result ≡ record { log = redo.place; group = redo.group; slot = pages.slot; reached = pages.reached } }
     {
         Durable { redo, pages }
     }
@@ -61,6 +64,63 @@ impl Durable {
         ensures cause { HasCause (D.view disk.old).faults (D.view disk.new).faults result }
     {
         self.redo.append(disk, frame)?;
+        Ok(())
+    }
+
+    /// Begins a group of entries, which count at once, with so many bytes of payload.
+    pub fn group_begin<D: Disk>(&mut self, disk: &mut D, bytes: u32) -> Result<(), Failed>
+        requires log { IsLogFile self.old.log.file }
+        requires room { self.old.log.end ≤ 2 ^ 61 }
+        requires short { bytes ≤ 2 ^ 30 }
+        requires settled { IsSettled self.old (D.view disk.old) }
+        ensures group { MatchResult result
+            (λ _. self.new ≡ record self.old { group = record { room = bytes; added = 0 } }) (λ _. self.new ≡ self.old) }
+        ensures begun { OnOk result (IsUnderWay (log_held self.new) [] (D.view disk.new)) }
+        ensures waits { Waits self.old (D.view disk.old) (D.view disk.new) }
+        // A read finds the pages as they were.
+        ensures pages { OnOk result (IsTold (D.view disk.old) → (D.view disk.new).seen.pages ≡ (D.view disk.old).seen.pages) }
+        ensures calls { IsCounted 1 (D.view disk.old) (D.view disk.new) result }
+        ensures told { (D.view disk.new).told ≡ (D.view disk.old).told }
+        ensures cause { HasCause (D.view disk.old).faults (D.view disk.new).faults result }
+    {
+        self.redo.group_begin(disk, bytes)?;
+        Ok(())
+    }
+
+    /// Adds a frame's entry to the group.
+    pub fn group_add<D: Disk>(&mut self, disk: &mut D, frame: &Frame) -> Result<(), Failed>
+        requires log { IsLogFile self.old.log.file }
+        requires under_way { (payload : List ℕ) × IsUnderWay (log_held self.old) payload (D.view disk.old) }
+        requires room { self.old.group.added + length frame.now.payload ≤ self.old.group.room }
+        ensures group { MatchResult result
+            (λ _. self.new ≡ record self.old { group = record { room = self.old.group.room; added = self.old.group.added + length frame.now.payload } })
+            (λ _. self.new ≡ self.old) }
+        ensures added { (payload : List ℕ) → IsUnderWay (log_held self.old) payload (D.view disk.old)
+            → OnOk result (IsUnderWay (log_held self.new) (payload ++ frame.now.payload) (D.view disk.new)) }
+        ensures waits { Waits self.old (D.view disk.old) (D.view disk.new) }
+        ensures pages { OnOk result (IsTold (D.view disk.old) → (D.view disk.new).seen.pages ≡ (D.view disk.old).seen.pages) }
+        ensures calls { IsCounted 1 (D.view disk.old) (D.view disk.new) result }
+        ensures told { (D.view disk.new).told ≡ (D.view disk.old).told }
+        ensures cause { HasCause (D.view disk.old).faults (D.view disk.new).faults result }
+    {
+        self.redo.group_add(disk, frame)?;
+        Ok(())
+    }
+
+    /// Ends a group that is full: all of its entries join the journal at once. At Err open the store again.
+    pub fn group_end<D: Disk>(&mut self, disk: &mut D) -> Result<(), Failed>
+        requires log { IsLogFile self.old.log.file }
+        requires under_way { (payload : List ℕ) × IsUnderWay (log_held self.old) payload (D.view disk.old) }
+        requires full { self.old.group.added ≡ self.old.group.room }
+        ensures place { MatchResult result (λ _. self.new ≡ record self.old { log = behind_group (log_held self.old) }) (λ _. self.new ≡ self.old) }
+        ensures gains { OnOk result (GainsGroup self.old self.new (D.view disk.old) (D.view disk.new)) }
+        ensures any_moment { MayGainGroup self.old (D.view disk.old) (D.view disk.new) }
+        ensures pages { OnOk result (IsTold (D.view disk.old) → (D.view disk.new).seen.pages ≡ (D.view disk.old).seen.pages) }
+        ensures calls { IsCounted 4 (D.view disk.old) (D.view disk.new) result }
+        ensures told { (D.view disk.new).told ≡ (D.view disk.old).told }
+        ensures cause { HasCause (D.view disk.old).faults (D.view disk.new).faults result }
+    {
+        self.redo.group_end(disk)?;
         Ok(())
     }
 

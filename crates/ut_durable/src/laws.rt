@@ -1,8 +1,17 @@
 //! What a store knows of its files, as laws that a program above may rest on.
 ghost use Rattle.ut_durable.specs.Laws.{AppendIsStored, SwitchIsStored, BeginIsStored, NextMayBeWritten, PageIsStored, SealIsStored, FlipIsStored, DropIsStored, StoredHoldsAll, OpenedIsStored, MadeIsStored, CapturedIsDirectory, CapturedIsImage, ChainsArePlan, FreePagesAscend};
+ghost use Rattle.ut_durable.specs.Groups.{WaitIsStored, WaitLeaves, GroupIsStored, GroupLeaves};
 ghost use Rattle.ut_durable.specs.Moments.{AppendLeaves, StayLeaves, SwitchLeaves, FlipLeaves, PrefixOfMore, PrefixOfFewer};
 
 use ut_outside::Disk;
+
+/// Groups of entries: what is known goes on, and at each moment a crash leaves the journal as it was, or with all of them.
+pub fn group_laws<D: Disk>()
+    ensures wait { WaitIsStored D.view }
+    ensures wait_leaves { WaitLeaves D.view }
+    ensures group { GroupIsStored D.view }
+    ensures group_leaves { GroupLeaves D.view }
+{}
 
 /// What is known goes on with each call and each phase of a savepoint.
 pub fn saving_laws<D: Disk>()

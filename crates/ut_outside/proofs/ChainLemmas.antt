@@ -1,6 +1,6 @@
 -- Laws of chains of changes.
 use Rattle.std.proofs.Common.{◌≡◌, ℕ, ◌≤◌, List, length, Result, Ok, Err, refl, sym, ◌∙◌, ap, subst, arith}
-use Rattle.std.specs.Prelude.{IsErr, IsTrue, OnOk, OnErr}
+use Rattle.std.specs.Prelude.{IsOk, IsErr, IsTrue, OnOk, OnErr}
 use Rattle.ut_outside.specs.declared.disk.Which.{Which}
 use Rattle.ut_outside.specs.declared.faults.Failed.{Failed}
 use Rattle.ut_outside.specs.Disk.{Image, View, IsTold, OnFile, Changes, Syncs, TornWrite, content, overlaid}
@@ -17,6 +17,10 @@ later_rose : {T : Type 0} (r : Result T Failed) (a b c : ℕ) → a ≤ b → (I
 later_rose (Ok x) a b c le rose = tt
 later_rose (Err e) a b c le rose = let up = rose refl in omega (arith, le, up)
 
+stays_too : {T : Type 0} (r : Result T Failed) (a b c : ℕ) → b ≡ a → (IsOk r → c ≡ b) → OnOk r (c ≡ a)
+stays_too (Ok x) a b c first then = then refl ∙ first
+stays_too (Err e) a b c first then = tt
+
 -- ---- a change and the sync behind it
 
 module _ (file : Which) (Partly : List ℕ → List ℕ → Type 0) (change : List ℕ → List ℕ) (same : (s : List ℕ) → Partly s s)
@@ -31,7 +35,7 @@ module _ (file : Which) (Partly : List ℕ → List ℕ → Type 0) (change : Li
   changing = goes_on v0 v0 v1 P r1 (started v0 P (λ c left. (c, only c left, others_same file c, same (content file c)))) w.counts partly
 
   -- it was done
-  module _ (done : IsTold v0 → OnFile file (λ old new. new ≡ change old) v0.seen v1.seen) {U : Type 0} (v2 : View) (r2 : Result U Failed) (s : Syncs file v1 v2 r2) where
+  module _ (ok : IsOk r1) (done : IsTold v0 → OnFile file (λ old new. new ≡ change old) v0.seen v1.seen) {U : Type 0} (v2 : View) (r2 : Result U Failed) (s : Syncs file v1 v2 r2) where
     pub settles : Settles file Partly change v0 v2 r2
     settles = record {
       told = s.counts.told ∙ w.counts.told;
@@ -41,7 +45,12 @@ module _ (file : Which) (Partly : List ℕ → List ℕ → Type 0) (change : Li
           on_ok_then r2 ((c : Image) → v2.crash_states c → IsTold v1 → content file c ≡ content file v1.seen) (Always v2 (ComesFrom v0 file (λ a x. Partly a x × (x ≡ change (content file v0.seen))))) s.durable
           (λ all c left. let d = w.crash c (s.crash c left) in (d.0, d.1, d.2.1, (d.2.0, all c left told1 ∙ (done told).0)));
       seen = λ told. on_ok_any r2 (subst (λ (i : Image). OnFile file (λ old new. new ≡ change old) v0.seen i) (sym s.seen) (done told));
-      cause = record { later = omega (arith, w.counts.no_fewer, s.counts.no_fewer); failed = later_rose r2 v0.faults v1.faults v2.faults w.counts.no_fewer s.counts.cause };
+      calls = on_ok_any r2 (omega (arith, w.counts.moment, s.counts.moment));
+      cause = record {
+        later = omega (arith, w.counts.no_fewer, s.counts.no_fewer);
+        failed = later_rose r2 v0.faults v1.faults v2.faults w.counts.no_fewer s.counts.cause;
+        still = stays_too r2 v0.faults v1.faults v2.faults (w.counts.still ok) s.counts.still;
+      };
     }
 
 -- ---- the first change of a chain

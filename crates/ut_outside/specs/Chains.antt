@@ -4,9 +4,9 @@ use Rattle.ut_outside.specs.declared.disk.Which.{Which}
 use Rattle.ut_outside.specs.declared.faults.Failed.{Failed}
 use Rattle.ut_outside.specs.Disk.{Image, View, IsTold, OnFile, content}
 use Rattle.ut_outside.specs.Faults.{HasCause}
-use Rattle.ut_outside.specs.Run.{Always, LeavesOnly, ComesFrom}
+use Rattle.ut_outside.specs.Run.{Always, LeavesOnly, ComesFrom, IsCounted}
 
--- A file is changed and made durable: at Ok each outcome of a crash, and a read, has the new content;
+-- A file is changed and made durable, by two calls: at Ok each outcome of a crash, and a read, has the new content;
 -- until then each outcome of before has gone on partly.
 pub record Settles
     {T : Type 0} (file : Which) (Partly : List ℕ → List ℕ → Type 0) (change : List ℕ → List ℕ) (old new : View)
@@ -15,6 +15,7 @@ pub record Settles
   pub any_moment : LeavesOnly old new (ComesFrom old file Partly)
   pub durable : IsTold old → OnOk result (Always new (ComesFrom old file (λ d c. Partly d c × (c ≡ change (content file old.seen)))))
   pub seen : IsTold old → OnOk result (OnFile file (λ d c. c ≡ change d) old.seen new.seen)
+  pub calls : IsCounted 2 old new result
   pub cause : HasCause old.faults new.faults result
 
 -- A chain of changes has come from one view to another. At no moment a crash left what isn't P.

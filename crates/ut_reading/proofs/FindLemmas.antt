@@ -118,6 +118,7 @@ same_error e f is = let same : e ≡ f = cc in ap Err same
 
 pub record MainSoFar (t : Drawn) (left : List PartRef) (main : MainValue) (old new : Reader) (v0 v1 : View) : Type 0 where
   pub reads : ReadsOnly v0 v1
+  pub still : v1.faults ≡ v0.faults
   pub reaches : Reaches old new v0
   pub done : List PartRef
   pub split : t.parts ≡ done ++ left
@@ -133,10 +134,11 @@ pub record MainSoFar (t : Drawn) (left : List PartRef) (main : MainValue) (old n
   pub on : IsTold v0 → (parts : List (List KeyRow)) (reached : List ℕ) → StandParts t.table.columns (no_parts (length t.table.columns)) t.parts parts reached v0.seen.pages
       → (rest : List (List KeyRow)) × (parts ≡ main.parts ++ rest) × StandParts t.table.columns main left rest reached v0.seen.pages
 
-pub main_start : (t : Drawn) (main : MainValue) (r : Reader) (v0 v1 : View) → MayRead t → main ≡ no_parts (length t.table.columns) → ReadsOnly v0 v1 → MainSoFar t t.parts main r r v0 v1
-main_start t main r v0 v1 may is reads = subst (λ (m : MainValue). MainSoFar t t.parts m r r v0 v1) (sym is)
+pub main_start : (t : Drawn) (main : MainValue) (r : Reader) (v0 v1 : View) → MayRead t → main ≡ no_parts (length t.table.columns) → ReadsOnly v0 v1 → v1.faults ≡ v0.faults → MainSoFar t t.parts main r r v0 v1
+main_start t main r v0 v1 may is reads still = subst (λ (m : MainValue). MainSoFar t t.parts m r r v0 v1) (sym is)
     (record {
       reads = reads;
+      still = still;
       reaches = reaches_none r v0;
       done = [];
       split = refl;
@@ -167,8 +169,8 @@ module _ (t : Drawn) (part : PartRef) (others : List PartRef) (main : MainValue)
       let n = next_part told all.parts reached stands.parts in
       none n.0 reached (subst (λ (i : Image). StandsPart t.table.columns main part n.0 reached i.pages) (sym so.reads.seen) n.3)
 
-  pub main_goes_on : (read : PartValue) (main' : MainValue) (new' : Reader) (v2 : View) → FoundPart t.table.columns main part read new new' v1 → main' ≡ with_part main read.rows → ReadsOnly v0 v2 → MainSoFar t others main' old new' v0 v2
-  main_goes_on read main' new' v2 found is reads = subst (λ (m : MainValue). MainSoFar t others m old new' v0 v2) (sym is) more
+  pub main_goes_on : (read : PartValue) (main' : MainValue) (new' : Reader) (v2 : View) → FoundPart t.table.columns main part read new new' v1 → main' ≡ with_part main read.rows → ReadsOnly v0 v2 → v2.faults ≡ v0.faults → MainSoFar t others main' old new' v0 v2
+  main_goes_on read main' new' v2 found is reads still = subst (λ (m : MainValue). MainSoFar t others m old new' v0 v2) (sym is) more
     where
       told_now : IsTold v0 → IsTold v1
       told_now told = so.reads.told ∙ told
@@ -182,6 +184,7 @@ module _ (t : Drawn) (part : PartRef) (others : List PartRef) (main : MainValue)
       more : MainSoFar t others (with_part main read.rows) old new' v0 v2
       more = record {
         reads = reads;
+        still = still;
         reaches = reaches_more old new new' v0 so.reaches reaches;
         done = so.done ++ part ∷ [];
         split = so.split ∙ sym (append_assoc so.done (part ∷ []) others);
@@ -230,6 +233,7 @@ lives_push (u ∷ ts) (n ∷ ms) t m long =
 
 pub record MainsSoFar (tables left : List Drawn) (mains : List MainValue) (old new : Reader) (v0 v1 : View) : Type 0 where
   pub reads : ReadsOnly v0 v1
+  pub still : v1.faults ≡ v0.faults
   pub reaches : Reaches old new v0
   pub done : List Drawn
   pub split : tables ≡ done ++ left
@@ -243,10 +247,11 @@ pub record MainsSoFar (tables left : List Drawn) (mains : List MainValue) (old n
   pub on : IsTold v0 → (all : List MainValue) (reached : List ℕ) → AllZip (StandsMain reached v0.seen.pages) tables all
       → (rest : List MainValue) × (all ≡ mains ++ rest) × AllZip (StandsMain reached v0.seen.pages) left rest
 
-pub mains_start : (tables : List Drawn) (mains : List MainValue) (r : Reader) (v0 v1 : View) → AllByRecursion MayRead tables → mains ≡ [] → ReadsOnly v0 v1 → MainsSoFar tables tables mains r r v0 v1
-mains_start tables mains r v0 v1 may is reads = subst (λ (ms : List MainValue). MainsSoFar tables tables ms r r v0 v1) (sym is)
+pub mains_start : (tables : List Drawn) (mains : List MainValue) (r : Reader) (v0 v1 : View) → AllByRecursion MayRead tables → mains ≡ [] → ReadsOnly v0 v1 → v1.faults ≡ v0.faults → MainsSoFar tables tables mains r r v0 v1
+mains_start tables mains r v0 v1 may is reads still = subst (λ (ms : List MainValue). MainsSoFar tables tables ms r r v0 v1) (sym is)
     (record {
       reads = reads;
+      still = still;
       reaches = reaches_none r v0;
       done = [];
       split = refl;
@@ -269,8 +274,8 @@ module _ (tables : List Drawn) (t : Drawn) (others : List Drawn) (mains : List M
       by [] is x = absurd x
       by (main ∷ rest) is x = (main, rest, is, x.0, x.1)
 
-  pub mains_go_on : (main : MainValue) (mains' : List MainValue) (new' : Reader) (v2 : View) → FoundMain t main new new' v1 → mains' ≡ mains ++ main ∷ [] → ReadsOnly v0 v2 → MainsSoFar tables others mains' old new' v0 v2
-  mains_go_on main mains' new' v2 found is reads = subst (λ (ms : List MainValue). MainsSoFar tables others ms old new' v0 v2) (sym is) more
+  pub mains_go_on : (main : MainValue) (mains' : List MainValue) (new' : Reader) (v2 : View) → FoundMain t main new new' v1 → mains' ≡ mains ++ main ∷ [] → ReadsOnly v0 v2 → v2.faults ≡ v0.faults → MainsSoFar tables others mains' old new' v0 v2
+  mains_go_on main mains' new' v2 found is reads still = subst (λ (ms : List MainValue). MainsSoFar tables others ms old new' v0 v2) (sym is) more
     where
       told_now : IsTold v0 → IsTold v1
       told_now told = so.reads.told ∙ told
@@ -284,6 +289,7 @@ module _ (tables : List Drawn) (t : Drawn) (others : List Drawn) (mains : List M
       more : MainsSoFar tables others (mains ++ main ∷ []) old new' v0 v2
       more = record {
         reads = reads;
+        still = still;
         reaches = reaches_more old new new' v0 so.reaches reaches;
         done = so.done ++ t ∷ [];
         split = so.split ∙ sym (append_assoc so.done (t ∷ []) others);

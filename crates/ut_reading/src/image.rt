@@ -1,5 +1,5 @@
 //! Reads an image from the page file.
-ghost use Rattle.std.specs.Prelude.{◌≡◌, List, ℕ, IfOk, IfSome, IfNone, IsErrOf};
+ghost use Rattle.std.specs.Prelude.{◌≡◌, List, ℕ, IsOk, IfOk, IfSome, IfNone, IsErrOf};
 ghost use Rattle.ut_outside.specs.Disk.{IsTold};
 ghost use Rattle.ut_outside.specs.Faults.{Rose};
 ghost use Rattle.ut_outside.specs.Run.{ReadsOnly};
@@ -53,6 +53,7 @@ pub fn read_image<D: Disk>(alloc: Global, disk: &mut D) -> Result<Image, PageErr
 
     ensures reads { ReadsOnly (D.view disk.old) (D.view disk.new) }
     ensures cause { IsErrOf result PageError.Disk → Rose (D.view disk.old).faults (D.view disk.new).faults }
+    ensures still { IsOk result → (D.view disk.new).faults ≡ (D.view disk.old).faults }
 {
     let (pages, root, bytes) = Pages::read(alloc, disk)?;
     let Some(tables) = tables_from(alloc, &bytes, &root)? else {

@@ -1,5 +1,5 @@
 //! Reads the parts that a directory names, each behind those before it.
-ghost use Rattle.std.specs.Prelude.{◌≡◌, ◌+◌, ◌≤◌, ◌<◌, ◌++◌, List, ℕ, length, map, IfOk, OnOk, IsErrOf};
+ghost use Rattle.std.specs.Prelude.{◌≡◌, ◌+◌, ◌≤◌, ◌<◌, ◌++◌, List, ℕ, length, map, IsOk, IfOk, OnOk, IsErrOf};
 ghost use Rattle.std.specs.List.{AllByRecursion, AllZip, items_where_true};
 ghost use Rattle.ut_outside.specs.Disk.{IsTold};
 ghost use Rattle.ut_outside.specs.Faults.{Rose};
@@ -64,6 +64,7 @@ impl Reader {
             → StandsPart columns.now main.now part.now rows reached (D.view disk.old).seen.pages → ⊥ }
         ensures reads { ReadsOnly (D.view disk.old) (D.view disk.new) }
         ensures cause { IsErrOf result PageError.Disk → Rose (D.view disk.old).faults (D.view disk.new).faults }
+        ensures still { IsOk result → (D.view disk.new).faults ≡ (D.view disk.old).faults }
     {
         let bytes = self.pages.segment(alloc, disk, part.first, part.length)?;
         let Some(read) = part_from(alloc, &bytes, columns, main)? else {
@@ -89,6 +90,7 @@ impl Reader {
             → StandsMain reached (D.view disk.old).seen.pages drawn.now main → ⊥ }
         ensures reads { ReadsOnly (D.view disk.old) (D.view disk.new) }
         ensures cause { IsErrOf result PageError.Disk → Rose (D.view disk.old).faults (D.view disk.new).faults }
+        ensures still { IsOk result → (D.view disk.new).faults ≡ (D.view disk.old).faults }
     {
         let columns = drawn.table.columns.as_slice();
         let mut main = Main::new(alloc, columns.len() as u8);
@@ -114,6 +116,7 @@ impl Reader {
             → AllZip (StandsMain reached (D.view disk.old).seen.pages) tables.now mains → ⊥ }
         ensures reads { ReadsOnly (D.view disk.old) (D.view disk.new) }
         ensures cause { IsErrOf result PageError.Disk → Rose (D.view disk.old).faults (D.view disk.new).faults }
+        ensures still { IsOk result → (D.view disk.new).faults ≡ (D.view disk.old).faults }
     {
         let mut mains = Seq::new(alloc);
         let mut left = tables;

@@ -1,5 +1,5 @@
 -- Bytes that are fed stand behind those that were there.
-use Rattle.std.proofs.Common.{◌≡◌, ℕ, List, ◌++◌, drop, refl, sym, ◌∙◌, ap}
+use Rattle.std.proofs.Common.{◌≡◌, ℕ, List, ◌++◌, drop, sym, ◌∙◌, ap}
 
 pub fed_whole : (at : ℕ) (old piece new : List ℕ) → at ≡ 0 → new ≡ old ++ piece → drop at new ≡ drop at old ++ piece
 fed_whole at old piece new start is = ap (λ n. drop n new) start ∙ is ∙ ap (λ n. drop n old ++ piece) (sym start)

@@ -1,11 +1,11 @@
 -- Where reading stops no frame begins.
-use Rattle.std.proofs.Common.{◌≡◌, ◌≢◌, ℕ, zero, suc, ◌+◌, ◌-◌, slice_index_or, ◌<◌, ◌≤◌, ◌^◌, inl, inr, false, List, [], ◌∷◌, ◌++◌, length, take, drop, refl, sym, ◌∙◌, ap, subst, arith, length-append}
+use Rattle.std.proofs.Common.{◌≡◌, ◌≢◌, ℕ, zero, suc, ◌+◌, ◌-◌, slice_index_or, ◌<◌, ◌≤◌, ◌^◌, inl, inr, false, List, [], ◌∷◌, ◌++◌, length, take, drop, refl, sym, ◌∙◌, ap, arith, length-append}
 use Rattle.std.specs.Int.{w32, to_le_bytes, from_le_bytes}
 use Rattle.std.proofs.lemmas.List.{take_all}
 use Rattle.std.proofs.lemmas.Nat.{from_le_bytes-to_le_bytes_4}
 use Rattle.ut_value.specs.declared.entry.Entry.{Entry}
 use Rattle.ut_value.proofs.OneSpelling.{same_front}
-use Rattle.ut_redo.specs.Frames.{open_gate, frame, payload_of, IsPayload, IsFrame, IsEnd}
+use Rattle.ut_redo.specs.Frames.{open_gate, frame, payload_of, IsFrame, IsEnd}
 use Rattle.ut_redo.proofs.FrameLemmas.{regroup, payload_some, no_frame}
 use Rattle.ut_stream.specs.Fronts.{HasHeader, HasNoFrame, IsWhole, IsShort, None, Gate, Part, IsOff, Length, Payload}
 use Rattle.ut_stream.specs.Streams.{IsStop, Waits, Ends, Breaks}

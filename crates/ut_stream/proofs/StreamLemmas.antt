@@ -1,11 +1,11 @@
 -- A stream is read in one way, whatever pieces it comes in.
-use Rattle.std.proofs.Common.{◌≡◌, ℕ, ◌<◌, ◌≤◌, ◌^◌, List, [], ◌∷◌, ◌++◌, length, refl, sym, ◌∙◌, ap, arith, append_assoc}
+use Rattle.std.proofs.Common.{◌≡◌, ℕ, ◌<◌, ◌^◌, List, [], ◌∷◌, ◌++◌, length, refl, sym, ◌∙◌, ap, arith, append_assoc}
 use Rattle.std.specs.List.{flat_map, AllByRecursion}
 use Rattle.std.proofs.lemmas.Grind.{flat_map-append}
 use Rattle.ut_value.specs.declared.entry.Entry.{Entry}
 use Rattle.ut_redo.specs.Frames.{frame, payload_of, IsFrame}
 use Rattle.ut_redo.proofs.FrameLemmas.{one_whole_frame, same_items}
-use Rattle.ut_stream.specs.Streams.{IsStop, IsStream, OneStream, StreamInPieces}
+use Rattle.ut_stream.specs.Streams.{IsStop, OneStream, StreamInPieces}
 use Rattle.ut_stream.proofs.FrontLemmas.{stop_no_frame}
 
 abbrev frame_of : List Entry → List ℕ

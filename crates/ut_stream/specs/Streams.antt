@@ -1,5 +1,5 @@
 -- A stream of frames: what all of its bytes are read as.
-use Rattle.std.specs.Prelude.{ℕ, ◌≡◌, false, List, [], ◌++◌}
+use Rattle.std.specs.Prelude.{ℕ, ◌≡◌, false, List, ◌++◌}
 use Rattle.std.specs.List.{flat_map, AllByRecursion}
 use Rattle.ut_value.specs.declared.entry.Entry.{Entry}
 use Rattle.ut_redo.specs.Frames.{frame, payload_of, IsFrame, IsEnd}

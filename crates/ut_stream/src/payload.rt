@@ -1,5 +1,5 @@
 //! The entries of a payload.
-ghost use Rattle.std.specs.Prelude.{◌≡◌, List, IfOk, IfSome, IfNone};
+ghost use Rattle.std.specs.Prelude.{List, IfOk, IfSome, IfNone};
 ghost use Rattle.ut_value.specs.declared.entry.Entry.{Entry};
 ghost use Rattle.ut_redo.specs.Frames.{IsPayload};
 

@@ -1,4 +1,4 @@
-use Rattle.std.proofs.Common.{◌≡◌, ◌-◌, List, ◌∷◌, length, take, drop, sym, ◌∙◌, ap, subst}
+use Rattle.std.proofs.Common.{◌≡◌, ◌-◌, List, ◌∷◌, length, take, drop, refl, sym, ◌∙◌, ap, subst}
 use Rattle.std.proofs.lemmas.Result.{err_from_is_err_and}
 use Rattle.ut_outside.specs.Disk.{View}
 use Rattle.ut_outside.proofs.RunLemmas.{reads_start, reads_then}
@@ -15,7 +15,7 @@ loop-left-init g c =
     let v : View = g.D.Disk.view c.args.disk.now in
     let none : c.new-main.result ≡ no_parts (length c.args.drawn.now.table.columns) = c.new-main.ensures ∙ ap (λ (l : List Column). no_parts (length l)) c.as_slice-columns.ensures in
     subst (λ (l : List PartRef). MainSoFar c.args.drawn.now l c.new-main.result c.args.self.now c.args.self.now v v) (sym c.as_slice-left.ensures)
-    (main_start c.args.drawn.now c.new-main.result c.args.self.now v v c.requires none (reads_start v (g.met.D.Disk.only_now c.args.disk.now)))
+    (main_start c.args.drawn.now c.new-main.result c.args.self.now v v c.requires none (reads_start v (g.met.D.Disk.only_now c.args.disk.now)) refl)
 
 pub returns-in_err-read-clause-damaged : goal.returns-in_err-read-clause-damaged
 returns-in_err-read-clause-damaged g c =
@@ -48,4 +48,4 @@ loop-left-preserved g c =
     let found : FoundPart c.args.drawn.now.table.columns c.loop-left.main part c.in_ok-read.read c.loop-left.self c.read_part.new.self v1 =
     subst (λ (l : List Column). FoundPart l c.loop-left.main part c.in_ok-read.read c.loop-left.self c.read_part.new.self v1) c.as_slice-columns.ensures c.in_ok-read.ensures.found in
     main_goes_on c.args.drawn.now part others c.loop-left.main c.args.self.now c.loop-left.self v0 v1 so c.in_ok-read.read c.add_part.new.main c.read_part.new.self v2 found c.in_ok-add_part.ensures
-    (reads_then v0 v1 v2 so.reads c.in_ok-read.ensures.reads)
+    (reads_then v0 v1 v2 so.reads c.in_ok-read.ensures.reads) (c.in_ok-read.ensures.still refl ∙ so.still)

@@ -1,5 +1,4 @@
-use Rattle.std.proofs.Common.{ℕ, List, refl, sym, ◌∙◌, ap, subst}
-use Rattle.ut_redo.specs.Frames.{IsPayload}
+use Rattle.std.proofs.Common.{refl, subst}
 use Rattle.ut_stream.specs.Fronts.{IsShort, HasNoFrame, IsWhole}
 use Rattle.ut_stream.proofs.HeardLemmas.{held_is, off_is, payload_is, heard_bad, heard_frame}
 use Rattle.ut_stream.proofs.frames.Frames.next.Goals as goal
