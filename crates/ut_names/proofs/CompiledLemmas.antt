@@ -6,8 +6,8 @@ use Rattle.ut_value.specs.Spelling.{has_column}
 use Rattle.ut_plain.specs.declared.statement.Pred.{Pred}
 use Rattle.ut_plain.specs.Names.{preds_known}
 use Rattle.ut_plain.proofs.BoolLemmas.{and_left, and_right}
-use Rattle.ut_scan.specs.declared.place.ColumnPred.{ColumnPred}
-use Rattle.ut_names.specs.Compiled.{column_pred, Compiles}
+use Rattle.ut_key.specs.declared.comparison.ColumnPred.{ColumnPred}
+use Rattle.ut_plain.specs.Compiled.{column_pred, Compiles}
 use Rattle.ut_names.proofs.PlaceLemmas.{found_below}
 
 columns_of_preds : (columns : List Column) (preds : List Pred) → IsTrue (preds_known preds columns) → All (λ (p : ColumnPred). p.column < length columns) (map (column_pred columns) preds)

@@ -1,5 +1,5 @@
 -- Tables and columns that are there: their places, and what stands there.
-use Rattle.std.proofs.Common.{◌≡◌, ℕ, zero, suc, ◌+◌, ◌<◌, Bool, true, false, ◌&&◌, ◌||◌, cond, not, List, [], ◌∷◌, ◌++◌, length, take, get_or, All, Option, None, Some, nat_lt, refl, sym, ◌∙◌, ap, arith, true≢false}
+use Rattle.std.proofs.Common.{◌≡◌, ℕ, zero, suc, ◌+◌, ◌<◌, Bool, true, false, ◌&&◌, ◌||◌, cond, not, List, [], ◌∷◌, ◌++◌, length, take, get_or, All, Option, None, Some, nat_lt, refl, sym, ◌∙◌, ap, arith, true≢false, lt-ltb}
 use Rattle.std.specs.Prelude.{slice_get}
 use Rattle.std.specs.Option.{option_map, option_and_then, unwrap_or}
 use Rattle.std.specs.List.{list_all, list_any, position, position_or_len, filter_map, cons_option}
@@ -75,6 +75,20 @@ column_there columns name place is =
     let at = place_is (λ (c : Column). same_bytes c.name name) columns place is in
     let below = column_below columns name place is in
     any_found (λ (c : Column). same_bytes c.name name) columns (omega (arith, at, below))
+
+-- and one that has none isn't
+pub column_missing : (columns : List Column) (name : List ℕ) → column_of columns name ≡ None → has_column columns name ≡ false
+column_missing columns name none = by (has_column columns name) refl
+  where
+    test : Column → Bool
+    test = λ c. same_bytes c.name name
+
+    by : (b : Bool) → has_column columns name ≡ b → has_column columns name ≡ false
+    by false is = is
+    by true is =
+        let below : position_or_len test columns < length columns = found_within test columns is in
+        let some : column_of columns name ≡ Some (position_or_len test columns) = ap (λ b. cond b (Some (position_or_len test columns)) None) (lt-ltb (position_or_len test columns) (length columns) below) in
+        let wrong : None ≡ Some (position_or_len test columns) = sym none ∙ some in absurd cc
 
 -- the kind at the place of a column is the column's
 pub column_kind : (columns : List Column) (name : List ℕ) (place : ℕ) → column_of columns name ≡ Some place → option_map (λ (c : Column). c.kind) (slice_get columns place) ≡ kind_in columns name

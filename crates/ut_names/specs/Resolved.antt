@@ -1,5 +1,5 @@
 -- A statement's names resolved: the places of its tables and columns, and its comparisons by them.
-use Rattle.std.specs.Prelude.{ℕ, ◌≡◌, ◌≤◌, Bool, true, false, ◌&&◌, List, length, Option, None, Some, All}
+use Rattle.std.specs.Prelude.{ℕ, ◌≡◌, ◌≤◌, Bool, true, false, ◌&&◌, List, [], length, Option, None, Some, All}
 use Rattle.std.specs.List.{filter_map}
 use Rattle.ut_value.specs.declared.value.Value.{Value}
 use Rattle.ut_value.specs.declared.value.Column.{Column}
@@ -19,7 +19,7 @@ use Rattle.ut_names.specs.declared.resolved.Columns.{Columns}
 use Rattle.ut_names.specs.declared.resolved.Columns.TheVariants as which
 use Rattle.ut_names.specs.declared.resolved.Question.{Question}
 use Rattle.ut_names.specs.declared.resolved.Question.TheVariants as questions
-use Rattle.ut_names.specs.Compiled.{Compiles}
+use Rattle.ut_plain.specs.Compiled.{Compiles}
 
 -- no table has more than 64 columns
 abbrev pub AreNarrow : List Table → Type 0
@@ -88,6 +88,25 @@ pub record Resolves (tables : List Table) (query : Query) (question : Question) 
   pub known : query_known tables query ≡ true
   pub fits : query_fits tables query ≡ true
   pub is : IsQuestion tables query question
+
+-- a name isn't there, or a value or a column isn't of its kind
+abbrev pub IsWrong : (names kinds : Bool) → Type 0
+IsWrong names kinds = (names && kinds) ≡ false
+
+-- so it is of a question
+abbrev pub IsUnfit : List Table → Query → Type 0
+IsUnfit tables query = IsWrong (query_known tables query) (query_fits tables query)
+
+-- A question that compares nothing and shows no named columns. It is resolved without memory.
+abbrev pub IsBare : Query → Type 0
+IsBare (queries.Select name None preds) = preds ≡ []
+IsBare (queries.Select name (Some names) preds) = ⊥
+IsBare (queries.Count name preds) = preds ≡ []
+IsBare (queries.Sum name column preds) = preds ≡ []
+IsBare (queries.Min name column preds) = preds ≡ []
+IsBare (queries.Max name column preds) = preds ≡ []
+IsBare (queries.Group name key sum preds) = preds ≡ []
+IsBare (queries.Join left c right d) = Unit {0}
 
 -- why a statement is kept back: a name isn't there, else a value or a column isn't of its kind, else memory ran out
 abbrev pub Hinders : Bool → Bool → Refusal → Type 0

@@ -1,15 +1,15 @@
 //! Questions by the places of what they name.
-ghost use Rattle.std.specs.Prelude.{◌≡◌, IfOk, IfErr, IfSome};
+ghost use Rattle.std.specs.Prelude.{◌≡◌, [], None, IsErr, IsErrOf, IfOk, IfErr, IfSome, IfNone};
 ghost use Rattle.ut_plain.specs.declared.statement.Query.TheVariants.{Select, Count, Sum, Min, Max, Group, Join};
 ghost use Rattle.ut_plain.specs.Names.{query_known};
 ghost use Rattle.ut_plain.specs.Kinds.{query_fits, same_kind};
-ghost use Rattle.ut_names.specs.Resolved.{AreNarrow, Resolves, Hinders};
+ghost use Rattle.ut_names.specs.Resolved.{AreNarrow, Resolves, Hinders, IsUnfit, IsBare};
 
 use crate::Question;
 use crate::places::{column_at, columns_at, number_at, table_at};
-use crate::refusing::why;
+use crate::refusing::{why, wrong};
 use crate::selecting::rows;
-use std::alloc::Global;
+use std::alloc::{AllocError, Global};
 use ut_plain::{Pred, Query, Refusal, Table, query_fits, query_known};
 use ut_value::{Kind, Name, Seq};
 
@@ -19,16 +19,21 @@ pub fn question(alloc: Global, tables: &[Table], query: &Query) -> Result<Questi
     ensures ok { IfOk result (Resolves tables.now query.now) }
     ensures err { IfErr result (Hinders (query_known tables.now query.now)
         (query_fits tables.now query.now)) }
+    // Without comparisons and named columns to show it takes no memory.
+    ensures room { IsBare query.now → IsErrOf result Refusal.Memory → ⊥ }
 {
     match resolved(alloc, tables, query) {
-        Some(question) => Ok(question),
-        None => Err(why(query_known(tables, query), query_fits(tables, query))),
+        Ok(Some(question)) => Ok(question),
+        Ok(None) => Err(wrong(query_known(tables, query))),
+        Err(_) => Err(why(query_known(tables, query), query_fits(tables, query))),
     }
 }
 
-fn resolved(alloc: Global, tables: &[Table], query: &Query) -> Option<Question>
+fn resolved(alloc: Global, tables: &[Table], query: &Query) -> Result<Option<Question>, AllocError>
     requires { AreNarrow tables.now }
-    ensures { IfSome result (Resolves tables.now query.now) }
+    ensures some { IfOk result (λ o. IfSome o (Resolves tables.now query.now)) }
+    ensures none { IfOk result (λ o. IfNone o (IsUnfit tables.now query.now)) }
+    ensures room { IsBare query.now → IsErr result → ⊥ }
 {
     match query {
         Query::Select {
@@ -63,7 +68,7 @@ fn resolved(alloc: Global, tables: &[Table], query: &Query) -> Option<Question>
             left_column,
             right,
             right_column,
-        } => join(tables, left, left_column, right, right_column),
+        } => Ok(join(tables, left, left_column, right, right_column)),
     }
 }
 
@@ -73,23 +78,42 @@ fn select(
     name: &Name,
     names: &Option<Seq<Name>>,
     preds: &[Pred],
-) -> Option<Question>
+) -> Result<Option<Question>, AllocError>
     requires { AreNarrow tables.now }
-    ensures { IfSome result (Resolves tables.now (Select name.now names.now preds.now)) }
+    ensures some { IfOk result (λ o. IfSome o (Resolves tables.now (Select name.now names.now preds.now))) }
+    ensures none { IfOk result (λ o. IfNone o (IsUnfit tables.now (Select name.now names.now preds.now))) }
+    ensures room { names.now ≡ None → preds.now ≡ [] → IsErr result → ⊥ }
 {
-    let table = table_at(tables, name.as_slice())?;
-    let columns = columns_at(alloc, table.columns, names)?;
-    let rows = rows(alloc, &table, preds)?;
-    Some(Question::Select { rows, columns })
+    let Some(table) = table_at(tables, name.as_slice()) else {
+        return Ok(None);
+    };
+    let Some(columns) = columns_at(alloc, table.columns, names)? else {
+        return Ok(None);
+    };
+    let Some(rows) = rows(alloc, &table, preds)? else {
+        return Ok(None);
+    };
+    Ok(Some(Question::Select { rows, columns }))
 }
 
-fn count(alloc: Global, tables: &[Table], name: &Name, preds: &[Pred]) -> Option<Question>
+fn count(
+    alloc: Global,
+    tables: &[Table],
+    name: &Name,
+    preds: &[Pred],
+) -> Result<Option<Question>, AllocError>
     requires { AreNarrow tables.now }
-    ensures { IfSome result (Resolves tables.now (Count name.now preds.now)) }
+    ensures some { IfOk result (λ o. IfSome o (Resolves tables.now (Count name.now preds.now))) }
+    ensures none { IfOk result (λ o. IfNone o (IsUnfit tables.now (Count name.now preds.now))) }
+    ensures room { preds.now ≡ [] → IsErr result → ⊥ }
 {
-    let table = table_at(tables, name.as_slice())?;
-    let rows = rows(alloc, &table, preds)?;
-    Some(Question::Count { rows })
+    let Some(table) = table_at(tables, name.as_slice()) else {
+        return Ok(None);
+    };
+    let Some(rows) = rows(alloc, &table, preds)? else {
+        return Ok(None);
+    };
+    Ok(Some(Question::Count { rows }))
 }
 
 fn sum(
@@ -98,14 +122,22 @@ fn sum(
     name: &Name,
     column: &Name,
     preds: &[Pred],
-) -> Option<Question>
+) -> Result<Option<Question>, AllocError>
     requires { AreNarrow tables.now }
-    ensures { IfSome result (Resolves tables.now (Sum name.now column.now preds.now)) }
+    ensures some { IfOk result (λ o. IfSome o (Resolves tables.now (Sum name.now column.now preds.now))) }
+    ensures none { IfOk result (λ o. IfNone o (IsUnfit tables.now (Sum name.now column.now preds.now))) }
+    ensures room { preds.now ≡ [] → IsErr result → ⊥ }
 {
-    let table = table_at(tables, name.as_slice())?;
-    let column = number_at(table.columns, column.as_slice())?;
-    let rows = rows(alloc, &table, preds)?;
-    Some(Question::Sum { rows, column })
+    let Some(table) = table_at(tables, name.as_slice()) else {
+        return Ok(None);
+    };
+    let Some(column) = number_at(table.columns, column.as_slice()) else {
+        return Ok(None);
+    };
+    let Some(rows) = rows(alloc, &table, preds)? else {
+        return Ok(None);
+    };
+    Ok(Some(Question::Sum { rows, column }))
 }
 
 fn min(
@@ -114,17 +146,25 @@ fn min(
     name: &Name,
     column: &Name,
     preds: &[Pred],
-) -> Option<Question>
+) -> Result<Option<Question>, AllocError>
     requires { AreNarrow tables.now }
-    ensures { IfSome result (Resolves tables.now (Min name.now column.now preds.now)) }
+    ensures some { IfOk result (λ o. IfSome o (Resolves tables.now (Min name.now column.now preds.now))) }
+    ensures none { IfOk result (λ o. IfNone o (IsUnfit tables.now (Min name.now column.now preds.now))) }
+    ensures room { preds.now ≡ [] → IsErr result → ⊥ }
 {
-    let table = table_at(tables, name.as_slice())?;
-    let column = column_at(table.columns, column.as_slice())?;
-    let rows = rows(alloc, &table, preds)?;
-    Some(Question::Min {
+    let Some(table) = table_at(tables, name.as_slice()) else {
+        return Ok(None);
+    };
+    let Some(column) = column_at(table.columns, column.as_slice()) else {
+        return Ok(None);
+    };
+    let Some(rows) = rows(alloc, &table, preds)? else {
+        return Ok(None);
+    };
+    Ok(Some(Question::Min {
         rows,
         column: column.place,
-    })
+    }))
 }
 
 fn max(
@@ -133,17 +173,25 @@ fn max(
     name: &Name,
     column: &Name,
     preds: &[Pred],
-) -> Option<Question>
+) -> Result<Option<Question>, AllocError>
     requires { AreNarrow tables.now }
-    ensures { IfSome result (Resolves tables.now (Max name.now column.now preds.now)) }
+    ensures some { IfOk result (λ o. IfSome o (Resolves tables.now (Max name.now column.now preds.now))) }
+    ensures none { IfOk result (λ o. IfNone o (IsUnfit tables.now (Max name.now column.now preds.now))) }
+    ensures room { preds.now ≡ [] → IsErr result → ⊥ }
 {
-    let table = table_at(tables, name.as_slice())?;
-    let column = column_at(table.columns, column.as_slice())?;
-    let rows = rows(alloc, &table, preds)?;
-    Some(Question::Max {
+    let Some(table) = table_at(tables, name.as_slice()) else {
+        return Ok(None);
+    };
+    let Some(column) = column_at(table.columns, column.as_slice()) else {
+        return Ok(None);
+    };
+    let Some(rows) = rows(alloc, &table, preds)? else {
+        return Ok(None);
+    };
+    Ok(Some(Question::Max {
         rows,
         column: column.place,
-    })
+    }))
 }
 
 fn group(
@@ -153,19 +201,29 @@ fn group(
     key: &Name,
     sum: &Name,
     preds: &[Pred],
-) -> Option<Question>
+) -> Result<Option<Question>, AllocError>
     requires { AreNarrow tables.now }
-    ensures { IfSome result (Resolves tables.now (Group name.now key.now sum.now preds.now)) }
+    ensures some { IfOk result (λ o. IfSome o (Resolves tables.now (Group name.now key.now sum.now preds.now))) }
+    ensures none { IfOk result (λ o. IfNone o (IsUnfit tables.now (Group name.now key.now sum.now preds.now))) }
+    ensures room { preds.now ≡ [] → IsErr result → ⊥ }
 {
-    let table = table_at(tables, name.as_slice())?;
-    let key = column_at(table.columns, key.as_slice())?;
-    let sum = number_at(table.columns, sum.as_slice())?;
-    let rows = rows(alloc, &table, preds)?;
-    Some(Question::Group {
+    let Some(table) = table_at(tables, name.as_slice()) else {
+        return Ok(None);
+    };
+    let Some(key) = column_at(table.columns, key.as_slice()) else {
+        return Ok(None);
+    };
+    let Some(sum) = number_at(table.columns, sum.as_slice()) else {
+        return Ok(None);
+    };
+    let Some(rows) = rows(alloc, &table, preds)? else {
+        return Ok(None);
+    };
+    Ok(Some(Question::Group {
         rows,
         key: key.place,
         sum,
-    })
+    }))
 }
 
 fn join(
@@ -176,7 +234,8 @@ fn join(
     right_column: &Name,
 ) -> Option<Question>
     requires { AreNarrow tables.now }
-    ensures { IfSome result (Resolves tables.now (Join left.now left_column.now right.now right_column.now)) }
+    ensures some { IfSome result (Resolves tables.now (Join left.now left_column.now right.now right_column.now)) }
+    ensures none { IfNone result (IsUnfit tables.now (Join left.now left_column.now right.now right_column.now)) }
 {
     let left = table_at(tables, left.as_slice())?;
     let right = table_at(tables, right.as_slice())?;

@@ -1,27 +1,40 @@
 //! Comparisons of named columns as comparisons of keys at places.
-ghost use Rattle.std.specs.Prelude.{◌≡◌, ◌≤◌, length, IfSome, IsTrue};
+ghost use Rattle.std.specs.Prelude.{◌≡◌, ◌≤◌, [], length, IsErr, IfOk, IfSome, IfNone, IsTrue};
 ghost use Rattle.ut_value.specs.KeyBytes.{is_value};
 ghost use Rattle.ut_value.specs.Spelling.{has_column};
-ghost use Rattle.ut_plain.specs.Kinds.{kind_in, has_kind};
-ghost use Rattle.ut_names.specs.Compiled.{column_pred, Compiles};
+ghost use Rattle.ut_plain.specs.Names.{preds_known};
+ghost use Rattle.ut_plain.specs.Kinds.{kind_in, has_kind, preds_fit};
+ghost use Rattle.ut_plain.specs.Compiled.{column_pred, Compiles};
+ghost use Rattle.ut_names.specs.Resolved.{IsWrong};
 
 use crate::places::column_at;
-use std::alloc::Global;
+use std::alloc::{AllocError, Global};
+use ut_key::ColumnPred;
 use ut_plain::{Pred, is_of_kind};
-use ut_scan::ColumnPred;
 use ut_value::{Column, key_of, value_keeps_rule};
 
-/// The comparisons, where each names a column of its value's kind and there is memory for them.
-pub(crate) fn compiled(alloc: Global, columns: &[Column], preds: &[Pred]) -> Option<Vec<ColumnPred>>
+/// The comparisons. None where one names no column of its value's kind.
+pub(crate) fn compiled(
+    alloc: Global,
+    columns: &[Column],
+    preds: &[Pred],
+) -> Result<Option<Vec<ColumnPred>>, AllocError>
     requires { length columns.now ≤ 64 }
-    ensures { IfSome result (λ list. Compiles columns.now preds.now list.items) }
+    ensures some { IfOk result (λ o. IfSome o (λ list. Compiles columns.now preds.now list.items)) }
+    ensures none { IfOk result (λ o. IfNone o (IsWrong (preds_known preds.now columns.now) (preds_fit columns.now preds.now))) }
+    ensures room { preds.now ≡ [] → IsErr result → ⊥ }
 {
-    let mut list = Vec::with_capacity(alloc, preds.len()).ok()?;
-    for pred in preds {
-        let one = column_pred(columns, pred)?;
-        list.push(one).ok()?;
+    if preds.is_empty() {
+        return Ok(Some(Vec::new(alloc)));
     }
-    Some(list)
+    let mut list = Vec::with_capacity(alloc, preds.len())?;
+    for pred in preds {
+        let Some(one) = column_pred(columns, pred) else {
+            return Ok(None);
+        };
+        list.push(one)?;
+    }
+    Ok(Some(list))
 }
 
 fn column_pred(columns: &[Column], pred: &Pred) -> Option<ColumnPred>
@@ -30,6 +43,7 @@ fn column_pred(columns: &[Column], pred: &Pred) -> Option<ColumnPred>
     ensures known { IfSome result (λ p. IsTrue (has_column columns.now pred.now.column)) }
     ensures fits { IfSome result (λ p. IsTrue (has_kind pred.now.value (kind_in columns.now pred.now.column))) }
     ensures rule { IsTrue (is_value pred.now.value) }
+    ensures none { IfNone result (IsWrong (has_column columns.now pred.now.column) (has_kind pred.now.value (kind_in columns.now pred.now.column))) }
 {
     value_keeps_rule(&pred.value);
     let column = column_at(columns, pred.column.as_slice())?;

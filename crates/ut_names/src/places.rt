@@ -1,14 +1,14 @@
 //! Where the tables and the columns of a name stand.
-ghost use Rattle.std.specs.Prelude.{◌≡◌, ◌<◌, ◌≤◌, true, length, Some, IfSome};
+ghost use Rattle.std.specs.Prelude.{◌≡◌, ◌<◌, ◌≤◌, true, false, length, None, Some, IsErr, IfOk, IfSome, IfNone};
 ghost use Rattle.std.specs.List.{filter_map, list_all};
 ghost use Rattle.ut_value.specs.Spelling.{has_column};
 ghost use Rattle.ut_plain.specs.Tables.{place_of, columns_of, column_of};
 ghost use Rattle.ut_plain.specs.Names.{names_in};
 ghost use Rattle.ut_plain.specs.Kinds.{kind_in, is_int};
-ghost use Rattle.ut_names.specs.Resolved.{AreNarrow, AreColumns};
+ghost use Rattle.ut_names.specs.Resolved.{AreNarrow, AreColumns, IsWrong};
 
 use crate::Columns;
-use std::alloc::Global;
+use std::alloc::{AllocError, Global};
 use ut_plain::{Table, column_of, place_of};
 use ut_value::{Column, Kind, Name, Seq};
 
@@ -32,6 +32,7 @@ pub(crate) fn table_at<'a>(tables: &'a [Table], name: &[u8]) -> Option<TableAt<'
     ensures place { IfSome result (λ t. place_of tables.now name.now ≡ Some t.place) }
     ensures columns { IfSome result (λ t. columns_of tables.now name.now ≡ Some t.columns.now) }
     ensures narrow { IfSome result (λ t. length t.columns.now ≤ 64) }
+    ensures none { IfNone result (columns_of tables.now name.now ≡ None) }
 {
     let place = place_of(tables, name)?;
     let table = tables.get(place)?;
@@ -42,11 +43,13 @@ pub(crate) fn table_at<'a>(tables: &'a [Table], name: &[u8]) -> Option<TableAt<'
 }
 
 /// The column of a name.
+#[tactic(auto, using(crate::proofs::PlaceLemmas::column_missing))]
 pub(crate) fn column_at(columns: &[Column], name: &[u8]) -> Option<ColumnAt>
     ensures place { IfSome result (λ c. column_of columns.now name.now ≡ Some c.place) }
     ensures below { IfSome result (λ c. c.place < length columns.now) }
     ensures known { IfSome result (λ c. has_column columns.now name.now ≡ true) }
     ensures kind { IfSome result (λ c. kind_in columns.now name.now ≡ Some c.kind) }
+    ensures none { IfNone result (has_column columns.now name.now ≡ false) }
 {
     let place = column_of(columns, name)?;
     let column = columns.get(place)?;
@@ -61,6 +64,7 @@ pub(crate) fn number_at(columns: &[Column], name: &[u8]) -> Option<usize>
     ensures place { IfSome result (λ place. column_of columns.now name.now ≡ Some place) }
     ensures known { IfSome result (λ place. has_column columns.now name.now ≡ true) }
     ensures kind { IfSome result (λ place. is_int (kind_in columns.now name.now) ≡ true) }
+    ensures none { IfNone result (IsWrong (has_column columns.now name.now) (is_int (kind_in columns.now name.now))) }
 {
     let column = column_at(columns, name)?;
     match column.kind {
@@ -69,32 +73,41 @@ pub(crate) fn number_at(columns: &[Column], name: &[u8]) -> Option<usize>
     }
 }
 
-/// The places of the columns of these names, or all columns.
+/// The places of the columns of these names, or all columns. None where one isn't there.
 pub(crate) fn columns_at(
     alloc: Global,
     columns: &[Column],
     names: &Option<Seq<Name>>,
-) -> Option<Columns>
-    ensures are { IfSome result (λ which. AreColumns columns.now names.now which) }
-    ensures known { IfSome result (λ which. names_in names.now columns.now ≡ true) }
+) -> Result<Option<Columns>, AllocError>
+    ensures are { IfOk result (λ o. IfSome o (AreColumns columns.now names.now)) }
+    ensures known { IfOk result (λ o. IfSome o (λ _. names_in names.now columns.now ≡ true)) }
+    ensures none { IfOk result (λ o. IfNone o (names_in names.now columns.now ≡ false)) }
+    ensures room { names.now ≡ None → IsErr result → ⊥ }
 {
     match names {
-        None => Some(Columns::All),
-        Some(names) => {
-            let places = places(alloc, columns, names.as_slice())?;
-            Some(Columns::Named(places))
-        }
+        None => Ok(Some(Columns::All)),
+        Some(names) => match places(alloc, columns, names.as_slice())? {
+            Some(places) => Ok(Some(Columns::Named(places))),
+            None => Ok(None),
+        },
     }
 }
 
-fn places(alloc: Global, columns: &[Column], names: &[Name]) -> Option<Vec<usize>>
-    ensures are { IfSome result (λ list. list.items ≡ filter_map (column_of columns.now) names.now) }
-    ensures known { IfSome result (λ list. list_all (has_column columns.now) names.now ≡ true) }
+fn places(
+    alloc: Global,
+    columns: &[Column],
+    names: &[Name],
+) -> Result<Option<Vec<usize>>, AllocError>
+    ensures are { IfOk result (λ o. IfSome o (λ list. list.items ≡ filter_map (column_of columns.now) names.now)) }
+    ensures known { IfOk result (λ o. IfSome o (λ _. list_all (has_column columns.now) names.now ≡ true)) }
+    ensures none { IfOk result (λ o. IfNone o (list_all (has_column columns.now) names.now ≡ false)) }
 {
-    let mut list = Vec::with_capacity(alloc, names.len()).ok()?;
+    let mut list = Vec::with_capacity(alloc, names.len())?;
     for name in names {
-        let column = column_at(columns, name.as_slice())?;
-        list.push(column.place).ok()?;
+        let Some(column) = column_at(columns, name.as_slice()) else {
+            return Ok(None);
+        };
+        list.push(column.place)?;
     }
-    Some(list)
+    Ok(Some(list))
 }

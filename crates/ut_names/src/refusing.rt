@@ -1,11 +1,18 @@
 //! Why a statement that was not resolved is refused. It is looked up once more, without memory.
-ghost use Rattle.std.specs.Prelude.{◌≡◌};
+ghost use Rattle.std.specs.Prelude.{◌≡◌, Bool};
 ghost use Rattle.ut_plain.specs.Names.{preds_known};
 ghost use Rattle.ut_plain.specs.Kinds.{has_kind, preds_fit};
-ghost use Rattle.ut_names.specs.Resolved.{Hinders, rows_known, rows_fit, target_known, target_fits};
+ghost use Rattle.ut_names.specs.Resolved.{Hinders, IsWrong, rows_known, rows_fit, target_known, target_fits};
 
 use ut_plain::{Pred, Refusal, Table, columns_in, columns_of, has_column, is_of_kind, kind_in};
 use ut_value::{Column, Kind, Value};
+
+/// Where the names are there, the kinds don't fit.
+pub(crate) fn wrong(known: bool) -> Refusal
+    ensures { (fits : Bool) → IsWrong known fits → Hinders known fits result }
+{
+    if known { Refusal::Kind } else { Refusal::Name }
+}
 
 /// Where the names are there and the kinds fit, memory was refused.
 pub(crate) fn why(known: bool, fits: bool) -> Refusal

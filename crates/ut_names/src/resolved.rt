@@ -1,6 +1,6 @@
 //! Questions and selections by the places of what they name.
 
-use ut_scan::ColumnPred;
+use ut_key::ColumnPred;
 
 /// The rows of a table that meet comparisons.
 #[derive(Drop)]
