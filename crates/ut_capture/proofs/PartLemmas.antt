@@ -23,12 +23,13 @@ use Rattle.ut_savepoint.specs.Captured.{CapturesPart, CaptureParts, CapturesTabl
 use Rattle.ut_table.specs.Contents.{Contents, held_parts}
 use Rattle.ut_table.specs.Lent.{AreLent}
 use Rattle.ut_table.specs.Pending.{key_row}
+use Rattle.ut_table.specs.Outside.{rows_in}
+use Rattle.ut_table.specs.declared.stage.Stage.TheVariants.{Closed}
 use Rattle.ut_table.proofs.CloseLemmas.{parts-keys}
+use Rattle.ut_table.proofs.StageLemmas.{stamp_of, held-stamps}
 use Rattle.ut_capture.specs.Live.{is_live, live_rows, live_places, live_place, live_parts, live_stages}
-use Rattle.ut_capture.specs.declared.place.Stage.TheVariants.{Closed}
-use Rattle.ut_capture.specs.Stages.{rows_in, deltas_bytes}
+use Rattle.ut_capture.specs.Stages.{deltas_bytes}
 use Rattle.ut_capture.proofs.ListLemmas.{map-twice, map-agree, take_all}
-use Rattle.ut_capture.proofs.PlaceLemmas.{stamp_of, held-stamps}
 
 -- ---- parts
 

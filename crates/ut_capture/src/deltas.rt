@@ -3,14 +3,14 @@ ghost use Rattle.std.specs.Prelude.{◌≡◌, ◌≤◌, ◌^◌, ◌++◌, Non
 ghost use Rattle.std.specs.List.{filter, flat_map};
 ghost use Rattle.ut_stamps.specs.Stamps.{sees};
 ghost use Rattle.ut_image.specs.Bytes.{row_bytes};
+ghost use Rattle.ut_table.specs.Outside.{rows_in};
 ghost use Rattle.ut_capture.specs.Live.{live_rows};
-ghost use Rattle.ut_capture.specs.Stages.{rows_in, deltas_bytes};
+ghost use Rattle.ut_capture.specs.Stages.{deltas_bytes};
 
-use crate::place::{Stage, place_in, row_in, stamps_in};
 use std::alloc::{AllocError, Global};
 use ut_image::image_row;
 use ut_stamps::{Fates, Stamp, sees};
-use ut_table::Table;
+use ut_table::{Stage, Table};
 
 // How many of these rows are live.
 fn live_count(fates: &Fates, entries: u32, stamps: &[Stamp]) -> u32
@@ -38,10 +38,10 @@ fn put_live(
 ) -> Result<(), AllocError>
     ensures { OnOk result (out.new.items ≡ out.old.items ++ flat_map row_bytes (live_rows fates.now entries (rows_in stage table.now.stages))) }
 {
-    let stamps = stamps_in(table, stage);
+    let stamps = table.stamps_in(stage);
     for i in 0..stamps.len() {
         if sees(fates, &stamps[i], entries, None) {
-            let row = row_in(alloc, table, place_in(stage, i as u32))?;
+            let row = table.row(alloc, stage.place(i as u32))?;
             image_row(&row, out)?;
         }
     }
@@ -57,9 +57,9 @@ pub(crate) fn deltas(
 ) -> Result<Vec<u8>, AllocError>
     ensures { IfOk result (λ bytes. bytes.items ≡ deltas_bytes fates.now entries table.now.stages) }
 {
-    let closed = live_count(fates, entries, stamps_in(table, Stage::Closed));
-    let l2 = live_count(fates, entries, stamps_in(table, Stage::L2));
-    let l1 = live_count(fates, entries, stamps_in(table, Stage::L1));
+    let closed = live_count(fates, entries, table.stamps_in(Stage::Closed));
+    let l2 = live_count(fates, entries, table.stamps_in(Stage::L2));
+    let l1 = live_count(fates, entries, table.stamps_in(Stage::L1));
     let mut out = Vec::new(alloc);
     let older = closed + l2;
     out.extend_from_slice(&older.to_le_bytes())?;

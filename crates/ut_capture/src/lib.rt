@@ -3,7 +3,6 @@
 
 mod deltas;
 mod parts;
-mod place;
 mod store;
 mod table;
 

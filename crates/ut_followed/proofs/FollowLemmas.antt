@@ -1,11 +1,9 @@
 -- A store that follows stays one that is reached.
-use Rattle.std.proofs.Common.{◌≡◌, ℕ, zero, suc, ◌+◌, ◌<◌, ◌≤◌, Bool, true, false, ◌&&◌, max, nat_le, List, [], ◌∷◌, ◌++◌, length, map, Option, None, Some, refl, sym, ap, ◌∙◌, subst, arith, IsTrue, leb-true, length-append, length-set, append_assoc}
+use Rattle.std.proofs.Common.{◌≡◌, ℕ, zero, suc, ◌+◌, ◌≤◌, nat_le, List, [], ◌∷◌, ◌++◌, length, map, Option, None, Some, refl, sym, ap, ◌∙◌, subst, arith, IsTrue, leb-true, append_assoc}
 use Rattle.std.specs.Option.{option_map, unwrap_or}
 use Rattle.std.specs.List.{sum_by}
 use Rattle.std.proofs.lemmas.List.{length-map, append-nil}
-use Rattle.std.proofs.lemmas.List.Sums.{sum_by-cons, sum_by-append}
-use Rattle.ut_value.specs.declared.entry.Op.{Op}
-use Rattle.ut_value.specs.declared.entry.Op.TheVariants as ops
+use Rattle.std.proofs.lemmas.List.Sums.{sum_by-cons}
 use Rattle.ut_value.specs.declared.entry.Entry.{Entry}
 use Rattle.ut_value.specs.declared.entry.Entry.TheVariants as entries
 use Rattle.ut_plain.specs.declared.transaction.OpenTransaction.{OpenTransaction}
@@ -13,18 +11,17 @@ use Rattle.ut_plain.specs.declared.stage.Placed.{Placed}
 use Rattle.ut_plain.specs.declared.stage.PendingMerge.{PendingMerge}
 use Rattle.ut_plain.specs.declared.stage.TableStages.{TableStages}
 use Rattle.ut_plain.specs.Rows.{Rows}
-use Rattle.ut_plain.specs.State.{State, after, can, entry_inserts}
-use Rattle.ut_plain.specs.Journal.{Journal, journal_len, current, appended, load_of, IsJournal}
-use Rattle.ut_plain.specs.Stages.{Stages, places_of, all_places, no_stages, stages_at, with_stages, entered, placed}
-use Rattle.ut_plain.specs.Restart.{buried, with_dead, replayed_ops, replayed_entry}
-use Rattle.ut_plain.specs.Plain.{Plain, Phase, Sessions, open_at, open_inserts, inserts_open}
-use Rattle.ut_plain.specs.Reached.{IsPlain, IsMain, IsAtRest, AreMerges, IsUnderWay}
+use Rattle.ut_plain.specs.State.{State, can}
+use Rattle.ut_plain.specs.Journal.{Journal, journal_len, current, appended, IsJournal}
+use Rattle.ut_plain.specs.Stages.{Stages, places_of, all_places, stages_at}
+use Rattle.ut_plain.specs.Plain.{Sessions, open_at, open_inserts, inserts_open}
+use Rattle.ut_plain.specs.Reached.{IsMain, IsAtRest, AreMerges}
 use Rattle.ut_plain.proofs.BoolLemmas.{and_left, and_right}
 use Rattle.ut_plain.proofs.JournalLaws.{current-appended, journal_len-appended, IsJournal-appended, load_of-appended}
-use Rattle.ut_plain.proofs.MainLemmas.{stages_at-set, same-with, same-created, IsMain-same, IsAtRest-same}
-use Rattle.ut_plain.proofs.StageLemmas.{all_places-replayed_ops}
+use Rattle.ut_plain.proofs.OpenedLaws.{staged_after, placed_after, fine_entry}
+use Rattle.ut_plain.proofs.SaveLaws.{IsUnderWay-appended}
 use Rattle.ut_plain.proofs.StateLaws.{IsState-current}
-use Rattle.ut_followed.specs.Followed.{swept, swept_table, swept_stages, most, may_follow, followed, followed_all, CanFollow, FollowsAll, FollowedIsPlain, Grows, FollowedGrows, IsFront, FollowedStaysAPrefix}
+use Rattle.ut_followed.specs.Followed.{swept, swept_table, swept_stages, most, followed, FollowedIsPlain, FollowedGrows, FollowedStaysAPrefix}
 
 -- ---- places that nobody has
 
@@ -59,46 +56,6 @@ swept-main rows stages n m = subst IsMain (sym (stages_at-swept rows stages n)) 
 
 swept-rest : (rows : Rows) (stages : Stages) (n : ℕ) → IsAtRest (stages_at stages n) → IsAtRest (stages_at (swept_stages rows stages) n)
 swept-rest rows stages n r = subst IsAtRest (sym (stages_at-swept rows stages n)) (record { closed = ap (option_map (map (swept rows))) r.closed; keep = r.keep })
-
--- ---- an entry, over stages of which nothing is being merged
-
-fine_ops : (stages : Stages) (os : List Op) (n : ℕ) → IsMain (stages_at stages n) → IsAtRest (stages_at stages n) → IsMain (stages_at (replayed_ops stages os) n) × IsAtRest (stages_at (replayed_ops stages os) n)
-fine_ops stages [] n m r = (m, r)
-fine_ops stages (ops.Insert table id values ∷ os) n m r =
-    let next = with_stages (entered false (placed id values)) table stages in
-    let s = same-with (entered false (placed id values)) (λ t. record { parts = refl; closed = refl; keep = refl }) stages table n in
-    fine_ops next os n (IsMain-same (stages_at stages n) (stages_at next n) s m) (IsAtRest-same (stages_at stages n) (stages_at next n) s r)
-fine_ops stages (ops.Delete table id ∷ os) n m r =
-    let next = with_stages (with_dead id) table stages in
-    let both = stages_at-set (λ t. IsMain t × IsAtRest t) stages table n (with_dead id (stages_at stages table))
-    (λ e. dead_is (stages_at stages table) (subst (λ k. IsMain (stages_at stages k)) e m) (subst (λ k. IsAtRest (stages_at stages k)) e r)) (m, r) in
-    fine_ops next os n both.0 both.1
-  where
-    dead_is : (t : TableStages) → IsMain t → IsAtRest t → IsMain (with_dead id t) × IsAtRest (with_dead id t)
-    dead_is t m r = (main-marked (buried id) t (with_dead id t) refl refl m, record { closed = ap (option_map (map (buried id))) r.closed; keep = r.keep })
-
-fine_entry : (stages : Stages) (e : Entry) (n : ℕ) → IsMain (stages_at stages n) → IsAtRest (stages_at stages n) → IsMain (stages_at (replayed_entry stages e) n) × IsAtRest (stages_at (replayed_entry stages e) n)
-fine_entry stages (entries.Create name columns) n m r = let s = same-created stages n in (IsMain-same (stages_at stages n) (stages_at (stages ++ no_stages ∷ []) n) s m, IsAtRest-same (stages_at stages n) (stages_at (stages ++ no_stages ∷ []) n) s r)
-fine_entry stages (entries.Txn os) n m r = fine_ops stages os n m r
-fine_entry stages (entries.Begun k table kind) n m r = (m, r)
-fine_entry stages (entries.Ended k) n m r = (m, r)
-
-placed_after : (stages : Stages) (e : Entry) → all_places (replayed_entry stages e) ≤ all_places stages + entry_inserts e
-placed_after stages (entries.Create name columns) = let same = sum_by-append places_of stages (no_stages ∷ []) in omega (arith, same)
-placed_after stages (entries.Txn os) = all_places-replayed_ops stages os
-placed_after stages (entries.Begun n table kind) = omega arith
-placed_after stages (entries.Ended n) = omega arith
-
-length-replayed_ops : (stages : Stages) (os : List Op) → length (replayed_ops stages os) ≡ length stages
-length-replayed_ops stages [] = refl
-length-replayed_ops stages (ops.Insert table id values ∷ os) = length-replayed_ops (with_stages (entered false (placed id values)) table stages) os ∙ length-set stages table (entered false (placed id values) (stages_at stages table))
-length-replayed_ops stages (ops.Delete table id ∷ os) = length-replayed_ops (with_stages (with_dead id) table stages) os ∙ length-set stages table (with_dead id (stages_at stages table))
-
-staged_after : (stages : Stages) (s : State) (e : Entry) → length stages ≡ length s.tables → length (replayed_entry stages e) ≡ length (after s e).tables
-staged_after stages s (entries.Create name columns) h = omega (arith, length-append stages (no_stages ∷ []), length-append s.tables (record { name = name; columns = columns } ∷ []), h)
-staged_after stages s (entries.Txn os) h = length-replayed_ops stages os ∙ h
-staged_after stages s (entries.Begun n table kind) h = h
-staged_after stages s (entries.Ended n) h = h
 
 -- ---- nobody has a transaction
 
@@ -141,7 +98,7 @@ followed-plain p e h c may =
       places = let before = all_places-swept rows p.stages in let more = placed_after (swept_stages rows p.stages) e in omega (arith, before, more);
       mains = λ n. (both n).0;
       merges = subst (λ (o : Option PendingMerge). AreMerges o (followed p e).stages (current j).merges (journal_len j)) (sym c.idle) (λ n. (both n).1);
-      saving = subst (λ (f : Phase). IsUnderWay j (journal_len p.journal + 1) f) (sym c.unsaved) tt;
+      saving = IsUnderWay-appended p.journal e p.phase h.saving;
     }
 
 -- ---- entries in order

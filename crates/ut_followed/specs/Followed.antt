@@ -1,5 +1,5 @@
 -- What an entry of another store's journal makes of a store that follows it.
-use Rattle.std.specs.Prelude.{ℕ, ◌+◌, ◌<◌, ◌≤◌, ◌≡◌, max, Bool, true, ◌&&◌, nat_le, if◌then◌else◌, List, [], ◌∷◌, ◌++◌, map, take, length, None, IsTrue, is_some}
+use Rattle.std.specs.Prelude.{ℕ, ◌+◌, ◌<◌, ◌≡◌, max, Bool, true, ◌&&◌, nat_le, if◌then◌else◌, List, [], ◌∷◌, ◌++◌, map, None, IsTrue, is_some}
 use Rattle.std.specs.Option.{option_map}
 use Rattle.std.specs.FinMap as finmap
 use Rattle.ut_value.specs.declared.entry.Entry.{Entry}
@@ -10,7 +10,7 @@ use Rattle.ut_plain.specs.State.{can, entry_inserts}
 use Rattle.ut_plain.specs.Journal.{Journal, journal_len, current, appended, load_of}
 use Rattle.ut_plain.specs.Stages.{Stages, all_places}
 use Rattle.ut_plain.specs.Restart.{replayed_entry}
-use Rattle.ut_plain.specs.Plain.{Plain, Idle, open_at}
+use Rattle.ut_plain.specs.Plain.{Plain, open_at}
 use Rattle.ut_plain.specs.Reached.{IsPlain}
 
 -- ---- places that nobody has
@@ -49,11 +49,10 @@ followed p e = record p {
   stages = replayed_entry (swept_stages (current p.journal).rows p.stages) e;
 }
 
--- A store can follow: nobody has a transaction, no merge is pending and no savepoint is under way, and the journal has room.
+-- A store can follow: nobody has a transaction, no merge is pending, and the journal has room.
 pub record CanFollow (p : Plain) : Type 0 where
   pub alone : (session : ℕ) → open_at p.sessions session ≡ None
   pub idle : p.pending ≡ None
-  pub unsaved : p.phase ≡ Idle
   pub room : journal_len p.journal < 1073741824
 
 -- ---- entries in order

@@ -15,8 +15,8 @@ use Rattle.ut_plain.proofs.CapturedLaws.{captured_mains, captured_rest}
 
 -- ---- the journal gets an entry more
 
-savepoint_later : (j : Journal) (e : Entry) (opening captured done pages : ℕ) (image : Directory) → IsSavepoint j opening captured done pages image → IsSavepoint (appended j e) opening captured done pages image
-savepoint_later j e opening captured done pages image h = record {
+savepoint_later : (j : Journal) (e : Entry) (captured done pages : ℕ) (image : Directory) → IsSavepoint j captured done pages image → IsSavepoint (appended j e) captured done pages image
+savepoint_later j e captured done pages image h = record {
   since = h.since;
   until = let until = h.until in omega (arith, until, journal_len-appended j e);
   few = h.few;
@@ -25,15 +25,15 @@ savepoint_later j e opening captured done pages image h = record {
   image = h.image;
 }
 
-pub IsUnderWay-appended : (j : Journal) (e : Entry) (opening : ℕ) (phase : Phase) → IsUnderWay j opening phase → IsUnderWay (appended j e) opening phase
-IsUnderWay-appended j e opening Idle h = h
-IsUnderWay-appended j e opening (Writing captured done pages image) h = savepoint_later j e opening captured done pages image h
-IsUnderWay-appended j e opening (Sealed captured pages image) h = savepoint_later j e opening captured pages pages image h
+pub IsUnderWay-appended : (j : Journal) (e : Entry) (phase : Phase) → IsUnderWay j phase → IsUnderWay (appended j e) phase
+IsUnderWay-appended j e Idle h = h
+IsUnderWay-appended j e (Writing captured done pages image) h = savepoint_later j e captured done pages image h
+IsUnderWay-appended j e (Sealed captured pages image) h = savepoint_later j e captured pages pages image h
 
 -- ---- each statement
 
 -- no rule of a plain state asks for its measure of images, or for the pages of its root
-pub IsPlain-measured : (p : Plain) (image_pages : Directory → ℕ) (phase : Phase) (root_pages : ℕ) → IsPlain p → IsUnderWay p.journal p.opening phase → IsPlain (record p { image_pages = image_pages; phase = phase; root_pages = root_pages })
+pub IsPlain-measured : (p : Plain) (image_pages : Directory → ℕ) (phase : Phase) (root_pages : ℕ) → IsPlain p → IsUnderWay p.journal phase → IsPlain (record p { image_pages = image_pages; phase = phase; root_pages = root_pages })
 IsPlain-measured p image_pages phase root_pages h saving = record {
   base = h.base;
   journal = h.journal;
@@ -53,7 +53,7 @@ IsPlain-measured p image_pages phase root_pages h saving = record {
   saving = saving;
 }
 
-IsPlain-phased : (p : Plain) (phase : Phase) (root_pages : ℕ) → IsPlain p → IsUnderWay p.journal p.opening phase → IsPlain (record p { phase = phase; root_pages = root_pages })
+IsPlain-phased : (p : Plain) (phase : Phase) (root_pages : ℕ) → IsPlain p → IsUnderWay p.journal phase → IsPlain (record p { phase = phase; root_pages = root_pages })
 IsPlain-phased p = IsPlain-measured p p.image_pages
 
 captured_is : (p : Plain) → IsPlain p → IsCaptured (captured_now p)
@@ -69,7 +69,7 @@ save_begun_is p h room =
     let pages = p.image_pages image in
     let numbered : 3 + pages + p.root_pages ≤ 4294967295 = leb-true (3 + pages + p.root_pages) 4294967295 room in
     IsPlain-phased p (Writing (journal_len p.journal) 0 pages image) p.root_pages h (record {
-      since = h.opened.1;
+      since = let opened = h.opened in omega (arith, opened.0, opened.1);
       until = omega arith;
       few = omega arith;
       numbered = omega (arith, numbered);
@@ -80,7 +80,7 @@ save_begun_is p h room =
 pub save_written_is : (p : Plain) (n : ℕ) → IsPlain p → IsPlain (save_written p n p.phase).plain
 save_written_is p n h = by p.phase h.saving
   where
-    by : (phase : Phase) → IsUnderWay p.journal p.opening phase → IsPlain (save_written p n phase).plain
+    by : (phase : Phase) → IsUnderWay p.journal phase → IsPlain (save_written p n phase).plain
     by Idle s = h
     by (Writing captured done pages image) s = IsPlain-phased p (Writing captured (min pages (done + n)) pages image) p.root_pages h (record {
       since = s.since;
@@ -95,7 +95,7 @@ save_written_is p n h = by p.phase h.saving
 pub save_sealed_is : (p : Plain) → IsPlain p → IsPlain (save_sealed p p.phase).plain
 save_sealed_is p h = by p.phase h.saving
   where
-    by : (phase : Phase) → IsUnderWay p.journal p.opening phase → IsPlain (save_sealed p phase).plain
+    by : (phase : Phase) → IsUnderWay p.journal phase → IsPlain (save_sealed p phase).plain
     by Idle s = h
     by (Writing captured done pages image) s = IsPlain-phased p (Sealed captured pages image) p.root_pages h (record {
       since = s.since;

@@ -3,7 +3,7 @@ use Rattle.std.specs.Prelude.{◌≡◌, ℕ, ◌+◌, ◌<◌, ◌≤◌, List,
 use Rattle.ut_stamps.specs.declared.visibility.Stamp.{Stamp}
 use Rattle.ut_stamps.specs.declared.place.Place.{Place}
 use Rattle.ut_stamps.specs.declared.place.Place.TheVariants.{L1, L2, Closed, Main}
-use Rattle.ut_l1.specs.Queued.{Queued}
+use Rattle.ut_queue.specs.Queued.{Queued}
 
 -- the lists of the stages: those of L1 and of L2 with their room, that of a closed L2, and those of main's parts
 pub record StampLists : Type 0 where

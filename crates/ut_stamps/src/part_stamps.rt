@@ -1,9 +1,10 @@
 //! The stamps of a part of main: one of them for all rows, where they agree, or a list.
-ghost use Rattle.std.specs.Prelude.{◌≡◌, ◌<◌, ◌≤◌, [], length, get_or, replicate, slice_set, vec_len, vec_capacity, Some, IfSome};
+ghost use Rattle.std.specs.Prelude.{◌≡◌, ◌<◌, ◌≤◌, [], length, get_or, replicate, slice_set, vec_len, vec_capacity, Some, IfSome, IfOk};
 ghost use Rattle.ut_stamps.specs.declared.visibility.Stamp.{Stamp};
 ghost use Rattle.ut_stamps.specs.StampLists.{no_stamp};
 
 use crate::visibility::Stamp;
+use std::alloc::{AllocError, Global};
 use std::marker::Model;
 
 /// Above so many stamps a list that is no longer needed goes back, and new room stands in its
@@ -34,7 +35,7 @@ impl Model for PartStamps {
 
 impl PartStamps {
     /// The stamps of a list. Needs no memory.
-    pub(crate) fn of(list: Vec<Stamp>) -> Self
+    pub fn of(list: Vec<Stamp>) -> Self
         ensures { result ≡ list.items }
     {
         let len = list.len();
@@ -50,6 +51,19 @@ impl PartStamps {
                 list,
             },
         }
+    }
+
+    /// One stamp for so many rows. Their list is room alone: it costs address space until one of
+    /// the rows changes.
+    pub fn alike(alloc: Global, n: usize, stamp: Stamp) -> Result<Self, AllocError>
+        ensures { IfOk result (λ stamps. stamps ≡ replicate n stamp) }
+    {
+        let list = Vec::with_capacity(alloc, n)?;
+        Ok(PartStamps {
+            joint: Some(stamp),
+            len: n,
+            list,
+        })
     }
 
     /// How many there are.

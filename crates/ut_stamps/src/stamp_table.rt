@@ -8,7 +8,7 @@ use crate::visibility::Stamp;
 use std::alloc::{AllocError, Global};
 use std::marker::Model;
 use std::mem;
-use ut_l1::Queue;
+use ut_queue::Queue;
 
 /// How many parts main has at most.
 const MOST_PARTS: usize = 8;
@@ -110,7 +110,15 @@ impl StampTable {
         requires { length self.old.parts < 8 }
         ensures { self.new ≡ record self.old { parts = self.old.parts ++ stamps.items ∷ [] } }
     {
-        self.parts.push_reserved(PartStamps::of(stamps));
+        self.push_stamps(PartStamps::of(stamps));
+    }
+
+    /// The same of stamps as they are held. Takes no memory.
+    pub fn push_stamps(&mut self, stamps: PartStamps)
+        requires { length self.old.parts < 8 }
+        ensures { self.new ≡ record self.old { parts = self.old.parts ++ stamps ∷ [] } }
+    {
+        self.parts.push_reserved(stamps);
     }
 
     /// Ends a merge: the first parts stay, and the stamps of a part stand in place of the others

@@ -19,9 +19,9 @@ use Rattle.ut_plain.specs.Kinds.{kind_in, has_kind, preds_fit}
 use Rattle.ut_plain.specs.Condition.{value_in, value_meets, meets}
 use Rattle.ut_plain.proofs.BoolLemmas.{and_left, and_right}
 use Rattle.ut_l2.specs.KeyRows.{keyed, key_at}
-use Rattle.ut_scan.specs.declared.place.ColumnPred.{ColumnPred}
+use Rattle.ut_key.specs.declared.comparison.ColumnPred.{ColumnPred}
 use Rattle.ut_scan.specs.Finds.{passes}
-use Rattle.ut_names.specs.Compiled.{column_pred, Compiles}
+use Rattle.ut_plain.specs.Compiled.{column_pred, Compiles}
 use Rattle.ut_table.specs.Kept.{IsRow}
 
 -- the place of the first element that passes, if one does

@@ -18,13 +18,13 @@ use Rattle.ut_stamps.specs.declared.place.Place.{Place}
 use Rattle.ut_stamps.specs.declared.place.Place.TheVariants.{L1, L2, Closed, Main}
 use Rattle.ut_stamps.specs.Stamps.{sees}
 use Rattle.ut_l2.specs.KeyRows.{KeyRow, no_row}
-use Rattle.ut_scan.specs.declared.place.ColumnPred.{ColumnPred}
+use Rattle.ut_key.specs.declared.comparison.ColumnPred.{ColumnPred}
 use Rattle.ut_scan.specs.declared.place.Found.{Found}
 use Rattle.ut_scan.specs.Finds.{passes, found_at, is_hit, found_in}
 use Rattle.ut_stamps.specs.StampLists.{no_stamp}
 use Rattle.ut_exact.specs.Places.{StagedRow}
 use Rattle.ut_exact.specs.Scan.{IsScan}
-use Rattle.ut_names.specs.Compiled.{Compiles}
+use Rattle.ut_plain.specs.Compiled.{Compiles}
 use Rattle.ut_table.specs.Decoded.{decoded_row}
 use Rattle.ut_table.specs.Contents.{held}
 use Rattle.ut_table.specs.Finds.{SeenOnce, Finds, hits_of, AreThere}

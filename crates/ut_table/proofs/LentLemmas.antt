@@ -9,14 +9,14 @@ use Rattle.ut_stamps.specs.declared.fates.Fate.{Fate}
 use Rattle.ut_l2.specs.KeyRows.{keyed}
 use Rattle.ut_l2.specs.Delta.{Delta}
 use Rattle.ut_main.specs.Parts.{MainValue}
-use Rattle.ut_scan.specs.declared.place.ColumnPred.{ColumnPred}
+use Rattle.ut_key.specs.declared.comparison.ColumnPred.{ColumnPred}
 use Rattle.ut_scan.specs.declared.place.Found.{Found}
 use Rattle.ut_scan.specs.declared.stages.Stages.{Stages}
 use Rattle.ut_stamps.specs.StampLists.{StampLists}
 use Rattle.ut_scan.specs.StageRows.{AreStamped, rows_in, found_in_parts, found_outside, found_rows, asked_for}
 use Rattle.ut_scan.specs.Tallies.{Tallies}
 use Rattle.ut_staged.specs.Staged.{Staged}
-use Rattle.ut_names.specs.Compiled.{Compiles}
+use Rattle.ut_plain.specs.Compiled.{Compiles}
 use Rattle.ut_table.specs.Contents.{Contents, PendingValue}
 use Rattle.ut_table.specs.Finds.{SeenOnce, Counts, Finds}
 use Rattle.ut_table.specs.Lent.{AreLent}

@@ -6,6 +6,8 @@ pub mod RestampLemmas
 pub mod EndLemmas
 pub mod FilledLemmas
 pub mod ReadLemmas
+pub mod StageLemmas
+mod CopyLemmas
 pub mod CloseLemmas
 pub mod ResortedLemmas
 pub mod SwitchLemmas

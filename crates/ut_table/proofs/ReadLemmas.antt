@@ -6,6 +6,7 @@ use Rattle.std.specs.List.{list_all}
 use Rattle.std.proofs.lemmas.List.{length-map, get_or-map}
 use Rattle.std.proofs.lemmas.List.Elements.{All-get_or}
 use Rattle.ut_value.specs.declared.value.Row.{Row}
+use Rattle.ut_value.specs.declared.value.Column.{Column}
 use Rattle.ut_value.specs.KeyBytes.{is_value}
 use Rattle.ut_plain.specs.Tables.{fits_columns}
 use Rattle.ut_stamps.specs.declared.place.Place.{Place}
@@ -19,7 +20,7 @@ use Rattle.ut_main.proofs.MainLemmas.{length-dicts_behind}
 use Rattle.ut_staged.specs.Staged.{Staged, row_at, count_of}
 use Rattle.ut_table.specs.Decoded.{decoded_keys, decoded_row}
 use Rattle.ut_table.specs.Contents.{Contents, PendingValue, closed_rows, held, staged}
-use Rattle.ut_table.specs.Kept.{IsRow, IsTable, HoldsRow}
+use Rattle.ut_table.specs.Kept.{IsRow, IsTable, HoldsRow, IsStage}
 use Rattle.ut_table.proofs.DecodedLemmas.{fits-length, decoded_row-keyed}
 use Rattle.ut_table.proofs.StampedLemmas.{stamped_rows-length, held-length}
 use Rattle.ut_table.proofs.PlaceLemmas.{key_rows, number_of, key_row_at, read_at, part-there, closed-lengths, stamps-place, row-held, place-within, is-read}
@@ -117,6 +118,10 @@ module _ {t : Contents} (h : IsTable t) {s : Staged} (view : staged t ≡ s) whe
   part-values p n i part row same rows e = ap (λ (rs : List KeyRow). decoded_keys s.columns (get_or rs i no_row).keys) rows ∙ held-values p (Main n i) row same e
 
   -- ---- rows that are to enter
+
+  -- the second stage is one under the table's columns
+  pub l2-stage : (columns : List Column) (d : Delta) → columns ≡ t.columns → d ≡ t.l2 → IsStage columns d
+  l2-stage columns d same is = subst (λ cs. IsStage cs d) (sym same) (subst (IsStage t.columns) (sym is) (record { narrow = h.rows.narrow; wide = h.rows.l2_wide; rows = h.rows.l2 }))
 
   pub row-is : (row : Row) → IsTrue (fits_columns s.columns row.values) → IsTrue (list_all is_value row.values) → IsRow t.columns row
   row-is row fits kept = record { fits = subst (λ cs. IsTrue (fits_columns cs row.values)) (sym columns-are) fits; kept = kept }

@@ -12,11 +12,11 @@ use Rattle.ut_stamps.specs.declared.place.Place.{Place}
 use Rattle.ut_stamps.specs.declared.place.Place.TheVariants.{L1, L2, Closed, Main}
 use Rattle.ut_exact.specs.Places.{StagedRow}
 use Rattle.ut_l2.specs.KeyRows.{keyed}
-use Rattle.ut_scan.specs.declared.place.ColumnPred.{ColumnPred}
+use Rattle.ut_key.specs.declared.comparison.ColumnPred.{ColumnPred}
 use Rattle.ut_scan.specs.declared.place.Found.{Found}
 use Rattle.ut_scan.specs.StageRows.{StageRows, found_rows, found_in_part}
 use Rattle.ut_staged.specs.Staged.{Staged, row_at, row_in}
-use Rattle.ut_names.specs.Compiled.{Compiles}
+use Rattle.ut_plain.specs.Compiled.{Compiles}
 use Rattle.ut_table.specs.Contents.{Contents, PendingValue, closed_rows, stamped_rows, held, staged}
 use Rattle.ut_table.specs.Finds.{SeenOnce, Counts, Finds}
 use Rattle.ut_table.specs.Kept.{IsTable}

@@ -12,7 +12,7 @@ use Rattle.ut_stamps.specs.declared.visibility.Stamp.{Stamp}
 use Rattle.ut_stamps.specs.declared.place.Place.TheVariants.{Main}
 use Rattle.ut_exact.specs.Places.{StagedRow}
 use Rattle.ut_main.specs.Parts.{MainValue}
-use Rattle.ut_scan.specs.declared.place.ColumnPred.{ColumnPred}
+use Rattle.ut_key.specs.declared.comparison.ColumnPred.{ColumnPred}
 use Rattle.ut_scan.specs.declared.place.Found.{Found}
 use Rattle.ut_scan.specs.Coded.{keys_in}
 use Rattle.ut_scan.specs.Finds.{all_places, found_at, is_hit}
@@ -20,7 +20,7 @@ use Rattle.ut_scan.specs.StageRows.{found_in_part, found_in_parts, found_outside
 use Rattle.ut_scan.specs.Tallies.{key_in, Tallies}
 use Rattle.ut_scan.proofs.RangeLemmas.{range-within}
 use Rattle.ut_staged.specs.Staged.{Staged}
-use Rattle.ut_names.specs.Compiled.{Compiles}
+use Rattle.ut_plain.specs.Compiled.{Compiles}
 use Rattle.ut_table.specs.Coded.{no_column}
 use Rattle.ut_table.specs.Contents.{Contents, staged}
 use Rattle.ut_table.specs.Finds.{SeenOnce}

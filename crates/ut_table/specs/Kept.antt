@@ -6,6 +6,7 @@ use Rattle.ut_value.specs.declared.value.Column.{Column}
 use Rattle.ut_value.specs.declared.value.Row.{Row}
 use Rattle.ut_value.specs.KeyBytes.{is_value}
 use Rattle.ut_l2.specs.KeyRows.{KeyRow, keyed, no_row}
+use Rattle.ut_l2.specs.Delta.{Delta}
 use Rattle.ut_plain.specs.Tables.{fits_columns}
 use Rattle.ut_table.specs.Decoded.{decoded_row}
 use Rattle.ut_merge.specs.Jobs.{IsJob}
@@ -27,6 +28,12 @@ pub record HoldsRow (columns : List Column) (width : ℕ) (rows : List KeyRow) (
   pub wide : width ≡ length columns
   pub place : i < length rows
   pub held : IsHeld columns (get_or rows i no_row)
+
+-- a stage under these columns, whose rows stand for rows that fit them
+pub record IsStage (columns : List Column) (stage : Delta) : Type 0 where
+  pub narrow : length columns ≤ 64
+  pub wide : stage.width ≡ length columns
+  pub rows : All (IsHeld columns) stage.rows
 
 -- The rows of each stage stand for rows that fit the columns.
 pub record AreRows (t : Contents) : Type 0 where

@@ -5,6 +5,7 @@ pub mod Kept
 pub mod Standing
 pub mod Pending
 pub mod Places
+pub mod Outside
 pub mod Flags
 pub mod Lent
 pub mod Numbered

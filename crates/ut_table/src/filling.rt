@@ -9,7 +9,7 @@ ghost use Rattle.ut_table.specs.Filled.{HoldsParts, restamped};
 use crate::table::Table;
 use ut_main::Main;
 use ut_scan::Place;
-use ut_stamps::{Stamp, StampTable};
+use ut_stamps::{PartStamps, Stamp, StampTable};
 
 /// The stamps of parts. Takes no memory.
 fn push_parts(stamps: &mut StampTable, parts: Vec<Vec<Stamp>>)
@@ -19,6 +19,17 @@ fn push_parts(stamps: &mut StampTable, parts: Vec<Vec<Stamp>>)
 {
     for part in parts {
         stamps.push_part(part);
+    }
+}
+
+/// The same of stamps as they are held. Takes no memory.
+fn push_stamps(stamps: &mut StampTable, parts: Vec<PartStamps>)
+    requires empty { stamps.old.parts ≡ [] }
+    requires few { vec_len parts ≤ 8 }
+    ensures { stamps.new ≡ record stamps.old { parts = parts.items } }
+{
+    for part in parts {
+        stamps.push_stamps(part);
     }
 }
 
@@ -32,6 +43,18 @@ impl Table {
             → self.new.stages ≡ record self.old.stages { parts = parts } }
     {
         push_parts(&mut self.stamps, stamps);
+        self.main = main;
+    }
+
+    /// The same with stamps as they are held: those of a part that agree are no list.
+    pub fn load_parts(&mut self, main: Main, stamps: Vec<PartStamps>)
+        requires empty { self.old.stages.parts ≡ [] }
+        requires idle { self.old.stages.merge ≡ None }
+        requires holds { (parts : List (List StagedRow)) × HoldsParts self.old.stages.columns main stamps.items parts }
+        ensures { (parts : List (List StagedRow)) → HoldsParts self.old.stages.columns main stamps.items parts
+            → self.new.stages ≡ record self.old.stages { parts = parts } }
+    {
+        push_stamps(&mut self.stamps, stamps);
         self.main = main;
     }
 

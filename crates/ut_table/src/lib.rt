@@ -12,7 +12,11 @@ mod reading;
 mod scanning;
 mod shared;
 mod sizes;
+mod stage;
 mod standing;
 mod table;
+#[cfg(test)]
+mod tests;
 
+pub use stage::Stage;
 pub use table::Table;

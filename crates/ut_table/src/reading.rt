@@ -1,14 +1,18 @@
 //! What is read of a table: columns, stamps and values.
-ghost use Rattle.std.specs.Prelude.{◌≡◌, ◌<◌, length, slice_get, option_map, Some, IsSome, IfOk};
+ghost use Rattle.std.specs.Prelude.{◌≡◌, ◌<◌, ◌≤◌, ◌^◌, length, map, slice_get, option_map, Some, IsSome, IsTrue, IfOk};
 ghost use Rattle.ut_value.specs.declared.value.Value.{Value};
 ghost use Rattle.ut_value.specs.KeyBytes.{key_of};
+ghost use Rattle.ut_plain.specs.Tables.{fits_columns};
 ghost use Rattle.ut_exact.specs.Places.{StagedRow};
-ghost use Rattle.ut_staged.specs.Staged.{row_at};
+ghost use Rattle.ut_staged.specs.Staged.{row_at, count_of};
 ghost use Rattle.ut_table.specs.Contents.{PendingValue};
+ghost use Rattle.ut_table.specs.Filled.{row_of};
 ghost use Rattle.ut_table.specs.Lent.{AreLent};
+ghost use Rattle.ut_table.specs.Outside.{rows_in};
 ghost use Rattle.ut_table.specs.Standing.{values_held, Stands};
 
 use crate::pending::Pending;
+use crate::stage::Stage;
 use crate::standing::{Standing, key_of, value_of_row, values_of};
 use crate::table::Table;
 use std::alloc::{AllocError, Global};
@@ -16,7 +20,7 @@ use ut_key::Key;
 use ut_l2::L2;
 use ut_scan::{Place, Stages};
 use ut_stamps::Stamp;
-use ut_value::{Column, Seq, Value};
+use ut_value::{Column, Row, Seq, Value};
 
 /// The stage that a pending merge closed.
 fn closed_stage(pending: &Option<Pending>) -> Option<&L2>
@@ -56,6 +60,40 @@ impl Table {
         self.stamps.stamp(place)
     }
 
+    /// The stamps of a stage's rows.
+    pub fn stamps_in(&self, stage: Stage) -> &[Stamp]
+        ensures stamps { result.now ≡ map (λ (row : StagedRow). row.stamp) (rows_in stage self.now.stages) }
+        ensures few { count_of self.now.stages ≤ 2 ^ 31 }
+    {
+        let stages = self.stages();
+        match stage {
+            Stage::L1 => stages.stamps.l1(),
+            Stage::L2 => stages.stamps.l2(),
+            Stage::Closed => match stages.stamps.closed() {
+                Some(stamps) => stamps,
+                None => &[],
+            },
+        }
+    }
+
+    /// The id of the row in a place.
+    fn row_id(&self, place: Place) -> u32
+        requires { IsSome (row_at self.now.stages place) }
+        ensures id { (row : StagedRow) → row_at self.now.stages place ≡ Some row → result ≡ row.id }
+        ensures fits { (row : StagedRow) → row_at self.now.stages place ≡ Some row → IsTrue (fits_columns self.now.stages.columns row.values) }
+    {
+        let stages = self.stages();
+        match place {
+            Place::L1(i) => stages.l1.row(i).id,
+            Place::L2(i) => stages.l2.row_id(i),
+            Place::Closed(i) => match stages.closed {
+                Some(closed) => closed.row_id(i),
+                None => unreachable!(),
+            },
+            Place::Main(p, i) => stages.main.part(p).row_id(i),
+        }
+    }
+
     /// The row in a place, as its stage holds it.
     fn standing(&self, place: Place) -> Standing<'_>
         requires { IsSome (row_at self.now.stages place) }
@@ -79,6 +117,17 @@ impl Table {
         ensures { IfOk result (λ values. (row : StagedRow) → row_at self.now.stages place ≡ Some row → values ≡ row.values) }
     {
         values_of(alloc, self.columns(), self.standing(place))
+    }
+
+    /// A copy of the row in a place, which fits the columns.
+    pub fn row(&self, alloc: Global, place: Place) -> Result<Row, AllocError>
+        requires { IsSome (row_at self.now.stages place) }
+        ensures copy { IfOk result (λ copy. (row : StagedRow) → row_at self.now.stages place ≡ Some row → copy ≡ row_of row) }
+        ensures fits { (row : StagedRow) → row_at self.now.stages place ≡ Some row → IsTrue (fits_columns self.now.stages.columns row.values) }
+    {
+        let id = self.row_id(place);
+        let values = self.values(alloc, place)?;
+        Ok(Row { id, values })
     }
 
     /// A copy of one value of the row in a place.

@@ -1,7 +1,7 @@
 //! The scan of a table.
 ghost use Rattle.std.specs.Prelude.{◌<◌, ◌^◌, List, length, All, IfOk};
 ghost use Rattle.ut_plain.specs.declared.statement.Pred.{Pred};
-ghost use Rattle.ut_names.specs.Compiled.{Compiles};
+ghost use Rattle.ut_plain.specs.Compiled.{Compiles};
 ghost use Rattle.ut_table.specs.Finds.{SeenOnce, Counts, Finds};
 ghost use Rattle.ut_table.specs.Tallied.{Tallied};
 

@@ -1,18 +1,84 @@
-//! A second stage that a merge may share.
-ghost use Rattle.std.specs.Prelude.{◌≡◌, ◌+◌, ◌^◌, ◌<◌, ◌≤◌, ◌++◌, List, length, map, All, OnOk, OnErr};
+//! A second stage that a merge may share. Rows never wait for a share to be given back: where
+//! there is one, they go to a copy that takes the stage's place.
+ghost use Rattle.std.specs.Prelude.{◌≡◌, ◌+◌, ◌^◌, ◌<◌, ◌≤◌, ◌++◌, List, length, map, All, IfOk, OnOk, OnErr};
 ghost use Rattle.std.specs.Arc.{arc_value};
 ghost use Rattle.ut_value.specs.declared.value.Row.{Row};
 ghost use Rattle.ut_l2.specs.KeyRows.{keyed};
 ghost use Rattle.ut_l2.specs.Sources.{AreFlat};
+ghost use Rattle.ut_table.specs.Kept.{IsStage};
 
-use std::alloc::AllocError;
+use crate::standing::{Standing, values_of};
+use std::alloc::{AllocError, Global};
 use std::sync::Arc;
 use ut_l2::L2;
-use ut_value::{Row, Value};
+use ut_value::{Column, Row, Value};
 
-/// Appends all the rows, or none. A stage that is shared takes none: a merge that begins shares the
-/// stage and replaces it by another.
-pub(crate) fn append(l2: &mut Arc<L2>, rows: &[Row]) -> Result<(), AllocError>
+/// A copy of a stage, row by row.
+fn copied(alloc: Global, columns: &[Column], l2: &L2) -> Result<L2, AllocError>
+    requires { IsStage columns.now l2.now }
+    ensures { IfOk result (λ copy. copy ≡ l2.now) }
+{
+    let mut copy = L2::new(alloc, columns.len() as u8)?;
+    for i in 0..l2.len() {
+        let id = l2.row_id(i);
+        let values = values_of(alloc, columns, Standing::Delta(l2, i))?;
+        copy.append(&[Row { id, values }])?;
+    }
+    Ok(copy)
+}
+
+/// Appends the rows to a copy of the stage, which takes its place.
+fn append_to_copy(
+    alloc: Global,
+    columns: &[Column],
+    l2: &mut Arc<L2>,
+    rows: &[Row],
+) -> Result<(), AllocError>
+    requires stage { IsStage columns.now (arc_value l2.old) }
+    requires wide { All (λ r. length r.values ≡ (arc_value l2.old).width) rows.now }
+    requires count { length (arc_value l2.old).rows + length rows.now ≤ 2 ^ 31 }
+    ensures width { (arc_value l2.new).width ≡ (arc_value l2.old).width }
+    ensures ok { OnOk result ((arc_value l2.new).rows ≡ (arc_value l2.old).rows ++ map keyed rows.now) }
+    ensures err { OnErr result ((arc_value l2.new).rows ≡ (arc_value l2.old).rows) }
+{
+    let mut copy = copied(alloc, columns, l2)?;
+    copy.append(rows)?;
+    *l2 = Arc::new(alloc, copy)?;
+    Ok(())
+}
+
+/// The same of rows that these values are.
+fn append_values_to_copy(
+    alloc: Global,
+    columns: &[Column],
+    l2: &mut Arc<L2>,
+    first_id: u32,
+    values: &[Value],
+) -> Result<(), AllocError>
+    ghost rows: { List Row }
+    requires stage { IsStage columns.now (arc_value l2.old) }
+    requires are { AreFlat rows first_id (arc_value l2.old).width values.now }
+    requires width { 0 < (arc_value l2.old).width }
+    requires ids { first_id + length rows ≤ 2 ^ 32 }
+    requires count { length (arc_value l2.old).rows + length rows ≤ 2 ^ 31 }
+    ensures width { (arc_value l2.new).width ≡ (arc_value l2.old).width }
+    ensures ok { OnOk result ((arc_value l2.new).rows ≡ (arc_value l2.old).rows ++ map keyed rows) }
+    ensures err { OnErr result ((arc_value l2.new).rows ≡ (arc_value l2.old).rows) }
+{
+    let mut copy = copied(alloc, columns, l2)?;
+    copy.append_values(first_id, values)?;
+    *l2 = Arc::new(alloc, copy)?;
+    Ok(())
+}
+
+/// Appends all the rows, or none.
+pub(crate) fn append(
+    alloc: Global,
+    columns: &[Column],
+    l2: &mut Arc<L2>,
+    rows: &[Row],
+) -> Result<(), AllocError>
+    requires stage { IsStage columns.now (arc_value l2.old) }
     requires wide { All (λ r. length r.values ≡ (arc_value l2.old).width) rows.now }
     requires count { length (arc_value l2.old).rows + length rows.now ≤ 2 ^ 31 }
     ensures width { (arc_value l2.new).width ≡ (arc_value l2.old).width }
@@ -21,18 +87,20 @@ pub(crate) fn append(l2: &mut Arc<L2>, rows: &[Row]) -> Result<(), AllocError>
 {
     match Arc::get_mut(l2) {
         Some(l2) => l2.append(rows),
-        None => Err(AllocError),
+        None => append_to_copy(alloc, columns, l2, rows),
     }
 }
 
-/// Appends the rows that these values are, under the ids from one on, or none. A stage that is shared
-/// takes none.
+/// Appends the rows that these values are, under the ids from one on, or none.
 pub(crate) fn append_values(
+    alloc: Global,
+    columns: &[Column],
     l2: &mut Arc<L2>,
     first_id: u32,
     values: &[Value],
 ) -> Result<(), AllocError>
     ghost rows: { List Row }
+    requires stage { IsStage columns.now (arc_value l2.old) }
     requires are { AreFlat rows first_id (arc_value l2.old).width values.now }
     requires width { 0 < (arc_value l2.old).width }
     requires ids { first_id + length rows ≤ 2 ^ 32 }
@@ -43,6 +111,6 @@ pub(crate) fn append_values(
 {
     match Arc::get_mut(l2) {
         Some(l2) => l2.append_values(first_id, values),
-        None => Err(AllocError),
+        None => append_values_to_copy(alloc, columns, l2, first_id, values),
     }
 }

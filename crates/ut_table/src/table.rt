@@ -23,6 +23,7 @@ use ut_value::{Column, Row, Seq, Value, values_keep_rules};
 /// most 2^31 rows together.
 #[derive(Drop)]
 pub struct Table {
+    pub(crate) alloc: Global,
     pub(crate) columns: Seq<Column>,
     pub(crate) l1: L1,
     /// It has one owner until a merge shares it.
@@ -72,6 +73,7 @@ impl Table {
         let l2 = Arc::new(alloc, L2::new(alloc, count)?)?;
         let stamps = StampTable::new(alloc)?;
         Ok(Table {
+            alloc,
             columns,
             l1: L1::new(alloc),
             l2,
@@ -114,7 +116,7 @@ impl Table {
         rows_keep_rules(rows);
         let count = rows.len() as u32;
         self.stamps.room(0, count)?;
-        append(&mut self.l2, rows)?;
+        append(self.alloc, self.columns.as_slice(), &mut self.l2, rows)?;
         begin_all(&mut self.stamps, count, t);
         Ok(())
     }
@@ -134,7 +136,13 @@ impl Table {
         values_keep_rules(values);
         let count = (values.len() / self.columns.as_slice().len()) as u32;
         self.stamps.room(0, count)?;
-        append_values(&mut self.l2, first_id, values)?;
+        append_values(
+            self.alloc,
+            self.columns.as_slice(),
+            &mut self.l2,
+            first_id,
+            values,
+        )?;
         begin_all(&mut self.stamps, count, t);
         Ok(())
     }
@@ -156,7 +164,12 @@ impl Table {
     {
         let count = n.min(self.l1.len());
         self.stamps.room(0, count)?;
-        append(&mut self.l2, &self.l1.rows()[..count as usize])?;
+        append(
+            self.alloc,
+            self.columns.as_slice(),
+            &mut self.l2,
+            &self.l1.rows()[..count as usize],
+        )?;
         self.stamps.move_l1(count);
         self.l1.take_first(count);
         Ok(count)

@@ -1,6 +1,6 @@
 use Rattle.std.proofs.Common.{ℕ, List, ◌++◌, ◌∙◌, ap}
-use Rattle.ut_capture.specs.declared.place.Stage.TheVariants.{L1, L2, Closed}
-use Rattle.ut_capture.specs.Stages.{rows_in}
+use Rattle.ut_table.specs.declared.stage.Stage.TheVariants.{L1, L2, Closed}
+use Rattle.ut_table.specs.Outside.{rows_in}
 use Rattle.ut_capture.proofs.PlaceLemmas.{deltas-are, live-count}
 use Rattle.ut_capture.proofs.deltas.deltas.Goals as goal
 

@@ -2,7 +2,7 @@ use Rattle.std.proofs.Common.{◌≡◌, ◌++◌, take}
 use Rattle.std.specs.List.{flat_map}
 use Rattle.ut_image.specs.Bytes.{row_bytes}
 use Rattle.ut_capture.specs.Live.{live_rows}
-use Rattle.ut_capture.specs.Stages.{rows_in}
+use Rattle.ut_table.specs.Outside.{rows_in}
 use Rattle.ut_capture.proofs.deltas.put_live.Given as goal
 
 abbrev pub invariant-loop-i : goal.invariant-loop-i

@@ -2,7 +2,7 @@ use Rattle.std.proofs.Common.{◌≡◌, List, length}
 use Rattle.std.proofs.lemmas.Result.{IfOk-weaker}
 use Rattle.ut_plain.specs.declared.statement.Pred.{Pred}
 use Rattle.ut_scan.specs.StageRows.{asked_for}
-use Rattle.ut_names.specs.Compiled.{Compiles}
+use Rattle.ut_plain.specs.Compiled.{Compiles}
 use Rattle.ut_table.specs.Finds.{Counts}
 use Rattle.ut_table.proofs.LentLemmas.{lent-stamped, lent-columns, lent-counts}
 use Rattle.ut_table.proofs.table.Table.count.Goals as goal

@@ -5,8 +5,11 @@ use Rattle.ut_stamps.specs.StampLists.{StampLists}
 use Rattle.ut_staged.specs.Staged.{entered_l2, begun_row}
 use Rattle.ut_table.specs.Contents.{TableValue, closed_rows}
 use Rattle.ut_table.proofs.ChangeLemmas.{loaded-stages, loaded-kept}
-use Rattle.ut_table.proofs.ReadLemmas.{counts, rows-are, rows-wide}
+use Rattle.ut_table.proofs.ReadLemmas.{counts, rows-are, rows-wide, l2-stage}
 use Rattle.ut_table.proofs.table.Table.load.Goals as goal
+
+pub append-requires-clause-stage : goal.append-requires-clause-stage
+append-requires-clause-stage c = l2-stage c.self.invariant (ap (λ (v : TableValue). v.stages) c.self.view_is) c.as_slice.result.now (arc_value c.self.inside.l2) c.as_slice.ensures refl
 
 pub append-requires-clause-wide : goal.append-requires-clause-wide
 append-requires-clause-wide c =

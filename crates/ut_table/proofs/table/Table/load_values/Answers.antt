@@ -9,7 +9,7 @@ use Rattle.ut_l2.specs.Sources.{AreFlat}
 use Rattle.ut_l2.proofs.SourceLemmas.{flat-count}
 use Rattle.ut_table.specs.Contents.{TableValue, closed_rows}
 use Rattle.ut_table.proofs.ChangeLemmas.{loaded-stages, loaded-kept}
-use Rattle.ut_table.proofs.ReadLemmas.{counts, rows-are, columns-are}
+use Rattle.ut_table.proofs.ReadLemmas.{counts, rows-are, columns-are, l2-stage}
 use Rattle.ut_table.proofs.FlatLemmas.{flat-kept}
 use Rattle.ut_table.proofs.table.Table.load_values.Goals as goal
 
@@ -24,8 +24,11 @@ pub append_values-requires : goal.append_values-requires
 append_values-requires g c =
     let view = ap (λ (v : TableValue). v.stages) c.self.view_is in
     let w = ap length (sym (columns-are c.self.invariant view)) ∙ sym c.self.invariant.rows.l2_wide in (
-      subst (λ n. AreFlat g.rows c.args.first_id n c.args.values.now) w c.requires.0,
-      (omega (arith, w, c.requires.1.0), (c.requires.1.1.1.0, omega (arith, counts c.self.invariant view, c.requires.1.1.1.1))),
+      l2-stage c.self.invariant view c.as_slice-2.result.now (arc_value c.self.inside.l2) c.as_slice-2.ensures refl,
+      (
+        subst (λ n. AreFlat g.rows c.args.first_id n c.args.values.now) w c.requires.0,
+        (omega (arith, w, c.requires.1.0), (c.requires.1.1.1.0, omega (arith, counts c.self.invariant view, c.requires.1.1.1.1))),
+      ),
     )
 
 pub invariant_of-self-2 : goal.invariant_of-self-2

@@ -1,4 +1,4 @@
-use Rattle.std.proofs.Common.{◌≡◌, ◌∙◌, ◌≤◌, ◌++◌, length, map, take, drop, min, List, All, ap, sym, subst, arith}
+use Rattle.std.proofs.Common.{◌≡◌, ◌∙◌, ◌≤◌, ◌++◌, length, map, take, drop, min, List, All, refl, ap, sym, subst, arith}
 use Rattle.std.proofs.lemmas.List.Elements.{All-take}
 use Rattle.std.specs.Arc.{arc_value}
 use Rattle.ut_value.specs.declared.value.Row.{Row}
@@ -9,8 +9,11 @@ use Rattle.ut_staged.specs.Staged.{merged_l1}
 use Rattle.ut_table.specs.Contents.{TableValue}
 use Rattle.ut_table.specs.Kept.{IsRow}
 use Rattle.ut_table.proofs.ChangeLemmas.{merged-stages, merged-kept, merged_l1-min}
-use Rattle.ut_table.proofs.ReadLemmas.{l1-count, rows-wide}
+use Rattle.ut_table.proofs.ReadLemmas.{l1-count, rows-wide, l2-stage}
 use Rattle.ut_table.proofs.table.Table.merge_l1.Goals as goal
+
+pub append-requires-clause-stage : goal.append-requires-clause-stage
+append-requires-clause-stage c = l2-stage c.self.invariant (ap (λ (v : TableValue). v.stages) c.self.view_is) c.as_slice.result.now (arc_value c.self.inside.l2) c.as_slice.ensures refl
 
 pub append-requires-clause-wide : goal.append-requires-clause-wide
 append-requires-clause-wide c =

@@ -1,6 +1,6 @@
-use Rattle.ut_capture.proofs.PlaceLemmas.{few, l1-stamps, l2-stamps, closed-stamps}
 use Rattle.std.proofs.Common.{ap, unwrap_or, []}
-use Rattle.ut_capture.proofs.place.stamps_in.Goals as goal
+use Rattle.ut_table.proofs.StageLemmas.{few, l1-stamps, l2-stamps, closed-stamps}
+use Rattle.ut_table.proofs.table.Table.stamps_in.Goals as goal
 
 pub returns-in-L1-clause-stamps : goal.returns-in-L1-clause-stamps
 returns-in-L1-clause-stamps c = l1-stamps c.stages-stages.ensures c.args.stage c.l1.result.now c.in-L1.is c.l1.ensures

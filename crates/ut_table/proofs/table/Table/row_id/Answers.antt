@@ -1,7 +1,7 @@
 use Rattle.std.proofs.Common.{◌∙◌, ap}
 use Rattle.ut_main.specs.Parts.{PartValue}
-use Rattle.ut_capture.proofs.PlaceLemmas.{l1-there, l1-id, l2-there, l2-id, closed-of, closed-there, closed-id, main-there, part-there, part-id}
-use Rattle.ut_capture.proofs.place.id_in.Goals as goal
+use Rattle.ut_table.proofs.StageLemmas.{row-fits, l1-there, l1-id, l2-there, l2-id, closed-of, closed-there, closed-id, main-there, part-there, part-id}
+use Rattle.ut_table.proofs.table.Table.row_id.Goals as goal
 
 pub row-requires : goal.row-requires
 row-requires c = l1-there c.stages-stages.ensures c.args.place c.in-L1.i c.in-L1.is c.requires
@@ -22,18 +22,30 @@ row_id-requires-in-Main c =
     part-there c.stages-stages.ensures c.args.place c.in-Main.p c.in-Main.i c.deref.result.now c.in-Main.is
     (ap (λ (x : PartValue). x.rows) c.deref.ensures ∙ c.part.ensures.rows) (ap (λ (x : PartValue). x.before) c.deref.ensures ∙ c.part.ensures.before) c.requires
 
-pub returns-in-L1 : goal.returns-in-L1
-returns-in-L1 c = l1-id c.stages-stages.ensures c.args.place c.in-L1.i c.row.result.now c.in-L1.is c.row.ensures
+pub returns-in-L1-clause-id : goal.returns-in-L1-clause-id
+returns-in-L1-clause-id c = l1-id c.stages-stages.ensures c.args.place c.in-L1.i c.row.result.now c.in-L1.is c.row.ensures
 
-pub returns-in-L2 : goal.returns-in-L2
-returns-in-L2 c = l2-id c.stages-stages.ensures c.args.place c.in-L2.i c.row_id.result c.in-L2.is c.row_id.ensures
+pub returns-in-L2-clause-id : goal.returns-in-L2-clause-id
+returns-in-L2-clause-id c = l2-id c.stages-stages.ensures c.args.place c.in-L2.i c.row_id.result c.in-L2.is c.row_id.ensures
 
-pub returns-in-Some : goal.returns-in-Some
-returns-in-Some c =
+pub returns-in-Some-clause-id : goal.returns-in-Some-clause-id
+returns-in-Some-clause-id c =
     let q = closed-of (λ l. l.now) c.stages-stages.result.closed c.in-Some.closed c.stages-stages.ensures.table.pending c.in-Some.is c.stages-stages.ensures.closed in
     closed-id c.stages-stages.ensures c.args.place c.in-Closed.i c.row_id-in-Some.result q.0 c.in-Some.closed.now c.in-Closed.is q.1 q.2 c.row_id-in-Some.ensures
 
-pub returns-in-Main : goal.returns-in-Main
-returns-in-Main c =
+pub returns-in-Main-clause-id : goal.returns-in-Main-clause-id
+returns-in-Main-clause-id c =
     part-id c.stages-stages.ensures c.args.place c.in-Main.p c.in-Main.i c.row_id-in-Main.result c.deref.result.now c.in-Main.is
     (ap (λ (x : PartValue). x.rows) c.deref.ensures ∙ c.part.ensures.rows) c.row_id-in-Main.ensures
+
+pub returns-in-L1-clause-fits : goal.returns-in-L1-clause-fits
+returns-in-L1-clause-fits c = λ row at. (row-fits c.stages-stages.ensures c.args.place row at).fits
+
+pub returns-in-L2-clause-fits : goal.returns-in-L2-clause-fits
+returns-in-L2-clause-fits c = λ row at. (row-fits c.stages-stages.ensures c.args.place row at).fits
+
+pub returns-in-Some-clause-fits : goal.returns-in-Some-clause-fits
+returns-in-Some-clause-fits c = λ row at. (row-fits c.stages-stages.ensures c.args.place row at).fits
+
+pub returns-in-Main-clause-fits : goal.returns-in-Main-clause-fits
+returns-in-Main-clause-fits c = λ row at. (row-fits c.stages-stages.ensures c.args.place row at).fits

@@ -1,0 +1,5 @@
+pub mod ToldLemmas
+pub mod SightLemmas
+pub mod AnswerLaws
+pub mod ShotLemmas
+pub mod TakeLemmas

@@ -1,0 +1,4 @@
+pub mod Reads
+pub mod Shot
+pub mod Answered
+pub mod Laws

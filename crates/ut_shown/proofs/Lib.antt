@@ -1,0 +1,4 @@
+pub mod ListLemmas
+pub mod TableLemmas
+pub mod PushLemmas
+pub mod FilledLemmas
