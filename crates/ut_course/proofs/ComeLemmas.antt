@@ -26,7 +26,7 @@ use Rattle.ut_engine.specs.Runs.{Runs}
 use Rattle.ut_engine.specs.Serves.{Serves, IsAnswered, IsLost}
 use Rattle.ut_course.specs.Coming.{is_of, session_in, is_good, Came, Answered, Lost, KeepsJob, Comes}
 use Rattle.ut_course.proofs.KeepLemmas.{OnlyNow, still}
-use Rattle.ut_course.proofs.JobLemmas.{job_stays}
+use Rattle.ut_course.proofs.JobLemmas.{job_stays, job_lost}
 
 -- ---- the session of a line
 
@@ -89,8 +89,8 @@ came_by p before session st reply new after (inr l) =
     l.any_moment
 
 job_by : (old : Logged) (p : Plain) (before : View) (session : ℕ) (st : Statement) (reply : Reply) (new : Logged) (after : View) → Runs old before p → IsAnswered p before session st reply new after ⊎ IsLost p before session st reply new after → KeepsJob (Good session st) old new
-job_by old p before session st reply new after runs (inl a) = λ leaves up. job_stays old new before after p a.plain (Good session st) (record { session = Some session; reply = reply } ∷ []) runs a.runs (record { reply = reply; is = refl; may = a.may }) leaves
-job_by old p before session st reply new after runs (inr l) = λ leaves up. let down = l.down in cc
+job_by old p before session st reply new after runs (inl a) = λ leaves. job_stays old new before after p a.plain (Good session st) (record { session = Some session; reply = reply } ∷ []) runs a.runs (record { reply = reply; is = refl; may = a.may }) leaves
+job_by old p before session st reply new after runs (inr l) = λ leaves. job_lost old new before p session st runs l.stands leaves
 
 -- what the engine answers a statement of a session
 pub comes_statement : (old : Logged) (before : View) (session : ℕ) (st : Statement) (reply : Reply) (new : Logged) (after : View) → Serves old before session st reply new after → Comes old before (Good session st) (Some session) reply new after
@@ -100,6 +100,7 @@ comes_statement old before session st reply new after s = record {
   told = s.told;
   later = s.later;
   cause = s.cause;
+  still = s.still;
 }
 
 -- a good line of the session
@@ -115,10 +116,11 @@ comes_good old before line session n st reply new after is own s =
 comes_still : (e : Logged) (v : View) (line : Parsed) (who : Option ℕ) (reply : Reply) → OnlyNow v → (reply ≡ replies.DiskFault → ⊥) → ((p : Plain) → AnswersLine p line (record { session = who; reply = reply } ∷ []) p) → Comes e v line who reply e v
 comes_still e v line who reply only sound answers = record {
   each = λ p runs. Answered p sound (answers p) runs (still e v p only runs);
-  job = λ p runs leaves up. refl;
+  job = λ p runs leaves. refl;
   told = refl;
   later = omega arith;
   cause = λ is. absurd (sound is);
+  still = λ _. refl;
 }
 
 bad_line : (session : ℕ) (line : Parsed) → is_of session (session_in line) ≡ true → is_good line ≡ false → (p : Plain) → AnswersLine p line (record { session = Some session; reply = replies.Refused refusals.Syntax } ∷ []) p

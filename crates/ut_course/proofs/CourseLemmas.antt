@@ -55,11 +55,12 @@ module _ (p : Plain) (disk : View) (lines : List Parsed) (answers : List Answer)
   abbrev pub After : ℕ → Type 0
   After n = Course p disk (lines ++ line ∷ []) (answers ++ answer_now ∷ []) (acks ++ ack_now n ∷ []) now new
 
-  answered : (q r : Plain) → Runs old was q → Tells p lines answers (lengths_of acks) q → (IsTold disk → Holding disk was p.journal q.journal acks) → AnswersLine q line (answer_now ∷ []) r → Runs new now r → Keeps was now r.journal (journal_len q.journal)
+  answered : (q r : Plain) → Runs old was q → Tells p lines answers (lengths_of acks) q → (IsTold disk → Holding disk was p.journal q.journal acks) → AnswersLine q line (answer_now ∷ []) r → Runs new now r → Keeps was now r.journal (journal_len q.journal) → now.faults ≡ disk.faults
       → After (journal_len r.journal)
-  answered q r runs tells holding is runs' keeps =
+  answered q r runs tells holding is runs' keeps still =
       Goes r runs'
       (subst (λ (ns : List ℕ). Tells p (lines ++ line ∷ []) (answers ++ answer_now ∷ []) ns r) (sym (lengths_more acks (ack_now (journal_len r.journal)))) (tells_more p lines answers (lengths_of acks) q line (answer_now ∷ []) r tells is))
+      still
       (λ told.
       let h = holding told in
       holding_more disk was now p.journal q.journal r.journal acks (journal_len r.journal) (line_on q line (answer_now ∷ []) r is) same (omega arith) (λ c left. runs_whole new now r runs' (same ∙ h.told) c (only c left)) (keeps h.told) h)
@@ -89,14 +90,14 @@ module _ (p : Plain) (disk : View) (lines : List Parsed) (answers : List Answer)
       let on = fault_on q line (answer_now ∷ []) r faults in
       holding_more disk was now p.journal q.journal r.journal acks (journal_len q.journal) on same (no_shorter q.journal r.journal on) (λ c left. l.each c (counts was.moment c l.later (only c left))) l h)
 
-  by_came : (q : Plain) → Runs old was q → Tells p lines answers (lengths_of acks) q → (IsTold disk → Holding disk was p.journal q.journal acks) → (reply ≡ replies.DiskFault → Rose was.faults now.faults) → Came q line who was reply new now
+  by_came : (q : Plain) → Runs old was q → Tells p lines answers (lengths_of acks) q → (IsTold disk → Holding disk was p.journal q.journal acks) → (reply ≡ replies.DiskFault → Rose was.faults now.faults) → ((reply ≡ replies.DiskFault → ⊥) → now.faults ≡ disk.faults) → Came q line who was reply new now
       → After (length_after reply old.store.counts.entries new.store.counts.entries)
-  by_came q runs tells holding cause (Answered r sound is runs' keeps) =
-      subst (λ (n : ℕ). After n) (sym (length_by reply false old.store.counts.entries new.store.counts.entries (not_fault reply sound) ∙ runs'.stands.counts.entries)) (answered q r runs tells holding is runs' keeps)
-  by_came q runs tells holding cause (Lost r fault down faults keeps) =
+  by_came q runs tells holding cause still (Answered r sound is runs' keeps) =
+      subst (λ (n : ℕ). After n) (sym (length_by reply false old.store.counts.entries new.store.counts.entries (not_fault reply sound) ∙ runs'.stands.counts.entries)) (answered q r runs tells holding is runs' keeps (still sound))
+  by_came q runs tells holding cause still (Lost r fault down faults keeps) =
       subst (λ (n : ℕ). After n) (sym (length_by reply true old.store.counts.entries new.store.counts.entries (ap is_fault fault) ∙ runs.stands.counts.entries)) (lost q r tells holding down faults keeps (cause fault))
 
   -- a line more was answered, and its answer is acknowledged now
   pub course_more : old.down ≡ false → Comes old was line who reply new now → Course p disk lines answers acks was old → After (length_after reply old.store.counts.entries new.store.counts.entries)
-  course_more up comes (Goes q runs tells holding) = by_came q runs tells holding comes.cause (comes.each q runs)
+  course_more up comes (Goes q runs tells none holding) = by_came q runs tells holding comes.cause (λ sound. comes.still sound ∙ none) (comes.each q runs)
   course_more up comes (Failed journal q down told rose holding) = cc

@@ -31,7 +31,7 @@ use Rattle.ut_plain.specs.Made.{made}
 use Rattle.ut_plain.specs.Stages.{Stages, stages_at, no_stages}
 use Rattle.ut_plain.specs.Tables.{place_in}
 use Rattle.ut_plain.specs.View.{view}
-use Rattle.ut_plain.specs.Step.{step_by, effect_of, with_made, changed, committed, committed_by, is_bulk, MayAnswer, Steps, LacksMemory, save_written, save_sealed, save_flipped}
+use Rattle.ut_plain.specs.Step.{step, step_by, effect_of, with_made, changed, committed, committed_by, is_bulk, MayAnswer, Steps, LacksMemory, save_written, save_sealed, save_flipped}
 use Rattle.ut_plain.specs.Transcript.{Answer, AnswersLine}
 use Rattle.ut_plain.proofs.MainLemmas.{SameMain, same_itself, same-with_inserts, same-moved, same-created}
 use Rattle.ut_exact.specs.Places.{StagedRow}
@@ -45,7 +45,7 @@ use Rattle.ut_engine.specs.Logged.{Logged}
 use Rattle.ut_engine.specs.Runs.{Runs}
 use Rattle.ut_course.specs.Coming.{is_of_merge, asks_merge}
 use Rattle.ut_course.specs.Keeping.{GoesOn}
-use Rattle.ut_course.proofs.TellLemmas.{line_on}
+use Rattle.ut_course.proofs.TellLemmas.{step_on, line_on}
 
 -- ---- the job in the plain state
 
@@ -255,3 +255,10 @@ jobs_left p q is l on = by p.pending refl is.merges
 pub job_stays : (old new : Logged) (was now : View) (p q : Plain) (line : Parsed) (here : List Answer) → Runs old was p → Runs new now q → AnswersLine p line here q → asks_merge line ≡ false → pending_job new.store ≡ pending_job old.store
 job_stays old new was now p q line here runs runs' answers h =
     job_is new.store q runs'.stands ∙ jobs_left p q runs.stands.plain (leaves_line p line here q h answers) (line_on p line here q answers) ∙ sym (job_is old.store p runs.stands)
+
+-- of a store whose disk failed too, since its memory is that of the state after the statement
+pub job_lost : (old new : Logged) (was : View) (p : Plain) (session : ℕ) (st : Statement) → Runs old was p → StandsFor new.store (step p session st).plain → is_of_merge st ≡ false → pending_job new.store ≡ pending_job old.store
+job_lost old new was p session st runs stands h =
+    job_is new.store (step p session st).plain stands
+    ∙ jobs_left p (step p session st).plain runs.stands.plain (leaves_step (refusal (view p session) st) p session st h) (step_on p session st)
+    ∙ sym (job_is old.store p runs.stands)

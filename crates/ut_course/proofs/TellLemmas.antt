@@ -96,7 +96,7 @@ step_by_on : (why : Option Refusal) (p : Plain) (session : ℕ) (st : Statement)
 step_by_on (Some why) p session st = goes_nowhere p.journal
 step_by_on None p session st = effect_on p session st
 
-step_on : (p : Plain) (session : ℕ) (st : Statement) → GoesOn p.journal (step p session st).plain.journal
+pub step_on : (p : Plain) (session : ℕ) (st : Statement) → GoesOn p.journal (step p session st).plain.journal
 step_on p session st = step_by_on (refusal (view p session) st) p session st
 
 same_on : (p q : Plain) → q ≡ p → GoesOn p.journal q.journal

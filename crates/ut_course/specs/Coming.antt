@@ -58,9 +58,9 @@ pub data Came (p : Plain) (line : Parsed) (who : Option ℕ) (before : View) (re
       → Keeps before after q.journal (journal_len p.journal)
       → Came p line who before reply new after
 
--- the job of the pending merge stays, but where a merge begins or ends
+-- the job of the pending merge stays, whether the disk failed or not, but where a merge begins or ends
 abbrev pub KeepsJob : Parsed → Logged → Logged → Type 0
-KeepsJob line old new = asks_merge line ≡ false → new.down ≡ false → pending_job new.store ≡ pending_job old.store
+KeepsJob line old new = asks_merge line ≡ false → pending_job new.store ≡ pending_job old.store
 
 -- whatever plain state the store ran from
 pub record Comes
@@ -71,6 +71,8 @@ pub record Comes
   pub told : after.told ≡ before.told
   pub later : before.faults ≤ after.faults
   pub cause : reply ≡ DiskFault → Rose before.faults after.faults
+  -- a fault that was counted is told
+  pub still : (reply ≡ DiskFault → ⊥) → after.faults ≡ before.faults
 
 -- ---- the length that is acknowledged
 

@@ -5,6 +5,7 @@ ghost use Rattle.ut_plain.specs.Laws.{is_spelled_line};
 ghost use Rattle.ut_plain.specs.Spelled.{is_spelled};
 ghost use Rattle.ut_store.specs.Jobs.{pending_job};
 ghost use Rattle.ut_store.specs.Standing.{is_of_store};
+ghost use Rattle.ut_engine.specs.Merging.{EndsMerge};
 ghost use Rattle.ut_script.specs.Grammar.{parsed};
 ghost use Rattle.ut_course.specs.Coming.{Comes, is_of, session_in, length_after};
 
@@ -71,6 +72,8 @@ pub fn end_merge<D: Disk>(engine: &mut Engine<'_, D>, built: Built) -> Reply
     requires up { engine.old.store.down ≡ false }
     requires built { pending_job engine.old.store.store ≡ Some built }
     ensures comes { Comes engine.old.store (D.view engine.old.disk) (Parsed.Good 0 statements.MergeEnd) (Some 0) result engine.new.store (D.view engine.new.disk) }
+    // Its number, or that the disk failed: nothing else is wanting.
+    ensures ends { EndsMerge engine.old.store.store.counts.pending result }
     ensures loan { engine.new.loan ≡ engine.old.loan }
 {
     engine.merge_end(OPERATOR, built)

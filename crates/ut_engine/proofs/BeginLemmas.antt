@@ -221,28 +221,30 @@ begin_flip is = cc
 
 pub serves_begun : (old mid new : Logged) (before after : View) (session : ℕ) (reply : Reply) (root : Root) (s : Saving) → ((p : Plain) → Runs old before p → save_why p.phase statements.SaveBegin ≡ None) → IsCapturedRoot old root
     → ((p : Plain) → StandsFor old.store p → Plans root old.files.reached (captured_now p) s) → LeavesLog old before mid after → MayLeaveLog old before after → new ≡ record mid { saving = Some s } → reply ≡ told_of (progress_of new.saving)
-    → after.told ≡ before.told → before.faults ≤ after.faults → Serves old before session statements.SaveBegin reply new after
-serves_begun old mid new before after session reply root s none captured plans left may is is_told told later = record {
+    → after.told ≡ before.told → after.faults ≡ before.faults → Serves old before session statements.SaveBegin reply new after
+serves_begun old mid new before after session reply root s none captured plans left may is is_told told same = record {
   each = λ p runs. inl (begun_answer old before session p runs (none p runs) root captured s (plans p runs.stands) after mid new reply left is may is_told);
   keeps = λ p runs other t. to_root before after p.journal (journal_len p.journal) old p runs (begin_run old before session p runs (none p runs) after may t);
   selects = λ p runs flip. absurd (begin_flip flip);
   told = told;
-  later = later;
+  later = omega (arith, same);
   cause = λ fault. absurd (told_sound new.saving (sym is_told ∙ fault));
+  still = λ _. same;
 }
 
 pub serves_unbegun : (old new : Logged) (before after : View) (session : ℕ) (reply : Reply) (root : Root) (s : Saving) → ((p : Plain) → Runs old before p → save_why p.phase statements.SaveBegin ≡ None) → IsCapturedRoot old root
-    → ((p : Plain) → StandsFor old.store p → Plans root old.files.reached (captured_now p) s) → MayLeaveLog old before after → reply ≡ replies.DiskFault → new.down ≡ true
+    → ((p : Plain) → StandsFor old.store p → Plans root old.files.reached (captured_now p) s) → MayLeaveLog old before after → reply ≡ replies.DiskFault → new.down ≡ true → new.store ≡ old.store
     → after.told ≡ before.told → before.faults ≤ after.faults → Rose before.faults after.faults → Serves old before session statements.SaveBegin reply new after
-serves_unbegun old new before after session reply root s none captured plans may fault down told later rose = subst (λ (r : Reply). Serves old before session statements.SaveBegin r new after) (sym fault) (record {
+serves_unbegun old new before after session reply root s none captured plans may fault down kept told later rose = subst (λ (r : Reply). Serves old before session statements.SaveBegin r new after) (sym fault) (record {
   each = λ p runs. inr (lost_save old new before after session statements.SaveBegin p refl
-      (may_fault p session statements.SaveBegin refl (none p runs) (has_pages old before p runs root captured s (plans p runs.stands) session) refl) down
+      (may_fault p session statements.SaveBegin refl (none p runs) (has_pages old before p runs root captured s (plans p runs.stands) session) refl) runs.stands down kept
       (λ t. to_prefix before after p.journal (journal_len p.journal) old p runs (begin_run old before session p runs (none p runs) after may t)));
   keeps = λ p runs other t. to_root before after p.journal (journal_len p.journal) old p runs (begin_run old before session p runs (none p runs) after may t);
   selects = λ p runs flip. absurd (begin_flip flip);
   told = told;
   later = later;
   cause = λ _. rose;
+  still = λ sound. absurd (sound refl);
 })
 
 -- ---- where there are no numbers for its pages

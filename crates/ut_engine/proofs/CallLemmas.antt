@@ -60,14 +60,14 @@ step_flip n is = cc
 seal_flip : statements.SaveSeal ≡ statements.SaveFlip → ⊥
 seal_flip is = cc
 
-pub serves_unwritten : (old new : Logged) (before after : View) (session n : ℕ) (reply : Reply) → ((p : Plain) → Runs old before p → save_why p.phase (statements.SaveStep n) ≡ None) → Stays old.files before after → reply ≡ replies.DiskFault → new.down ≡ true
+pub serves_unwritten : (old new : Logged) (before after : View) (session n : ℕ) (reply : Reply) → ((p : Plain) → Runs old before p → save_why p.phase (statements.SaveStep n) ≡ None) → Stays old.files before after → reply ≡ replies.DiskFault → new.down ≡ true → new.store ≡ old.store
     → after.told ≡ before.told → before.faults ≤ after.faults → Rose before.faults after.faults → Serves old before session (statements.SaveStep n) reply new after
-serves_unwritten old new before after session n reply none stays fault down told later rose =
+serves_unwritten old new before after session n reply none stays fault down kept told later rose =
     subst (λ (r : Reply). Serves old before session (statements.SaveStep n) r new after) (sym fault)
-    (serves_lost old new before after session (statements.SaveStep n) refl (step_flip n) (λ p runs. may_fault p session (statements.SaveStep n) refl (none p runs) refl refl) stays down told later rose)
+    (serves_lost old new before after session (statements.SaveStep n) refl (step_flip n) (λ p runs. may_fault p session (statements.SaveStep n) refl (none p runs) refl refl) stays down kept told later rose)
 
-pub serves_unsealed : (old new : Logged) (before after : View) (session : ℕ) (reply : Reply) → ((p : Plain) → Runs old before p → save_why p.phase statements.SaveSeal ≡ None) → Stays old.files before after → reply ≡ replies.DiskFault → new.down ≡ true
+pub serves_unsealed : (old new : Logged) (before after : View) (session : ℕ) (reply : Reply) → ((p : Plain) → Runs old before p → save_why p.phase statements.SaveSeal ≡ None) → Stays old.files before after → reply ≡ replies.DiskFault → new.down ≡ true → new.store ≡ old.store
     → after.told ≡ before.told → before.faults ≤ after.faults → Rose before.faults after.faults → Serves old before session statements.SaveSeal reply new after
-serves_unsealed old new before after session reply none stays fault down told later rose =
+serves_unsealed old new before after session reply none stays fault down kept told later rose =
     subst (λ (r : Reply). Serves old before session statements.SaveSeal r new after) (sym fault)
-    (serves_lost old new before after session statements.SaveSeal refl seal_flip (λ p runs. may_fault p session statements.SaveSeal refl (none p runs) refl refl) stays down told later rose)
+    (serves_lost old new before after session statements.SaveSeal refl seal_flip (λ p runs. may_fault p session statements.SaveSeal refl (none p runs) refl refl) stays down kept told later rose)

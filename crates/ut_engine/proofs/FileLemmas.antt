@@ -12,6 +12,7 @@ use Rattle.ut_pages.specs.declared.root.Root.{Root}
 use Rattle.ut_pages.specs.declared.slot.Slot.{Slot}
 use Rattle.ut_redo.specs.Frames.{Holds}
 use Rattle.ut_redo.specs.Appends.{LogPlace}
+use Rattle.ut_redo.specs.Groups.{Log}
 use Rattle.ut_redo.specs.Logs.{IsLogFile, LogHolds}
 use Rattle.ut_redo.specs.declared.error.RedoError.{RedoError}
 use Rattle.ut_redo.specs.declared.error.RedoError.TheVariants as redo_errors
@@ -208,9 +209,9 @@ module _ (v0 v1 v2 v3 v4 : View) (r : IsRead v0 v1 v2 v3) (reads : ReadsOnly v3 
   same_seen : IsTold v4 → (c : Image) → v4.crash_states c → c ≡ v0.seen
   same_seen told c left = same_image c v0.seen (settled (told_0 told) c (r.made.no_more c (r.image.no_more c (reads.no_more c left))))
 
-  module _ (store : Held) (log : LogPlace) (next : Noted) (image : ReadImage) (entries : List Entry) (rows : ℕ) where
+  module _ (store : Held) (log : Log) (next : Noted) (image : ReadImage) (entries : List Entry) (rows : ℕ) where
     abbrev files : FilesHeld
-    files = record { log = log; slot = image.pages.slot; reached = image.pages.reached }
+    files = record { log = log.place; group = log.group; slot = image.pages.slot; reached = image.pages.reached }
 
     abbrev opened_logged : Logged
     opened_logged = record { store = store; files = files; begins = log_file image.root.file; saving = None; next = next; down = false }
@@ -218,7 +219,7 @@ module _ (v0 v1 v2 v3 v4 : View) (r : IsRead v0 v1 v2 v3) (reads : ReadsOnly v3 
     abbrev journal : State → Journal
     journal s = record { base = s; entries = entries }
 
-    module _ (reopened : (d : Directory) (s : State) → BeginsWith image.root image.tables image.mains d s → Reopened s d.stages entries rows store) (file : IsLogFile log.file) (small : log.end ≤ image.root.offset + length entries * 1073741829) (noted : NotedBehind image.root.next entries next) where
+    module _ (reopened : (d : Directory) (s : State) → BeginsWith image.root image.tables image.mains d s → Reopened s d.stages entries rows store) (file : IsLogFile log.place.file) (small : log.place.end ≤ image.root.offset + length entries * 1073741829) (noted : NotedBehind image.root.next entries next) where
       opened_runs : (d : Directory) (s : State) → BeginsWith image.root image.tables image.mains d s → IsStored (journal s) files image.root d None Idle v4
           → Runs opened_logged v4 (opened_store (opening_of d (length image.pages.reached)) (journal s) rows)
       opened_runs d s begins stored =
@@ -244,7 +245,7 @@ module _ (v0 v1 v2 v3 v4 : View) (r : IsRead v0 v1 v2 v3) (reads : ReadsOnly v3 
                 (opened_noted (opening_of d (length image.pages.reached)) (journal s) rows);
           }
 
-      module _ (found : IsTold v2 → (d : Directory) × IsImageIn image d v2.seen.pages) (held : IsTold v3 → LogHolds (place_of image.root) entries log v3.seen) where
+      module _ (found : IsTold v2 → (d : Directory) × IsImageIn image d v2.seen.pages) (held : IsTold v3 → LogHolds (place_of image.root) entries log.place v3.seen) where
         -- what is read of a disk that tells what it holds
         opens_told : IsTold v0 → Opens opened_logged rows v0 v4
         opens_told told =
@@ -255,7 +256,7 @@ module _ (v0 v1 v2 v3 v4 : View) (r : IsRead v0 v1 v2 v3) (reads : ReadsOnly v3 
             let begins : BeginsWith image.root image.tables image.mains d base.0 = record { rules = is.has.has.rules; shown = is.shown; directory = directory_rules image.pages.slot image.pages.reached image.root d v0.seen.pages is.has; base = base.1 } in
             let again = reopened d base.0 begins in
             let is_made = made_first v0 v1 v2 v3 r told in
-            let log_held = subst (LogHolds (place_of image.root) entries log) (seen_3 v0 v1 v2 v3 r) (held (told_3 v0 v1 v2 v3 r told)) in
+            let log_held = subst (LogHolds (place_of image.root) entries log.place) (seen_3 v0 v1 v2 v3 r) (held (told_3 v0 v1 v2 v3 r told)) in
             let stored = opened_is_stored (two v4 v4) (journal base.0) d files image.root v0.seen false is_made is.selected is.there is.has base.1 log_held again.may same_seen in
             record {
               journal = journal base.0;
@@ -263,7 +264,7 @@ module _ (v0 v1 v2 v3 v4 : View) (r : IsRead v0 v1 v2 v3) (reads : ReadsOnly v3 
               reached = image.pages.reached;
               runs = opened_runs d base.0 begins stored;
               said = λ _. record {
-                end = log;
+                end = log.place;
                 reading = record {
                   slot = image.pages.slot;
                   reached = image.pages.reached;

@@ -90,28 +90,30 @@ module _ (old : Logged) (before : View) (p : Plain) (runs : Runs old before p) (
         )
 
 pub serves_flipped : (old new : Logged) (before after : View) (session entries : ℕ) → ((p : Plain) → Runs old before p → save_why p.phase statements.SaveFlip ≡ None) → ((s : Saving) → old.saving ≡ Some s → SelectsRoot s old before entries new after)
-    → ((s : Saving) → old.saving ≡ Some s → MayFlip s.reached old.files before after) → after.told ≡ before.told → before.faults ≤ after.faults → Serves old before session statements.SaveFlip (replies.Root entries) new after
-serves_flipped old new before after session entries none selects may told later = record {
+    → ((s : Saving) → old.saving ≡ Some s → MayFlip s.reached old.files before after) → after.told ≡ before.told → after.faults ≡ before.faults → Serves old before session statements.SaveFlip (replies.Root entries) new after
+serves_flipped old new before after session entries none selects may told same = record {
   each = λ p runs. inl (flipped_answer old before p runs (none p runs) session new after entries selects may);
   keeps = λ p runs not_flip. absurd (not_flip refl);
   selects = λ p runs flip. flipped_selects old before p runs (none p runs) session new after entries selects;
   told = told;
-  later = later;
+  later = omega (arith, same);
   cause = λ fault. let no : replies.Root entries ≡ replies.DiskFault = fault in absurd (root_sound entries no);
+  still = λ _. same;
 }
   where
     root_sound : (n : ℕ) → replies.Root n ≡ replies.DiskFault → ⊥
     root_sound n is = cc
 
 pub serves_unflipped : (old new : Logged) (before after : View) (session : ℕ) (reply : Reply) → ((p : Plain) → Runs old before p → save_why p.phase statements.SaveFlip ≡ None) → ((s : Saving) → old.saving ≡ Some s → MayFlip s.reached old.files before after)
-    → reply ≡ replies.DiskFault → new.down ≡ true → after.told ≡ before.told → before.faults ≤ after.faults → Rose before.faults after.faults → Serves old before session statements.SaveFlip reply new after
-serves_unflipped old new before after session reply none may fault down told later rose = subst (λ (r : Reply). Serves old before session statements.SaveFlip r new after) (sym fault) (record {
-  each = λ p runs. inr (lost_save old new before after session statements.SaveFlip p refl (may_fault p session statements.SaveFlip refl (none p runs) refl refl) down (flip_run old before p runs (none p runs) after may));
+    → reply ≡ replies.DiskFault → new.down ≡ true → new.store ≡ old.store → after.told ≡ before.told → before.faults ≤ after.faults → Rose before.faults after.faults → Serves old before session statements.SaveFlip reply new after
+serves_unflipped old new before after session reply none may fault down kept told later rose = subst (λ (r : Reply). Serves old before session statements.SaveFlip r new after) (sym fault) (record {
+  each = λ p runs. inr (lost_save old new before after session statements.SaveFlip p refl (may_fault p session statements.SaveFlip refl (none p runs) refl refl) runs.stands down kept (flip_run old before p runs (none p runs) after may));
   keeps = λ p runs not_flip. absurd (not_flip refl);
   selects = λ p runs flip. selects_none p.phase replies.DiskFault new after (λ n is. no_root n is);
   told = told;
   later = later;
   cause = λ _. rose;
+  still = λ sound. absurd (sound refl);
 })
   where
     no_root : (n : ℕ) → replies.DiskFault ≡ replies.Root n → ⊥
@@ -138,6 +140,7 @@ serves_dropped old disk session only none = record {
   told = refl;
   later = omega arith;
   cause = λ fault. absurd (done_sound fault);
+  still = λ _. refl;
 }
   where
     done_sound : replies.Done ≡ replies.DiskFault → ⊥

@@ -9,6 +9,7 @@ pub mod SaveLemmas
 pub mod UnchangedLemmas
 pub mod PhaseLemmas
 pub mod PagesLemmas
+pub mod DownLemmas
 pub mod WriteLemmas
 pub mod FlipLemmas
 pub mod HeldByLemmas

@@ -1,5 +1,5 @@
--- What a running store answers to the begin of a merge, and when.
-use Rattle.std.proofs.Common.{◌≡◌, ◌⊎◌, ⊎_elim, ℕ, ◌+◌, ◌<◌, Bool, true, false, List, Option, None, Some, is_some, IsSome, Result, Ok, Err, IfOk, refl, sym, ◌∙◌, ap, subst, arith, IsTrue}
+-- What a running store answers to the begin of a merge, and when, and to its end.
+use Rattle.std.proofs.Common.{◌≡◌, ◌⊎◌, ⊎_elim, inl, inr, ℕ, ◌+◌, ◌<◌, Bool, true, false, List, Option, None, Some, is_some, IsSome, Result, Ok, Err, IfOk, refl, sym, ◌∙◌, ap, subst, arith, IsTrue}
 use Rattle.std.specs.Option.{option_map}
 use Rattle.ut_outside.specs.Disk.{View}
 use Rattle.ut_value.specs.declared.entry.MergeKind.{MergeKind}
@@ -25,7 +25,7 @@ use Rattle.ut_plain.proofs.JournalLaws.{journal_len-appended}
 use Rattle.ut_merge.specs.Jobs.{JobValue}
 use Rattle.ut_staged.proofs.ListLemmas.{some_same}
 use Rattle.ut_store.specs.declared.response.Response.{Response}
-use Rattle.ut_store.specs.declared.response.Response.TheVariants.{Answered}
+use Rattle.ut_store.specs.declared.response.Response.TheVariants.{Answered, Append}
 use Rattle.ut_store.specs.Held.{Held}
 use Rattle.ut_store.specs.Stands.{StandsFor}
 use Rattle.ut_store.specs.Answers.{Answers}
@@ -36,7 +36,7 @@ use Rattle.ut_engine.specs.declared.error.BeginError.{BeginError}
 use Rattle.ut_engine.specs.declared.error.BeginError.TheVariants as errors
 use Rattle.ut_engine.specs.Handing.{Concludes, HandsOut, AtOnce, Logs, Fails}
 use Rattle.ut_engine.specs.Logged.{Logged}
-use Rattle.ut_engine.specs.Merging.{begin_reply, is_fault, HasReason, Tells, BringsJob}
+use Rattle.ut_engine.specs.Merging.{begin_reply, is_fault, HasReason, Tells, BringsJob, EndsMerge}
 use Rattle.ut_engine.specs.Runs.{Runs}
 use Rattle.ut_engine.specs.Serves.{Serves, IsAnswered, IsLost}
 use Rattle.ut_engine.proofs.StagingLemmas.{or_none}
@@ -109,7 +109,7 @@ not_merge n e = cc
 
 brought : (old new : Logged) (store : Held) (response : Response) (before after : View) (session : ℕ) (name : List ℕ) (kind : MergeKind) (n : ℕ) (reply : Reply) (job : Option JobValue) (p : Plain) → StandsFor old.store p → Answers old.store session (MergeBegin name kind) response store
     → jobs.HandsOut (MergeBegin name kind) response job store → reply ≡ replies.Merge n → HandsOut response (record old { store = store }) before reply new after → IsSome job × (job ≡ pending_job new.store)
-brought old new store response before after session name kind n reply job p stands answers hands is (AtOnce said same reads) =
+brought old new store response before after session name kind n reply job p stands answers hands is (AtOnce said same reads none) =
     let st = MergeBegin name kind in
     let begun = subst (λ (t : Response). Answers old.store session st t store) (said ∙ ap Answered is) answers in
     let answer = begun.each p stands in
@@ -186,6 +186,20 @@ merge_told reply job n j has is here = by has.0 has.1
     by (Err errors.Full) tells = let no = tells.0 ∙ is in cc
     by (Err errors.Memory) tells = let no = tells.0 ∙ is in cc
     by (Err errors.Disk) tells = let no = tells.0 ∙ is in cc
+
+-- ---- the end of a merge
+
+-- the response in memory is to append the number of the pending merge, and that is handed out, or the disk failed
+merge_ends : (pending : Option PendingMerge) (response : Response) (old new : Logged) (before after : View) (reply : Reply) → option_map (λ (m : PendingMerge). Append (replies.Merge m.number)) pending ≡ Some response
+    → HandsOut response old before reply new after → EndsMerge pending reply
+merge_ends None response old new before after reply is hands = cc
+merge_ends (Some m) response old new before after reply is (AtOnce said same reads none) = cc
+merge_ends (Some m) response old new before after reply is (Logs said same moments done) = let told : replies.Merge m.number ≡ reply = cc in inl (ap Some told)
+merge_ends (Some m) response old new before after reply is (Fails kept said fault gone moments failed) = inr fault
+
+pub merge_concluded : (pending : Option PendingMerge) (response : Response) (session first : ℕ) (st : Statement) (old new : Logged) (before after : View) (reply : Reply) → option_map (λ (m : PendingMerge). Append (replies.Merge m.number)) pending ≡ Some response
+    → Concludes response session st first old before reply new after → EndsMerge pending reply
+merge_concluded pending response session first st old new before after reply is done = merge_ends pending response old done.handed before after reply is done.hands
 
 -- ---- its reason
 

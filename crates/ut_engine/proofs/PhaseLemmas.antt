@@ -53,7 +53,7 @@ module _ (e : Logged) (disk : View) (p : Plain) (runs : Runs e disk p) where
   pub is_counted : IsCounted e.saving
   is_counted = by e.saving p.phase runs.stored.under_way runs.stands.plain.saving
     where
-      by : (saving : Option Saving) (phase : Phase) → IsSaving p.journal e.files runs.root disk saving phase → IsUnderWay p.journal p.opening phase → IsCounted saving
+      by : (saving : Option Saving) (phase : Phase) → IsSaving p.journal e.files runs.root disk saving phase → IsUnderWay p.journal phase → IsCounted saving
       by None phase is under = tt
       by (Some s) Idle is under = absurd is
       by (Some s) (Writing b n q d) is under = let few = is.few in (λ _. few, omega (arith, under.numbered, is.pages))
@@ -119,7 +119,7 @@ module _ (j : Journal) (f : FilesHeld) (selected : Root) (disk : View) where
 abbrev pub in_phase : Plain → Phase → ℕ → Plain
 in_phase p phase pages = record p { phase = phase; root_pages = pages }
 
-stands_in : (e : Held) (p : Plain) (phase : Phase) (pages : ℕ) → IsPlain (in_phase p phase pages) → StandsFor e p → StandsFor e (in_phase p phase pages)
+pub stands_in : (e : Held) (p : Plain) (phase : Phase) (pages : ℕ) → IsPlain (in_phase p phase pages) → StandsFor e p → StandsFor e (in_phase p phase pages)
 stands_in e p phase pages plain stands =
     let c = stands.counts in
     let s = stands.seats in

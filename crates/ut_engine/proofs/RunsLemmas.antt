@@ -167,12 +167,13 @@ module _ (old : Logged) (before after : View) (session : ℕ) (low : session < 1
         }
 
     -- the disk failed
-    fails : (new : Logged) → new.down ≡ true → IsLost p before session st DiskFault new after
-    fails new down =
+    fails : (new : Logged) → new.down ≡ true → new.store ≡ store → IsLost p before session st DiskFault new after
+    fails new down kept =
         let same = step_adds p session st reply answer.after entry answer.may next in
         record {
           fault = refl;
           down = down;
+          stands = subst (λ (x : Plain). StandsFor new.store x) same (subst (λ (e : Held). StandsFor e answer.after) (sym kept) answer.stands);
           may = fault-appends p session st (omega (arith, journal_len-appended p.journal entry, ap journal_len next, ap (λ (x : Plain). journal_len x.journal) same));
           any_moment = λ told. subst (λ (x : Plain). LeavesOnly before after (HoldsPrefix x.journal (journal_len p.journal))) same (leaves_all told);
         }
@@ -183,14 +184,15 @@ not_flip : (st : Statement) → is_save st ≡ false → st ≡ SaveFlip → ⊥
 not_flip st served is = let no : true ≡ false = ap is_save (sym is) ∙ served in cc
 
 module _ (old : Logged) (before after : View) (session : ℕ) (low : session < 17) (st : Statement) (served : is_save st ≡ false) (spelled : IsTrue (is_spelled st)) (store : Held) (reply : Reply) (some : Plain) (ran : Runs old before some) where
-  serves_stays : ReadsOnly before after → Answers old.store session st (Answered reply) store → Serves old before session st reply (record old { store = store; next = noted_by old session st reply store }) after
-  serves_stays reads answers = record {
+  serves_stays : ReadsOnly before after → after.faults ≡ before.faults → Answers old.store session st (Answered reply) store → Serves old before session st reply (record old { store = store; next = noted_by old session st reply store }) after
+  serves_stays reads none answers = record {
     each = λ p runs. inl (stays old before after session low st served spelled store reply p runs reads (answers.each p runs.stands));
     keeps = λ p runs other told. to_root before after p.journal (journal_len p.journal) old p runs (read_leaves before after reads p.journal old.files runs.root runs.directory old.saving p.phase runs.stored told);
     selects = λ p runs flip. absurd (not_flip st served flip);
     told = reads.told;
     later = reads.faults;
     cause = λ fault. let answer = answers.each some ran.stands in absurd (answer_sound some session st reply answer.after answer.may fault);
+    still = λ _. none;
   }
 
   module _ (answers : Answers old.store session st (Append reply) store) (moments : MayGain store.frame old.files before after) where
@@ -205,32 +207,34 @@ module _ (old : Logged) (before after : View) (session : ℕ) (low : session < 1
       keeps = λ p runs other. keeps_root p runs;
       selects = λ p runs flip. absurd (not_flip st served flip);
       told = done.told;
-      later = done.later;
+      later = let same = done.still in omega (arith, same);
       cause = λ fault. let answer = answers.each some ran.stands in absurd (answer_sound some session st reply answer.after answer.may fault);
+      still = λ _. done.still;
     }
 
-    serves_fails : (new : Logged) → new.down ≡ true → NotAppended before after → Serves old before session st DiskFault new after
-    serves_fails new down failed = record {
-      each = λ p runs. inr (fails old before after session low st served spelled store reply p runs (answers.each p runs.stands) moments new down);
+    serves_fails : (new : Logged) → new.down ≡ true → new.store ≡ store → NotAppended before after → Serves old before session st DiskFault new after
+    serves_fails new down kept failed = record {
+      each = λ p runs. inr (fails old before after session low st served spelled store reply p runs (answers.each p runs.stands) moments new down kept);
       keeps = λ p runs other. keeps_root p runs;
       selects = λ p runs flip. absurd (not_flip st served flip);
       told = failed.told;
       later = failed.later;
       cause = λ _. failed.rose;
+      still = λ sound. absurd (sound refl);
     }
 
 -- the store does its work in memory, then hands out the reply, and notes the next id
 serves_handed : (old mid : Logged) (store : Held) (response : Response) (before after : View) (session : ℕ) (st : Statement) (reply : Reply) → session < 17 → is_save st ≡ false → IsTrue (is_spelled st) → (p : Plain) → Runs old before p → Answers old.store session st response store
     → HandsOut response (record old { store = store }) before reply mid after → Serves old before session st reply (with_noted mid old.store session st reply) after
-serves_handed old mid store response before after session st reply low served spelled p runs answers (AtOnce said same reads) =
+serves_handed old mid store response before after session st reply low served spelled p runs answers (AtOnce said same reads none) =
     subst (λ (e : Logged). Serves old before session st reply (with_noted e old.store session st reply) after) (sym same)
-    (serves_stays old before after session low st served spelled store reply p runs reads (subst (λ (t : Response). Answers old.store session st t store) said answers))
+    (serves_stays old before after session low st served spelled store reply p runs reads none (subst (λ (t : Response). Answers old.store session st t store) said answers))
 serves_handed old mid store response before after session st reply low served spelled p runs answers (Logs said same moments done) =
     subst (λ (e : Logged). Serves old before session st reply (with_noted e old.store session st reply) after) (sym same)
     (serves_grows old before after session low st served spelled store reply p runs (subst (λ (t : Response). Answers old.store session st t store) said answers) moments mid.files done)
-serves_handed old mid store response before after session st reply low served spelled p runs answers (Fails kept said fault down moments failed) =
+serves_handed old mid store response before after session st reply low served spelled p runs answers (Fails kept said fault gone moments failed) =
     subst (λ (r : Reply). Serves old before session st r (with_noted mid old.store session st reply) after) (sym fault)
-    (serves_fails old before after session low st served spelled store kept p runs (subst (λ (t : Response). Answers old.store session st t store) said answers) moments (with_noted mid old.store session st reply) down failed)
+    (serves_fails old before after session low st served spelled store kept p runs (subst (λ (t : Response). Answers old.store session st t store) said answers) moments (with_noted mid old.store session st reply) (ap (λ (e : Logged). e.down) gone) (ap (λ (e : Logged). e.store) gone) failed)
 
 -- the whole of it
 pub serves_concluded : (old new : Logged) (store : Held) (response : Response) (first : ℕ) (before after : View) (session : ℕ) (st : Statement) (reply : Reply) → session < 17 → is_save st ≡ false → IsTrue (is_spelled st) → (p : Plain) × Runs old before p → first ≡ old.store.counts.next_id

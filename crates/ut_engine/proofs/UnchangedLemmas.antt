@@ -43,6 +43,7 @@ serves_unchanged e disk session st reply only may sound no_root = record {
   told = refl;
   later = omega arith;
   cause = λ fault. absurd (sound fault);
+  still = λ _. refl;
 }
 
 -- a statement of the savepoint whose turn it isn't

@@ -21,11 +21,14 @@ use Rattle.ut_durable.specs.Moments.{Leaves}
 use Rattle.ut_durable.specs.Saving.{Saving, IsStored}
 use Rattle.ut_durable.proofs.MomentLemmas.{stay_leaves}
 use Rattle.ut_durable.proofs.SavingLemmas.{seal_is_stored}
+use Rattle.ut_store.specs.Held.{Held}
+use Rattle.ut_store.specs.Stands.{StandsFor}
 use Rattle.ut_engine.specs.Logged.{Logged}
 use Rattle.ut_engine.specs.Runs.{Runs, IsEven}
 use Rattle.ut_engine.specs.Savepoints.{progress_of, told_of}
 use Rattle.ut_engine.specs.Saves.{more, pages_left, with_root, MayGoOn, Goes, Seals}
 use Rattle.ut_engine.specs.Serves.{IsAnswered, IsLost, Serves}
+use Rattle.ut_engine.proofs.DownLemmas.{saved_stands}
 use Rattle.ut_engine.proofs.PhaseLemmas.{writing_now, all_written, in_phase, runs_on}
 use Rattle.ut_engine.proofs.RunsLemmas.{to_prefix, to_root}
 use Rattle.ut_engine.proofs.SaveLemmas.{carried_out, step_journal}
@@ -47,11 +50,12 @@ pub stays_leaves : (old : Logged) (before after : View) (p : Plain) (runs : Runs
 stays_leaves old before after p runs stays told = stay_leaves (two before after) p.journal old.files runs.root runs.directory old.saving p.phase false true stays runs.stored told
 
 -- the disk failed
-pub lost_save : (old new : Logged) (before after : View) (session : ℕ) (st : Statement) (p : Plain) → IsTrue (is_save st) → MayFault p session st → new.down ≡ true
+pub lost_save : (old new : Logged) (before after : View) (session : ℕ) (st : Statement) (p : Plain) → IsTrue (is_save st) → MayFault p session st → StandsFor old.store p → new.down ≡ true → new.store ≡ old.store
     → (IsTold before → LeavesOnly before after (HoldsPrefix p.journal (journal_len p.journal))) → IsLost p before session st replies.DiskFault new after
-lost_save old new before after session st p save may down run = record {
+lost_save old new before after session st p save may stands down kept run = record {
   fault = refl;
   down = down;
+  stands = subst (λ (e : Held). StandsFor e (step p session st).plain) (sym kept) (saved_stands old.store p stands session st save);
   may = may;
   any_moment = λ told. subst (λ (j : Journal). LeavesOnly before after (HoldsPrefix j (journal_len p.journal))) (sym (step_journal p session st save)) (run told);
 }
@@ -112,14 +116,15 @@ module _ (old : Logged) (before : View) (session n : ℕ) (p : Plain) (runs : Ru
       }
 
 pub serves_written : (old new : Logged) (before after : View) (session n : ℕ) (reply : Reply) → ((p : Plain) → Runs old before p → save_why p.phase (statements.SaveStep n) ≡ None) → Goes (min n (pages_left old.saving)) old before new after
-    → Stays old.files before after → reply ≡ told_of (progress_of new.saving) → after.told ≡ before.told → before.faults ≤ after.faults → Serves old before session (statements.SaveStep n) reply new after
-serves_written old new before after session n reply none goes stays is_told told later = record {
+    → Stays old.files before after → reply ≡ told_of (progress_of new.saving) → after.told ≡ before.told → after.faults ≡ before.faults → Serves old before session (statements.SaveStep n) reply new after
+serves_written old new before after session n reply none goes stays is_told told same = record {
   each = λ p runs. inl (written_answer old before session n p runs (none p runs) new after reply goes stays is_told);
   keeps = λ p runs other t. to_root before after p.journal (journal_len p.journal) old p runs (stays_leaves old before after p runs stays t);
   selects = λ p runs flip. absurd (step_flip n flip);
   told = told;
-  later = later;
+  later = omega (arith, same);
   cause = λ fault. absurd (told_sound new.saving (sym is_told ∙ fault));
+  still = λ _. same;
 }
   where
     step_flip : (n : ℕ) → statements.SaveStep n ≡ statements.SaveFlip → ⊥
@@ -127,15 +132,16 @@ serves_written old new before after session n reply none goes stays is_told told
 
 -- ---- a page or the root, where the disk failed
 
-pub serves_lost : (old new : Logged) (before after : View) (session : ℕ) (st : Statement) → IsTrue (is_save st) → (st ≡ statements.SaveFlip → ⊥) → ((p : Plain) → Runs old before p → MayFault p session st) → Stays old.files before after → new.down ≡ true
+pub serves_lost : (old new : Logged) (before after : View) (session : ℕ) (st : Statement) → IsTrue (is_save st) → (st ≡ statements.SaveFlip → ⊥) → ((p : Plain) → Runs old before p → MayFault p session st) → Stays old.files before after → new.down ≡ true → new.store ≡ old.store
     → after.told ≡ before.told → before.faults ≤ after.faults → Rose before.faults after.faults → Serves old before session st replies.DiskFault new after
-serves_lost old new before after session st save not_flip may stays down told later rose = record {
-  each = λ p runs. inr (lost_save old new before after session st p save (may p runs) down (λ t. to_prefix before after p.journal (journal_len p.journal) old p runs (stays_leaves old before after p runs stays t)));
+serves_lost old new before after session st save not_flip may stays down kept told later rose = record {
+  each = λ p runs. inr (lost_save old new before after session st p save (may p runs) runs.stands down kept (λ t. to_prefix before after p.journal (journal_len p.journal) old p runs (stays_leaves old before after p runs stays t)));
   keeps = λ p runs other t. to_root before after p.journal (journal_len p.journal) old p runs (stays_leaves old before after p runs stays t);
   selects = λ p runs flip. absurd (not_flip flip);
   told = told;
   later = later;
   cause = λ _. rose;
+  still = λ sound. absurd (sound refl);
 }
 
 -- ---- the root
@@ -183,12 +189,13 @@ module _ (old : Logged) (before : View) (session : ℕ) (p : Plain) (runs : Runs
       }
 
 pub serves_sealed : (old new : Logged) (before after : View) (session : ℕ) (reply : Reply) → ((p : Plain) → Runs old before p → save_why p.phase statements.SaveSeal ≡ None) → Seals old before new after → Stays old.files before after
-    → reply ≡ told_of (progress_of new.saving) → after.told ≡ before.told → before.faults ≤ after.faults → Serves old before session statements.SaveSeal reply new after
-serves_sealed old new before after session reply none seals stays is_told told later = record {
+    → reply ≡ told_of (progress_of new.saving) → after.told ≡ before.told → after.faults ≡ before.faults → Serves old before session statements.SaveSeal reply new after
+serves_sealed old new before after session reply none seals stays is_told told same = record {
   each = λ p runs. inl (sealed_answer old before session p runs (none p runs) new after reply seals stays is_told);
   keeps = λ p runs other t. to_root before after p.journal (journal_len p.journal) old p runs (stays_leaves old before after p runs stays t);
   selects = λ p runs flip. let no : statements.SaveSeal ≡ statements.SaveFlip = flip in cc;
   told = told;
-  later = later;
+  later = omega (arith, same);
   cause = λ fault. absurd (told_sound new.saving (sym is_told ∙ fault));
+  still = λ _. same;
 }

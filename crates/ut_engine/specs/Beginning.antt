@@ -1,6 +1,6 @@
 -- What a call answers that makes or opens a store over a disk, and what becomes of that disk.
 use base.Fml.{GName}
-use Rattle.std.specs.Prelude.{ℕ, ◌≡◌, ◌≤◌, Result, Ok, Err, IfOk, IsErrOf}
+use Rattle.std.specs.Prelude.{ℕ, ◌≡◌, ◌≤◌, Result, Ok, Err, IfOk, OnOk, IsErrOf}
 use Rattle.ut_outside.specs.Disk.{View, Image, IsTold}
 use Rattle.ut_outside.specs.Faults.{Rose}
 use Rattle.ut_outside.specs.Run.{Always, LeavesOnly, ReadsOnly}
@@ -47,6 +47,8 @@ pub record Makes (rows : ℕ) (before after : View) (answer : Result Logged Open
   pub any_moment : IsTold before → Always before (λ c. IsMade c.pages → ⊥) → LeavesOnly before after NotMadeOrEmpty
   pub told : after.told ≡ before.told
   pub later : before.faults ≤ after.faults
+  -- a fault that was counted is told
+  pub no_fault : OnOk answer (after.faults ≡ before.faults)
   pub still : IsStill after
 
 -- a store was to be opened with what its files say
@@ -58,4 +60,5 @@ pub record Reopens (rows : ℕ) (before after : View) (answer : Result Logged Op
   pub cause : IsErrOf answer errors.Disk → Rose before.faults after.faults
   pub others : IsErrOf answer errors.Made → ⊥
   pub reads : ReadsOnly before after
+  pub no_fault : OnOk answer (after.faults ≡ before.faults)
   pub still : IsStill after

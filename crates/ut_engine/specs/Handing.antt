@@ -26,7 +26,7 @@ pub record Appended (old new : FilesHeld) (payload : List ℕ) (before after : V
   pub gains : Gains payload old new before after
   pub pages : IsTold before → after.seen.pages ≡ before.seen.pages
   pub told : after.told ≡ before.told
-  pub later : before.faults ≤ after.faults
+  pub still : after.faults ≡ before.faults
 
 -- what is known where it wasn't, since the disk failed
 pub record NotAppended (before after : View) : Type 0 where
@@ -37,12 +37,14 @@ pub record NotAppended (before after : View) : Type 0 where
 -- How the reply of a response is handed out, and what becomes of the store and of the disk.
 pub data HandsOut (response : Response) (old : Logged) (before : View) (reply : Reply) (new : Logged) (after : View) : Type 0 where
   -- nothing was to be appended
-  AtOnce : response ≡ Answered reply → new ≡ old → ReadsOnly before after → HandsOut response old before reply new after
+  AtOnce : response ≡ Answered reply → new ≡ old → ReadsOnly before after → after.faults ≡ before.faults
+      → HandsOut response old before reply new after
   -- the frame was appended, and the reply is handed out
   Logs : response ≡ Append reply → new ≡ record old { files = new.files } → MayGain old.store.frame old.files before after
       → Appended old.files new.files old.store.frame before after → HandsOut response old before reply new after
-  -- the disk failed, the reply of the response is kept back, and the store is down
-  Fails : (kept : Reply) → response ≡ Append kept → reply ≡ DiskFault → new.down ≡ true → MayGain old.store.frame old.files before after → NotAppended before after → HandsOut response old before reply new after
+  -- the disk failed, the reply of the response is kept back, and the store is down, with all that it had in memory
+  Fails : (kept : Reply) → response ≡ Append kept → reply ≡ DiskFault → new ≡ record old { down = true }
+      → MayGain old.store.frame old.files before after → NotAppended before after → HandsOut response old before reply new after
 
 -- The reply of a response is handed out, and the journal's next id is noted. The store's was `first` before the statement.
 pub record Concludes (response : Response) (session : ℕ) (st : Statement) (first : ℕ) (old : Logged) (before : View) (reply : Reply) (new : Logged) (after : View) : Type 0 where

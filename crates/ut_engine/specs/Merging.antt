@@ -1,5 +1,5 @@
 -- What the begin of a merge into main is answered, and why.
-use Rattle.std.specs.Prelude.{◌≡◌, ⊤, Bool, true, false, Option, None, Some, Result, Ok, Err, IfOk, IsSome, IsTrue}
+use Rattle.std.specs.Prelude.{◌≡◌, ◌⊎◌, ⊤, Bool, true, false, Option, None, Some, Result, Ok, Err, IfOk, IsSome, IsTrue}
 use Rattle.std.specs.Option.{option_map}
 use Rattle.ut_plain.specs.declared.stage.PendingMerge.{PendingMerge}
 use Rattle.ut_plain.specs.declared.statement.Statement.{Statement}
@@ -40,6 +40,11 @@ HasReason (Err errors.Disk) there pending = IsTrue there × (pending ≡ None)
 abbrev pub is_fault : Result JobValue BeginError → Bool
 is_fault (Err errors.Disk) = true
 is_fault answer = false
+
+-- What the end of the pending merge is answered, with what was built of its job: its number, or that the disk failed.
+abbrev pub EndsMerge : Option PendingMerge → Reply → Type 0
+EndsMerge pending reply =
+    (option_map (λ (m : PendingMerge). replies.Merge m.number) pending ≡ Some reply) ⊎ (reply ≡ replies.DiskFault)
 
 -- A merge that began has its job, and it is that of the store behind it.
 abbrev pub BringsJob : Statement → Reply → Option JobValue → Held → Type 0

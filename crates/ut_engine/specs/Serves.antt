@@ -10,6 +10,7 @@ use Rattle.ut_plain.specs.declared.reply.Reply.TheVariants.{DiskFault, Root as R
 use Rattle.ut_plain.specs.Journal.{journal_len}
 use Rattle.ut_plain.specs.Plain.{Plain, Phase, Sealed}
 use Rattle.ut_plain.specs.Step.{step, MayAnswer, MayFault}
+use Rattle.ut_store.specs.Stands.{StandsFor}
 use Rattle.ut_pages.specs.declared.root.Root.{Root}
 use Rattle.ut_durable.specs.Journals.{HoldsPrefix}
 use Rattle.ut_durable.specs.Files.{HasSelected}
@@ -27,10 +28,12 @@ pub record IsAnswered
   pub sound : reply ≡ DiskFault → ⊥
   pub any_moment : IsTold before → LeavesOnly before after (HoldsPrefix plain.journal (journal_len p.journal))
 
--- Or the disk failed, where it may, and the store is down. A crash at any moment leaves all that was there, with that entry or without it.
+-- Or the disk failed, where it may, and the store is down: its memory is that of the state after the statement.
+-- A crash at any moment leaves all that was there, with that entry or without it.
 pub record IsLost (p : Plain) (before : View) (session : ℕ) (st : Statement) (reply : Reply) (new : Logged) (after : View) : Type 0 where
   pub fault : reply ≡ DiskFault
   pub down : new.down ≡ true
+  pub stands : StandsFor new.store (step p session st).plain
   pub may : MayFault p session st
   pub any_moment : IsTold before → LeavesOnly before after (HoldsPrefix (step p session st).plain.journal (journal_len p.journal))
 
@@ -56,3 +59,5 @@ pub record Serves (old : Logged) (before : View) (session : ℕ) (st : Statement
   pub told : after.told ≡ before.told
   pub later : before.faults ≤ after.faults
   pub cause : reply ≡ DiskFault → Rose before.faults after.faults
+  -- a fault that was counted is told
+  pub still : (reply ≡ DiskFault → ⊥) → after.faults ≡ before.faults

@@ -1,5 +1,6 @@
 //! The store and the disk that it is lent.
 ghost use Rattle.std.specs.Prelude.{◌≡◌, ◌<◌, ◌≤◌, ◌^◌, false, IfOk, IsTrue};
+ghost use Rattle.ut_plain.specs.declared.statement.Statement.TheVariants as statements;
 ghost use Rattle.ut_plain.specs.Spelled.{is_spelled};
 ghost use Rattle.ut_store.specs.Standing.{suits_session};
 ghost use Rattle.ut_engine.specs.Restoring.{Restores};
@@ -69,6 +70,8 @@ impl<'d, D: Disk> Engine<'d, D> {
         requires spelled { IsTrue (is_spelled st.now) }
         requires up { self.old.store.down ≡ false }
         ensures serves { Serves self.old.store (D.view self.old.disk) session st.now result self.new.store (D.view self.new.disk) }
+        // The drop of a savepoint calls no disk.
+        ensures dropped { st.now ≡ statements.SaveDrop → self.new.disk ≡ self.old.disk }
         ensures loan { self.new.loan ≡ self.old.loan }
     {
         self.store.statement(alloc, self.disk, session, st)

@@ -14,7 +14,7 @@ ghost use Rattle.ut_durable.specs.Journals.{HoldsJournal};
 ghost use Rattle.ut_store.specs.Jobs.{pending_job};
 ghost use Rattle.ut_store.specs.Standing.{suits_session};
 ghost use Rattle.ut_engine.specs.Handing.{AreReady, Concludes, HandsOut};
-ghost use Rattle.ut_engine.specs.Merging.{BringsJob};
+ghost use Rattle.ut_engine.specs.Merging.{BringsJob, EndsMerge};
 ghost use Rattle.ut_engine.specs.Opening.{MayOnlyRead};
 ghost use Rattle.ut_engine.specs.Runs.{Runs, IsNew, Opens, NotMadeOrEmpty};
 ghost use Rattle.ut_engine.specs.Serves.{Serves};
@@ -69,6 +69,7 @@ impl LoggedStore {
         ensures any_moment { IsTold (D.view disk.old) → Always (D.view disk.old) (λ c. IsMade c.pages → ⊥) → LeavesOnly (D.view disk.old) (D.view disk.new) NotMadeOrEmpty }
         ensures told { (D.view disk.new).told ≡ (D.view disk.old).told }
         ensures later { (D.view disk.old).faults ≤ (D.view disk.new).faults }
+        ensures no_fault { OnOk result ((D.view disk.new).faults ≡ (D.view disk.old).faults) }
     {
         if Pages::made(disk)? {
             return Err(OpenError::Made);
@@ -101,6 +102,7 @@ impl LoggedStore {
         ensures cause { IsErrOf result OpenError.Disk → Rose (D.view disk.old).faults (D.view disk.new).faults }
         ensures others { IsErrOf result OpenError.Made → ⊥ }
         ensures reads { ReadsOnly (D.view disk.old) (D.view disk.new) }
+        ensures no_fault { OnOk result ((D.view disk.new).faults ≡ (D.view disk.old).faults) }
     {
         settle(disk)?;
         if !Pages::made(disk)? {
@@ -138,7 +140,9 @@ impl LoggedStore {
         requires suits { IsTrue (suits_session session st.now) }
         requires spelled { IsTrue (is_spelled st.now) }
         requires runs { (p : Plain) × Runs self.old (D.view disk.old) p }
-        ensures { Serves self.old (D.view disk.old) session st.now result self.new (D.view disk.new) }
+        ensures serves { Serves self.old (D.view disk.old) session st.now result self.new (D.view disk.new) }
+        // A drop calls no disk.
+        ensures dropped { st.now ≡ statements.SaveDrop → disk.new ≡ disk.old }
     {
         if is_save(st) {
             return self.save(alloc, disk, st);
@@ -175,7 +179,8 @@ impl LoggedStore {
         requires seat { session < 17 }
         requires built { pending_job self.old.store ≡ Some built }
         requires runs { (p : Plain) × Runs self.old (D.view disk.old) p }
-        ensures { Serves self.old (D.view disk.old) session statements.MergeEnd result self.new (D.view disk.new) }
+        ensures serves { Serves self.old (D.view disk.old) session statements.MergeEnd result self.new (D.view disk.new) }
+        ensures ends { EndsMerge self.old.store.counts.pending result }
     {
         let before = self.store.next_id();
         let response = self.store.merge_end(session, built);

@@ -6,7 +6,7 @@ ghost use Rattle.ut_plain.specs.Names.{has_table};
 ghost use Rattle.ut_outside.specs.Faults.{Rose};
 ghost use Rattle.ut_merge.specs.Jobs.{JobValue};
 ghost use Rattle.ut_store.specs.Jobs.{pending_job};
-ghost use Rattle.ut_engine.specs.Merging.{begin_reply, is_fault, HasReason, Tells};
+ghost use Rattle.ut_engine.specs.Merging.{begin_reply, is_fault, EndsMerge, HasReason, Tells};
 ghost use Rattle.ut_engine.specs.Serves.{Serves};
 
 use crate::engine::Engine;
@@ -60,6 +60,8 @@ impl<'d, D: Disk> Engine<'d, D> {
         requires up { self.old.store.down ≡ false }
         requires built { pending_job self.old.store.store ≡ Some built }
         ensures serves { Serves self.old.store (D.view self.old.disk) session statements.MergeEnd result self.new.store (D.view self.new.disk) }
+        // Its number, or that the disk failed: nothing else is wanting.
+        ensures ends { EndsMerge self.old.store.store.counts.pending result }
         ensures loan { self.new.loan ≡ self.old.loan }
     {
         self.store.merge_end(self.disk, session, built)

@@ -65,6 +65,7 @@ impl<'d, D: Disk> Engine<'d, D> {
         requires up { self.old.store.down ≡ false }
         ensures serves { Serves self.old.store (D.view self.old.disk) 0 statements.SaveDrop (phase_reply result self.new.store.saving) self.new.store (D.view self.new.disk) }
         ensures up { self.new.store.down ≡ false }
+        ensures disk { self.new.disk ≡ self.old.disk }
         ensures loan { self.new.loan ≡ self.old.loan }
     {
         phase_answer(self.store.save_drop(self.disk))

@@ -35,7 +35,8 @@ impl LoggedStore {
     pub(crate) fn save<D: Disk>(&mut self, alloc: Global, disk: &mut D, st: &Statement) -> Reply
         requires save { IsTrue (is_save st.now) }
         requires runs { (p : Plain) × Runs self.old (D.view disk.old) p }
-        ensures { (session : ℕ) → Serves self.old (D.view disk.old) session st.now result self.new (D.view disk.new) }
+        ensures serves { (session : ℕ) → Serves self.old (D.view disk.old) session st.now result self.new (D.view disk.new) }
+        ensures dropped { st.now ≡ statements.SaveDrop → disk.new ≡ disk.old }
     {
         match st {
             Statement::SaveBegin => self.save_begin(alloc, disk),
@@ -115,10 +116,10 @@ impl LoggedStore {
         }
     }
 
-    /// Gives the savepoint up. Nothing is written.
-    pub(crate) fn save_drop<D: Disk>(&mut self, disk: &mut D) -> Reply
-        requires runs { (p : Plain) × Runs self.old (D.view disk.old) p }
-        ensures serves { (session : ℕ) → Serves self.old (D.view disk.old) session statements.SaveDrop result self.new (D.view disk.new) }
+    /// Gives the savepoint up. The disk is only looked at.
+    pub(crate) fn save_drop<D: Disk>(&mut self, disk: &D) -> Reply
+        requires runs { (p : Plain) × Runs self.old (D.view disk.now) p }
+        ensures serves { (session : ℕ) → Serves self.old (D.view disk.now) session statements.SaveDrop result self.new (D.view disk.now) }
         ensures tells { TellsPhase result self.new.saving }
     {
         let _moment = disk.calls();
@@ -227,6 +228,7 @@ impl LoggedStore {
         ensures any_moment { MayLeaveLog self.old (D.view disk.old) (D.view disk.new) }
         ensures told { (D.view disk.new).told ≡ (D.view disk.old).told }
         ensures cause { HasCause (D.view disk.old).faults (D.view disk.new).faults result }
+        ensures memory { self.new.store ≡ self.old.store }
     {
         let (file, _) = self.files.place();
         if file != self.begins {
@@ -244,6 +246,7 @@ impl LoggedStore {
         ensures stays { Stays self.old.files (D.view disk.old) (D.view disk.new) }
         ensures told { (D.view disk.new).told ≡ (D.view disk.old).told }
         ensures cause { HasCause (D.view disk.old).faults (D.view disk.new).faults result }
+        ensures memory { self.new.store ≡ self.old.store }
     {
         let count = n.min(self.pages_left());
         for _ in 0..count {
@@ -272,6 +275,7 @@ impl LoggedStore {
         ensures stays { Stays self.old.files (D.view disk.old) (D.view disk.new) }
         ensures told { (D.view disk.new).told ≡ (D.view disk.old).told }
         ensures cause { HasCause (D.view disk.old).faults (D.view disk.new).faults result }
+        ensures memory { self.new.store ≡ self.old.store }
     {
         let Some(savepoint) = &mut self.saving else {
             unreachable!()
@@ -292,6 +296,7 @@ impl LoggedStore {
         ensures stays { Stays self.old.files (D.view disk.old) (D.view disk.new) }
         ensures told { (D.view disk.new).told ≡ (D.view disk.old).told }
         ensures cause { HasCause (D.view disk.old).faults (D.view disk.new).faults result }
+        ensures memory { self.new.store ≡ self.old.store }
     {
         let Some(savepoint) = &mut self.saving else {
             unreachable!()
@@ -309,6 +314,7 @@ impl LoggedStore {
         ensures any_moment { (s : Saving) → self.old.saving ≡ Some s → MayFlip s.reached self.old.files (D.view disk.old) (D.view disk.new) }
         ensures told { (D.view disk.new).told ≡ (D.view disk.old).told }
         ensures cause { HasCause (D.view disk.old).faults (D.view disk.new).faults result }
+        ensures memory { self.new.store ≡ self.old.store }
     {
         let Some(savepoint) = self.saving.take() else {
             unreachable!()

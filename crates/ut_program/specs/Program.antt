@@ -1,5 +1,5 @@
 -- What the program comes to: a run of the top call, and the number that it exits with.
-use Rattle.std.specs.Prelude.{ℕ, ◌≡◌, List, [], Option, None, Some}
+use Rattle.std.specs.Prelude.{ℕ, ◌≡◌, List, [], codes, Option, None, Some}
 use Rattle.ut_outside.specs.Faults.{Rose}
 use Rattle.ut_outside.specs.declared.ack.Ack.{Ack}
 use Rattle.ut_run.specs.declared.report.Status.{Status}
@@ -22,6 +22,19 @@ exit_number Damaged = 7
 exit_number Memory = 8
 exit_number TooLong = 9
 
+-- what is written on the standard error of it, behind `ut_app: `
+abbrev pub error_text : Status → Option (List ℕ)
+error_text Done = None
+error_text Usage = Some (codes "usage")
+error_text NoStore = Some (codes "no store")
+error_text Exists = Some (codes "store exists")
+error_text ReadFault = Some (codes "read fault")
+error_text WriteFault = Some (codes "write fault")
+error_text DiskFault = Some (codes "disk fault")
+error_text Damaged = Some (codes "damaged store")
+error_text Memory = Some (codes "no memory")
+error_text TooLong = Some (codes "input too long")
+
 -- All that the top call promises of a run with these words.
 pub record Tops (words : List (List ℕ)) (before after : World) (status : Status) : Type 0 where
   pub lines : ℕ
@@ -32,27 +45,29 @@ pub record Tops (words : List (List ℕ)) (before after : World) (status : Statu
   pub read : status ≡ ReadFault → Rose before.reads after.reads
   pub write : status ≡ WriteFault → Rose before.writes after.writes
   pub disk : status ≡ DiskFault → Rose before.disk.faults after.disk.faults
+  pub still : status ≡ Done → (after.reads ≡ before.reads) × (after.writes ≡ before.writes) × (after.disk.faults ≡ before.disk.faults)
 
 -- these are the words, where they are told
 abbrev pub AreTold : Option (List (List ℕ)) → List (List ℕ) → Type 0
 AreTold None words = Unit {0}
 AreTold (Some told) words = words ≡ told
 
--- the status of a program whose words can't be had
-abbrev pub IsUnasked : Status → Type 0
-IsUnasked Usage = Unit {0}
-IsUnasked Memory = Unit {0}
-IsUnasked _ = ⊥
+-- the status of a program whose words can't be had: of words that are told memory alone can be wanting
+abbrev pub IsUnasked : Status → Option (List (List ℕ)) → Type 0
+IsUnasked Memory told = Unit {0}
+IsUnasked Usage None = Unit {0}
+IsUnasked _ told = ⊥
 
 -- The words couldn't be had, and nothing was done.
-pub record HasNoWords (before after : World) (status : Status) : Type 0 where
+pub record HasNoWords (told : Option (List (List ℕ))) (before after : World) (status : Status) : Type 0 where
   pub nothing : DidNothing before after 0 [] 0
-  pub says : IsUnasked status
+  pub says : IsUnasked status told
 
 -- The top call ran with the words, whatever they are where they aren't told, or there were none to be had.
+-- So of words that are told Usage comes from their own refusal alone.
 pub data Ends (told : Option (List (List ℕ))) (before after : World) (status : Status) : Type 0 where
   Ran : (words : List (List ℕ)) → AreTold told words → Tops words before after status → Ends told before after status
-  Unasked : HasNoWords before after status → Ends told before after status
+  Unasked : HasNoWords told before after status → Ends told before after status
 
 -- The program exits with the number of the status that its run ended with.
 pub record Exits (told : Option (List (List ℕ))) (before after : World) (exit : ℕ) : Type 0 where

@@ -1,5 +1,5 @@
 //! A run with the words that the program is called with.
-ghost use Rattle.std.specs.Prelude.{◌≡◌, Some, map, string_bytes, IfOk, IfErr};
+ghost use Rattle.std.specs.Prelude.{◌≡◌, ℕ, List, Option, Some, map, string_bytes, IfOk, IfErr};
 ghost use Rattle.std.specs.Process.{exit_status};
 ghost use Rattle.ut_run.specs.World.{World};
 ghost use Rattle.ut_program.specs.Program.{Exits, Ends, HasNoWords, Tops, IsUnasked};
@@ -80,8 +80,7 @@ fn unasked<S: Source<K>, K: Sink<D>, D: Disk>(
     sink: &mut K,
     disk: &mut D,
 ) -> Status
-    requires says { IsUnasked status }
-    ensures { HasNoWords
+    ensures { (told : Option (List (List ℕ))) → IsUnasked status told → HasNoWords told
         (record { source = S.left source.old; asks = S.asks source.old; reads = S.faults source.old; sink = K.held sink.old; marks = K.moments sink.old; writes = K.faults sink.old; disk = D.view disk.old })
         (record { source = S.left source.new; asks = S.asks source.new; reads = S.faults source.new; sink = K.held sink.new; marks = K.moments sink.new; writes = K.faults sink.new; disk = D.view disk.new })
         result }
@@ -109,7 +108,7 @@ fn answer<S: Source<K>, K: Sink<D>, D: Disk + Send>(
 // The words as texts, each in its place.
 fn texts_of(alloc: Global, words: &[String]) -> Result<Vec<&str>, Status>
     ensures all { IfOk result (λ texts. map (λ w. w.now) texts.items ≡ map string_bytes words.now) }
-    ensures says { IfErr result IsUnasked }
+    ensures lacks { IfErr result (λ status. status ≡ Status.Memory) }
 {
     let mut texts = Vec::new(alloc);
     for word in words {

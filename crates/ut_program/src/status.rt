@@ -1,11 +1,14 @@
 //! What the program says of how a run ended.
 ghost use Rattle.std.specs.Prelude.{◌≡◌};
-ghost use Rattle.ut_program.specs.Program.{exit_number};
+ghost use Rattle.std.specs.Option.{option_map};
+ghost use Rattle.ut_program.specs.Program.{error_text, exit_number};
 
 use ut_app::Status;
 
 /// What is written on the standard error.
-pub(crate) fn text_of(status: Status) -> Option<&'static str> {
+pub(crate) fn text_of(status: Status) -> Option<&'static str>
+    ensures { option_map (λ text. text.now) result ≡ error_text status }
+{
     match status {
         Status::Done => None,
         Status::Usage => Some("usage"),

@@ -3,7 +3,7 @@ ghost use Rattle.std.specs.Prelude.{◌≡◌, ℕ, List, Option, None, map, str
 ghost use Rattle.std.specs.Vec.Iter.{into_iter_items};
 ghost use Rattle.ut_program.specs.Program.{AreTold, IsUnasked};
 
-use std::alloc::Global;
+use std::alloc::{AllocError, Global};
 use std::rt::Env;
 use std::{env, io};
 use ut_app::Status;
@@ -16,7 +16,7 @@ pub trait Words {
     /// All of them in order, or why they can't be had.
     fn words(&self, alloc: Global) -> Result<Vec<String>, Status>
         ensures all { IfOk result (λ words. AreTold (told self.now) (map string_bytes words.items)) }
-        ensures says { IfErr result IsUnasked };
+        ensures says { IfErr result (λ status. IsUnasked status (told self.now)) };
 }
 
 /// The words of the process. The system alone knows them.
@@ -36,28 +36,29 @@ impl<'a, R: AllocGlobal + Env> Words for ProcessWords<'a, R> {
 
     fn words(&self, alloc: Global) -> Result<Vec<String>, Status> {
         match env::args(self.rt) {
-            Ok(args) => gathered(alloc, args),
+            Ok(args) => match gathered(alloc, args) {
+                Ok(words) => Ok(words),
+                Err(_) => Err(Status::Memory),
+            },
             Err(error) => Err(status_of(error)),
         }
     }
 }
 
 // All the words of a list, in order.
-fn gathered(alloc: Global, args: env::Args<Global>) -> Result<Vec<String>, Status>
-    ensures all { IfOk result (λ words. words.items ≡ into_iter_items args) }
-    ensures says { IfErr result IsUnasked }
+fn gathered(alloc: Global, args: env::Args<Global>) -> Result<Vec<String>, AllocError>
+    ensures { IfOk result (λ words. words.items ≡ into_iter_items args) }
 {
     let mut words = Vec::new(alloc);
     for word in args {
-        if words.push(word).is_err() {
-            return Err(Status::Memory);
-        }
+        words.push(word)?;
     }
     Ok(words)
 }
 
+// Why the system gave none.
 fn status_of(error: io::Error) -> Status
-    ensures { IsUnasked result }
+    ensures { IsUnasked result None }
 {
     match error.kind() {
         io::ErrorKind::OutOfMemory => Status::Memory,

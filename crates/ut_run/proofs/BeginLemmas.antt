@@ -70,8 +70,9 @@ since_opened entry now reads first holds pends =
     record { past = l.later; holds = λ c h. subst (λ (i : Image). HoldsPrefix first (journal_len first) i) (sym (pends c (l.each c h))) (whole_of first entry.seen holds) }
 
 pub begun_new : (rows : ℕ) (entry now : View) (e : Logged) → now.told ≡ entry.told → Runs e now (new_store (no_image image_pages) rows) → (IsTold entry → IsMade entry.seen.pages → ⊥)
-    → (IsTold entry → Always entry (λ c. IsMade c.pages → ⊥) → LeavesOnly entry now NotMadeOrEmpty) → Begun New rows entry now e
-begun_new rows entry now e same runs unmade leaves = record {
+    → (IsTold entry → Always entry (λ c. IsMade c.pages → ⊥) → LeavesOnly entry now NotMadeOrEmpty) → now.faults ≡ entry.faults → Begun New rows entry now e
+begun_new rows entry now e same runs unmade leaves no_fault = record {
+  no_fault = no_fault;
   first = fresh;
   runs = runs;
   begins = λ told. (refl, unmade told);
@@ -83,8 +84,9 @@ begun_new rows entry now e same runs unmade leaves = record {
   };
 }
 
-pub begun_open : (rows : ℕ) (entry now : View) (e : Logged) → Opens e rows entry now → ReadsOnly entry now → Begun Open rows entry now e
-begun_open rows entry now e opens reads = record {
+pub begun_open : (rows : ℕ) (entry now : View) (e : Logged) → Opens e rows entry now → ReadsOnly entry now → now.faults ≡ entry.faults → Begun Open rows entry now e
+begun_open rows entry now e opens reads no_fault = record {
+  no_fault = no_fault;
   first = record { journal = opens.journal; opening = opening_of opens.directory (length opens.reached) };
   runs = opens.runs;
   begins = said;
@@ -158,11 +160,11 @@ not_opened entry now errors.Memory status is none damaged disk others reads =
 
 module _ {D : Type 0} (view : D → View) (rows : ℕ) (entry : View) where
   pub begun_made : (answer : Result (Lent D) (Unopened D)) → Makes rows entry (view (disk_left answer)) (store_or_cause answer) → IfOk answer (λ e. Begun New rows entry (view e.disk) e.store)
-  begun_made (Ok e) made = begun_new rows entry (view e.disk) e.store made.told made.new.runs made.new.unmade made.any_moment
+  begun_made (Ok e) made = begun_new rows entry (view e.disk) e.store made.told made.new.runs made.new.unmade made.any_moment made.no_fault
   begun_made (Err u) made = tt
 
   pub begun_opened : (answer : Result (Lent D) (Unopened D)) → Reopens rows entry (view (disk_left answer)) (store_or_cause answer) → IfOk answer (λ e. Begun Open rows entry (view e.disk) e.store)
-  begun_opened (Ok e) opened = begun_open rows entry (view e.disk) e.store opened.opens opened.reads
+  begun_opened (Ok e) opened = begun_open rows entry (view e.disk) e.store opened.opens opened.reads opened.no_fault
   begun_opened (Err u) opened = tt
 
   pub not_begun_made : (answer : Result (Lent D) (Unopened D)) → Makes rows entry (view (disk_left answer)) (store_or_cause answer)

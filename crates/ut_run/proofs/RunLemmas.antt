@@ -20,7 +20,7 @@ use Rattle.ut_run.specs.declared.report.Status.{Status}
 use Rattle.ut_run.specs.declared.report.Status.TheVariants.{Done, Usage, NoStore, Exists, ReadFault, WriteFault, DiskFault, Damaged, Memory, TooLong}
 use Rattle.ut_run.specs.declared.turn.TurnEnd.{TurnEnd}
 use Rattle.ut_run.specs.declared.turn.TurnEnd.TheVariants as ends
-use Rattle.ut_run.specs.World.{World, StreamsStay}
+use Rattle.ut_run.specs.World.{World, StreamsStay, NoFault}
 use Rattle.ut_run.specs.Plans.{start_of}
 use Rattle.ut_run.specs.Script.{all_fit, is_too_long, FitsInput}
 use Rattle.ut_run.specs.Turning.{Turns, TurnCauses, EndStatus}
@@ -91,14 +91,15 @@ completes plan before after status store input cause taken = record { complete =
 -- ---- a run that reached the lines
 
 late : (plan : Plan) (before after : World) (status : Status) (script : List (List ℕ)) (lines : ℕ) (acks : List Ack) (journal : ℕ) → IsLate status → lines ≡ length script → lines ≤ plan.lines → all_fit script ≡ true
-    → EndsReading plan.lines before.source after.source status script → Answered plan before after status script acks journal → HasRisen status before after → Run plan before after status lines acks journal
-late plan before after status script lines acks journal l count few fit input answered cause =
+    → EndsReading plan.lines before.source after.source status script → Answered plan before after status script acks journal → HasRisen status before after → (status ≡ Done → NoFault before after) → Run plan before after status lines acks journal
+late plan before after status script lines acks journal l count few fit input answered cause still =
     let store : IsTold before.disk → FitsStore status (start_of plan) before.disk.seen = λ told. late_fits status (start_of plan) before.disk.seen l (answered.served.first, answered.served.begins told) in
     record {
       ended = Late l (record { script = script; count = count; few = few; fit = fit; input = input.input; answered = answered });
       store = store;
       input = input.fits;
       cause = cause;
+      still = still;
       taken = late_words status l;
       complete = completes plan before after status store input.fits cause (late_words status l);
     }
@@ -144,6 +145,7 @@ early plan before disk status said lines acks journal is none no_acks no_journal
       store = n.fits;
       input = input;
       cause = cause;
+      still = λ e. absurd (subst IsEarly e n.early);
       taken = taken;
       complete = completes plan before after status n.fits input cause taken;
     })
@@ -157,8 +159,8 @@ no_memory plan before said lines acks journal only is none no_acks no_journal =
 -- ---- the way
 
 pub going-start : (plan : Plan) (before : World) (disk : View) (lines : Reading) (store : Logged) (acks : List Ack) (journal : ℕ) → lines ≡ record { held = []; line = []; number = 0; limit = plan.lines; failed = None } → Begun (start_of plan) plan.rows before.disk disk store → acks ≡ [] → journal ≡ store.store.counts.entries
-    → ((bytes : List ℕ) → before.sink ≡ Some bytes → length before.marks ≡ length bytes) → disk.told ≡ before.disk.told → before.disk.faults ≤ disk.faults → Going plan before (record before { disk = disk }) 0 lines store acks journal
-going-start plan before disk lines store acks journal is b none len each told faults = record {
+    → ((bytes : List ℕ) → before.sink ≡ Some bytes → length before.marks ≡ length bytes) → disk.told ≡ before.disk.told → Going plan before (record before { disk = disk }) 0 lines store acks journal
+going-start plan before disk lines store acks journal is b none len each told = record {
   script = [];
   count_is = refl;
   few = omega arith;
@@ -169,9 +171,7 @@ going-start plan before disk lines store acks journal is b none len each told fa
   limit = ap (λ (r : Reading). r.limit) is;
   progress = progress-start plan before disk store acks journal b none len each;
   told = told;
-  reads = omega arith;
-  writes = omega arith;
-  faults = faults;
+  none = record { reads = refl; writes = refl; disk = b.no_fault };
 }
 
 -- so many lines at most were read
@@ -195,7 +195,7 @@ asked plan before mid count lines store acks journal now g few =
 
 -- a line more was answered
 pub going-more : (plan : Plan) (before mid now : World) (count : ℕ) (lines next : Reading) (old new : Logged) (acks acks_now : List Ack) (journal journal_now : ℕ) → Going plan before mid count lines old acks journal
-    → NextLine lines mid.source (Ok true) next now.source → StepsLine lines mid.source next now.source → AsksFew lines mid.source mid.sink mid.asks now.asks → Counts lines (Ok true) next → mid.reads ≤ now.reads → now.disk.told ≡ mid.disk.told → mid.disk.faults ≤ now.disk.faults → mid.writes ≤ now.writes → OnlyNow now.disk → CountsNow now.disk
+    → NextLine lines mid.source (Ok true) next now.source → StepsLine lines mid.source next now.source → AsksFew lines mid.source mid.sink mid.asks now.asks → Counts lines (Ok true) next → now.reads ≡ mid.reads → now.disk.told ≡ mid.disk.told → now.disk.faults ≡ mid.disk.faults → now.writes ≡ mid.writes → OnlyNow now.disk → CountsNow now.disk
     → Turns old mid.disk (parsed false next.line) (record { acks = acks; journal = journal }) (record { held = mid.sink; marks = mid.marks }) (Ok tt) new now.disk (record { acks = acks_now; journal = journal_now }) (record { held = now.sink; marks = now.marks })
     → Going plan before now (count + 1) next new acks_now journal_now
 going-more plan before mid now count lines next old new acks acks_now journal journal_now g n m few c reads told faults writes only counts t = record {
@@ -209,31 +209,30 @@ going-more plan before mid now count lines next old new acks acks_now journal jo
   limit = c.limit ∙ g.limit;
   progress = progress-more plan before mid now g.script old new acks acks_now journal journal_now next.line told only counts g.progress (asked plan before mid count lines old acks journal now.asks g few) (t.each g.progress.course.plain g.progress.course.runs);
   told = told ∙ g.told;
-  reads = let a = g.reads in omega (arith, a, reads);
-  writes = let a = g.writes in omega (arith, a, writes);
-  faults = let a = g.faults in omega (arith, a, faults);
+  none = record { reads = reads ∙ g.none.reads; writes = writes ∙ g.none.writes; disk = faults ∙ g.none.disk };
 }
 
 -- ---- ends between two lines
 
 -- the source was asked, and nothing else
 between : (plan : Plan) (before mid : World) (source : Option (List ℕ)) (asks : Option (List Ask)) (reads : ℕ) (status : Status) (count : ℕ) (lines : Reading) (store : Logged) (acks : List Ack) (journal : ℕ) → (g : Going plan before mid count lines store acks journal) → IsLate status
-    → AsksFew lines mid.source mid.sink mid.asks asks → IsWritten status before g.progress.answers (record mid { source = source; asks = asks; reads = reads }) acks → EndsReading plan.lines before.source source status g.script → HasRisen status before (record mid { source = source; asks = asks; reads = reads }) → Run plan before (record mid { source = source; asks = asks; reads = reads }) status count acks journal
-between plan before mid source asks reads status count lines store acks journal g l few written input cause =
-    late plan before (record mid { source = source; asks = asks; reads = reads }) status g.script count acks journal l g.count_is g.few g.fit input (progress-end plan before mid source asks reads g.script store acks journal status g.progress (asked plan before mid count lines store acks journal asks g few) written) cause
+    → AsksFew lines mid.source mid.sink mid.asks asks → IsWritten status before g.progress.answers (record mid { source = source; asks = asks; reads = reads }) acks → EndsReading plan.lines before.source source status g.script → HasRisen status before (record mid { source = source; asks = asks; reads = reads }) → (status ≡ Done → NoFault before (record mid { source = source; asks = asks; reads = reads })) → Run plan before (record mid { source = source; asks = asks; reads = reads }) status count acks journal
+between plan before mid source asks reads status count lines store acks journal g l few written input cause still =
+    late plan before (record mid { source = source; asks = asks; reads = reads }) status g.script count acks journal l g.count_is g.few g.fit input (progress-end plan before mid source asks reads g.script store acks journal status g.progress (asked plan before mid count lines store acks journal asks g few) written) cause still
 
 -- there is no further line
 pub no_line : (plan : Plan) (before mid : World) (source : Option (List ℕ)) (asks : Option (List Ask)) (reads : ℕ) (status : Status) (count : ℕ) (lines next : Reading) (store : Logged) (acks : List Ack) (journal : ℕ) → Going plan before mid count lines store acks journal
     → AsksFew lines mid.source mid.sink mid.asks asks → NoLine status lines mid.source mid.reads next source reads → Run plan before (record mid { source = source; asks = asks; reads = reads }) status count acks journal
 no_line plan before mid source asks reads Done count lines next store acks journal g few n =
-    between plan before mid source asks reads Done count lines store acks journal g tt few g.progress.written (reading-done plan.lines before.source g.script lines next mid.source source (subst (λ (k : ℕ). k ≤ plan.lines) g.count_is g.few) g.fit g.reading n) tt
+    between plan before mid source asks reads Done count lines store acks journal g tt few g.progress.written (reading-done plan.lines before.source g.script lines next mid.source source (subst (λ (k : ℕ). k ≤ plan.lines) g.count_is g.few) g.fit g.reading n.0) tt
+    (λ e. record { reads = n.1 ∙ g.none.reads; writes = g.none.writes; disk = g.none.disk })
 no_line plan before mid source asks reads ReadFault count lines next store acks journal g few n =
-    between plan before mid source asks reads ReadFault count lines store acks journal g tt few g.progress.written (reading-cut plan.lines before.source g.script lines.held mid.source source ReadFault g.reading tt) (let a = g.reads in omega (arith, a, n))
+    between plan before mid source asks reads ReadFault count lines store acks journal g tt few g.progress.written (reading-cut plan.lines before.source g.script lines.held mid.source source ReadFault g.reading tt) (let a = g.none.reads in omega (arith, a, n)) (λ e. cc)
 no_line plan before mid source asks reads TooLong count lines next store acks journal g few n =
     between plan before mid source asks reads TooLong count lines store acks journal g tt few g.progress.written
-    (reading-long plan.lines before.source g.script lines next mid.source source g.limit (g.number ∙ g.count_is) (subst (λ (k : ℕ). k ≤ plan.lines) g.count_is g.few) g.reading n) tt
+    (reading-long plan.lines before.source g.script lines next mid.source source g.limit (g.number ∙ g.count_is) (subst (λ (k : ℕ). k ≤ plan.lines) g.count_is g.few) g.reading n) tt (λ e. cc)
 no_line plan before mid source asks reads Memory count lines next store acks journal g few n =
-    between plan before mid source asks reads Memory count lines store acks journal g tt few g.progress.written (reading-cut plan.lines before.source g.script lines.held mid.source source Memory g.reading tt) tt
+    between plan before mid source asks reads Memory count lines store acks journal g tt few g.progress.written (reading-cut plan.lines before.source g.script lines.held mid.source source Memory g.reading tt) tt (λ e. cc)
 no_line plan before mid source asks reads Usage count lines next store acks journal g few n = absurd n
 no_line plan before mid source asks reads NoStore count lines next store acks journal g few n = absurd n
 no_line plan before mid source asks reads Exists count lines next store acks journal g few n = absurd n
@@ -243,12 +242,15 @@ no_line plan before mid source asks reads Damaged count lines next store acks jo
 
 -- ---- ends at a line
 
+no_fewer : {n m : ℕ} → m ≡ n → n ≤ m
+no_fewer same = omega (arith, same)
+
 module _ (plan : Plan) (before mid after : World) (count : ℕ) (lines next : Reading) (old new : Logged) (acks acks_now : List Ack) (journal journal_now : ℕ) (g : Going plan before mid count lines old acks journal)
     (n : NextLine lines mid.source (Ok true) next after.source) (m : StepsLine lines mid.source next after.source) (few : AsksFew lines mid.source mid.sink mid.asks after.asks) (c : Counts lines (Ok true) next) (only : OnlyNow after.disk) (counts : CountsNow after.disk) where
-  at_line : (status : Status) → IsLate status → IsCut status → Answered plan before after status (g.script ++ next.line ∷ []) acks_now journal_now → HasRisen status before after → Run plan before after status (count + 1) acks_now journal_now
-  at_line status l cut answered cause =
+  at_line : (status : Status) → IsLate status → IsCut status → Answered plan before after status (g.script ++ next.line ∷ []) acks_now journal_now → HasRisen status before after → (status ≡ Done → ⊥) → Run plan before after status (count + 1) acks_now journal_now
+  at_line status l cut answered cause undone =
       late plan before after status (g.script ++ next.line ∷ []) (count + 1) acks_now journal_now l (longer count g.script next.line g.count_is) (few_read plan before mid count lines next old acks journal g c) (fit_more g.script next.line g.fit c.short)
-      (reading-cut plan.lines before.source (g.script ++ next.line ∷ []) next.held after.source after.source status (reading-more before.source g.script lines next mid.source after.source g.reading n m) cut) answered cause
+      (reading-cut plan.lines before.source (g.script ++ next.line ∷ []) next.held after.source after.source status (reading-more before.source g.script lines next mid.source after.source g.reading n m) cut) answered cause (λ e. absurd (undone e))
 
   -- the run ends at a line
   pub at_end : (end : TurnEnd) (status : Status) → EndStatus end status → TurnCauses mid.disk after.disk mid.writes after.writes (Err end)
@@ -258,12 +260,12 @@ module _ (plan : Plan) (before mid after : World) (count : ℕ) (lines next : Re
       let rose = causes.disk refl in
       let p = g.progress in
       subst (λ (s : Status). Run plan before after s (count + 1) acks_now journal_now) (sym is)
-      (at_line DiskFault tt tt (disk_end plan before mid after g.script old new acks acks_now journal journal_now next.line causes.told only counts p (asked plan before mid count lines old acks journal after.asks g few) rose g.faults (t.each p.course.plain p.course.runs)) (let a = g.faults in omega (arith, a, rose)))
+      (at_line DiskFault tt tt (disk_end plan before mid after g.script old new acks acks_now journal journal_now next.line causes.told only counts p (asked plan before mid count lines old acks journal after.asks g few) rose (no_fewer g.none.disk) (t.each p.course.plain p.course.runs)) (let a = g.none.disk in omega (arith, a, rose)) (λ e. cc))
   at_end ends.Write status is causes t =
       let rose = causes.write refl in
       let p = g.progress in
       subst (λ (s : Status). Run plan before after s (count + 1) acks_now journal_now) (sym is)
-      (at_line WriteFault tt tt (write_end plan before mid after g.script old new acks acks_now journal journal_now next.line causes.told only counts p (asked plan before mid count lines old acks journal after.asks g few) g.faults (t.each p.course.plain p.course.runs)) (let a = g.writes in omega (arith, a, rose)))
+      (at_line WriteFault tt tt (write_end plan before mid after g.script old new acks acks_now journal journal_now next.line causes.told only counts p (asked plan before mid count lines old acks journal after.asks g few) (no_fewer g.none.disk) (t.each p.course.plain p.course.runs)) (let a = g.none.writes in omega (arith, a, rose)) (λ e. cc))
 
 -- room was made for an acknowledgement
 pub roomy : (plan : Plan) (before mid : World) (count : ℕ) (lines : Reading) (store : Logged) (acks acks_now : List Ack) (journal journal_now : ℕ) → Going plan before mid count lines store acks journal → acks_now ≡ acks → journal_now ≡ journal → Going plan before mid count lines store acks_now journal_now

@@ -1,5 +1,5 @@
 -- What a line comes to.
-use Rattle.std.proofs.Common.{inl, inr, ℕ, zero, suc, ◌≡◌, ◌⊎◌, Bool, true, false, List, [], ◌∷◌, Option, None, Some, refl, ap, ◌∙◌, sym, subst}
+use Rattle.std.proofs.Common.{inl, inr, ℕ, zero, suc, ◌≡◌, ◌⊎◌, Bool, true, false, List, [], ◌∷◌, Option, None, Some, refl, ap, ◌∙◌, sym, subst, arith}
 use Rattle.ut_outside.specs.Disk.{View}
 use Rattle.ut_value.specs.declared.entry.Op.{Op}
 use Rattle.ut_plain.specs.declared.statement.Statement.{Statement}
@@ -16,7 +16,8 @@ use Rattle.ut_plain.specs.Plain.{Plain, Phase, Idle, Writing, Sealed, open_at}
 use Rattle.ut_plain.specs.View.{view}
 use Rattle.ut_plain.specs.Refusals.{refusal}
 use Rattle.ut_plain.specs.declared.stage.PendingMerge.{PendingMerge}
-use Rattle.ut_plain.specs.Step.{merge_ended, step, step_by, effect_of, committed, committed_by, said_changed, said_alone, MayAnswer, Steps, LacksMemory, may_lack_memory, save_written, save_sealed, save_flipped, MayFault}
+use Rattle.ut_plain.specs.Step.{merge_ended, step, step_by, effect_of, committed, committed_by, said_changed, said_alone, MayAnswer, Steps, LacksMemory, may_lack_memory, save_written, save_sealed, save_flipped}
+use Rattle.ut_plain.specs.Step as steps
 use Rattle.ut_plain.specs.Transcript.{Answer, AnswersLine}
 use Rattle.ut_reply.specs.Texts.{reply_text, is_small}
 use Rattle.ut_script.specs.Grammar.{MayLackMemory}
@@ -28,7 +29,7 @@ use Rattle.ut_run.specs.declared.say.Said.TheVariants as saids
 use Rattle.ut_course.specs.Keeping.{Keeps}
 use Rattle.ut_course.proofs.ComeLemmas.{not_bare}
 use Rattle.ut_course.proofs.KeepLemmas.{OnlyNow, still}
-use Rattle.ut_run.specs.Saying.{IsText, Whole, Lacking, Outcome, Quiet, Replied, Failed, Says, said_of}
+use Rattle.ut_run.specs.Saying.{IsText, Whole, Lacking, Outcome, Quiet, Replied, Failed, Says, said_of, MayFault}
 
 -- ---- long replies
 
@@ -117,7 +118,7 @@ with_text p session st reply q before after new text (Lacking long _ t) said may
     Replied (record { session = Some session; reply = replies.Refused refusals.Memory }) q refl (record { reply = replies.Refused refusals.Memory; is = refl; may = LacksMemory l.may refl l.same }) runs keeps t
 
 lost_text : {room : ℕ} → (p : Plain) (session : ℕ) (st : Statement) (before after : View) (new : Logged) (text : List ℕ) → IsText room session replies.DiskFault text
-    → MayFault p session st → Keeps before after (step p session st).plain.journal (journal_len p.journal) → Outcome p (Good session st) before saids.Fault new after text
+    → steps.MayFault p session st → Keeps before after (step p session st).plain.journal (journal_len p.journal) → Outcome p (Good session st) before saids.Fault new after text
 lost_text p session st before after new text (Whole t) may keeps =
     Failed (record { session = Some session; reply = replies.DiskFault }) (step p session st).plain refl (record { session = session; st = st; is_line = refl; answered = refl; steps = refl; may = may }) keeps t
 lost_text p session st before after new text (Lacking long _ t) may keeps = cc
@@ -156,6 +157,39 @@ says_statement old before session st reply new after text said serves is e = rec
   each = λ p runs.
       subst (λ s. Outcome p (Good session st) before s new after text) (sym e) (says_by _ p old before session st reply new after text is (serves.each p runs));
 }
+
+-- ---- the faults of the disk
+
+fault_of : (reply : Reply) → said_of reply ≡ saids.Fault → reply ≡ replies.DiskFault
+fault_of replies.Done h = cc
+fault_of (replies.Committed n) h = cc
+fault_of (replies.Changed a b) h = cc
+fault_of (replies.Rows a) h = cc
+fault_of (replies.Groups a) h = cc
+fault_of (replies.Count a) h = cc
+fault_of (replies.Sum a) h = cc
+fault_of (replies.Min a) h = cc
+fault_of (replies.Max a) h = cc
+fault_of (replies.Moved a) h = cc
+fault_of (replies.Merge a) h = cc
+fault_of (replies.Saving a b) h = cc
+fault_of (replies.Sealed a) h = cc
+fault_of (replies.Root a) h = cc
+fault_of (replies.Shape a) h = cc
+fault_of (replies.Refused a) h = cc
+fault_of replies.DiskFault h = refl
+
+pub said_faults : (old : Logged) (before : View) (session : ℕ) (st : Statement) (reply : Reply) (new : Logged) (after : View) (said : Said) → Serves old before session st reply new after → said ≡ said_of reply → MayFault before after said
+said_faults old before session st reply new after said s e = record {
+  told = s.told;
+  no_fewer = s.later;
+  cause = λ is. s.cause (fault_of reply (sym e ∙ is));
+  still = λ not. s.still (λ is. not (e ∙ ap said_of is));
+}
+
+-- a line for which the disk isn't called
+pub said_without : (v : View) (said : Said) → (said ≡ saids.Fault → ⊥) → MayFault v v said
+said_without v said not = record { told = refl; no_fewer = omega arith; cause = λ is. absurd (not is); still = λ _. refl }
 
 -- ---- other lines
 

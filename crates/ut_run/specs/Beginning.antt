@@ -20,6 +20,8 @@ pub record Begun (start : Start) (rows : ℕ) (entry now : View) (store : Logged
   pub runs : Runs store now (opened first rows)
   pub begins : IsTold entry → Begins start first entry.seen
   pub kept : IsTold entry → Kept start entry now first.journal first.journal []
+  -- a fault that was counted is told
+  pub no_fault : now.faults ≡ entry.faults
 
 -- why it doesn't, and that nothing was lost
 pub record NotBegun (start : Start) (entry now : View) (status : Status) : Type 0 where

@@ -11,7 +11,7 @@ use Rattle.ut_run.specs.declared.start.Start.TheVariants.{New, Open}
 use Rattle.ut_run.specs.declared.report.Status.{Status}
 use Rattle.ut_run.specs.declared.report.Status.TheVariants.{Done, Usage, NoStore, Exists, ReadFault, WriteFault, DiskFault, Damaged, Memory, TooLong}
 use Rattle.ut_words.specs.declared.plan.Plan.{Plan}
-use Rattle.ut_run.specs.World.{World}
+use Rattle.ut_run.specs.World.{World, NoFault}
 use Rattle.ut_run.specs.Plans.{start_of}
 use Rattle.ut_run.specs.Script.{is_too_long, FitsInput}
 use Rattle.ut_run.specs.Origin.{Origin, Begins}
@@ -83,6 +83,8 @@ pub record Run (plan : Plan) (before after : World) (status : Status) (lines : �
   pub input : FitsInput plan.lines status before.source
   -- a fault only where its count rose
   pub cause : HasRisen status before after
+  -- and a fault that was counted is told: Done only where no count rose
+  pub still : status ≡ Done → NoFault before after
   pub taken : status ≡ Usage → ⊥
   -- where nothing is in the way, all is done, but for want of memory
   pub complete : IsComplete plan before after status

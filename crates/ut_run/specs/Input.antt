@@ -8,9 +8,9 @@ use Rattle.ut_script.specs.Lines.{Reading, NextLine}
 use Rattle.ut_run.specs.declared.report.Status.{Status}
 use Rattle.ut_run.specs.declared.report.Status.TheVariants.{Done, ReadFault, Memory, TooLong}
 
--- Done at the end of the input, ReadFault where the source failed, TooLong where the next line is past the limits, Memory for want of it
+-- Done at the end of the input, where no fault was counted, ReadFault where the source failed, TooLong where the next line is past the limits, Memory for want of it
 abbrev pub NoLine : Status → Reading → Option (List ℕ) → ℕ → Reading → Option (List ℕ) → ℕ → Type 0
-NoLine Done old left reads new left_now reads_now = NextLine old left (Ok false) new left_now
+NoLine Done old left reads new left_now reads_now = NextLine old left (Ok false) new left_now × (reads_now ≡ reads)
 NoLine ReadFault old left reads new left_now reads_now = Rose reads reads_now
 NoLine TooLong old left reads new left_now reads_now = NextLine old left (Err errors.TooLong) new left_now
 NoLine Memory old left reads new left_now reads_now = Unit {0}

@@ -25,11 +25,12 @@ abbrev pub IsKnown : Parsed → Type 0
 IsKnown (Good session st) = (session < 17) × IsTrue (suits_session session st) × IsTrue (is_spelled st)
 IsKnown _ = Unit {0}
 
--- a fault of the disk comes only where its count rose
+-- a fault of the disk comes only where its count rose, and everything else only where it stayed
 pub record MayFault (before after : View) (said : Said) : Type 0 where
   pub told : after.told ≡ before.told
   pub no_fewer : before.faults ≤ after.faults
   pub cause : said ≡ saids.Fault → Rose before.faults after.faults
+  pub still : (said ≡ saids.Fault → ⊥) → after.faults ≡ before.faults
 
 -- what a reply comes to
 abbrev pub said_of : Reply → Said

@@ -1,5 +1,5 @@
 -- What becomes of a line: it is answered, the answer is acknowledged, and written.
-use Rattle.std.specs.Prelude.{ℕ, ◌≡◌, ◌≤◌, List, [], ◌∷◌, ◌++◌, Option, Result, Ok, Err, IsErrOf}
+use Rattle.std.specs.Prelude.{ℕ, ◌≡◌, ◌≤◌, List, [], ◌∷◌, ◌++◌, Option, Result, Ok, Err, OnOk, IsErrOf}
 use Rattle.ut_outside.specs.Disk.{View}
 use Rattle.ut_outside.specs.Faults.{Rose}
 use Rattle.ut_outside.specs.declared.ack.Ack.{Ack}
@@ -67,13 +67,14 @@ pub record Turns
     (new : Logged) (after : View) (notes_now : Noted) (sink_now : Sunk) : Type 0 where
   pub each : (p : Plain) → Runs old before p → LineOutcome p line before notes sink result new after notes_now sink_now
 
--- the faults of disk and sink that a result speaks of
+-- the faults of disk and sink that a result speaks of: neither count rose where the run goes on
 pub record TurnCauses (before after : View) (writes writes_now : ℕ) (result : Result (Unit {0}) TurnEnd) : Type 0 where
   pub told : after.told ≡ before.told
   pub no_fewer : before.faults ≤ after.faults
   pub no_fewer_writes : writes ≤ writes_now
   pub disk : IsErrOf result ends.Disk → Rose before.faults after.faults
   pub write : IsErrOf result ends.Write → Rose writes writes_now
+  pub still : OnOk result ((after.faults ≡ before.faults) × (writes_now ≡ writes))
 
 -- the status of a run that ends at a line
 abbrev pub EndStatus : TurnEnd → Status → Type 0

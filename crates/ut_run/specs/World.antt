@@ -25,6 +25,12 @@ pub record StreamsStay (before after : World) : Type 0 where
   pub marks : after.marks ≡ before.marks
   pub writes : after.writes ≡ before.writes
 
+-- no count of faults rose
+pub record NoFault (before after : World) : Type 0 where
+  pub reads : after.reads ≡ before.reads
+  pub writes : after.writes ≡ before.writes
+  pub disk : after.disk.faults ≡ before.disk.faults
+
 -- the disk wasn't called
 pub record DiskStays (before after : View) : Type 0 where
   pub moment : after.moment ≡ before.moment

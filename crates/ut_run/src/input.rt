@@ -31,6 +31,7 @@ pub(crate) fn next_line<S: Source<K>, K: Taken>(
     ensures counts { OnOk result (Counts lines.old (Ok true) lines.new) }
     ensures ends { IfErr result (λ status. NoLine status lines.old (S.left source.old) (S.faults source.old) lines.new (S.left source.new) (S.faults source.new)) }
     ensures later { S.faults source.old ≤ S.faults source.new }
+    ensures still { OnOk result (S.faults source.new ≡ S.faults source.old) }
     ensures acks { replies.new.acks.items ≡ replies.old.acks.items }
     ensures journal { replies.new.journal ≡ replies.old.journal }
 {

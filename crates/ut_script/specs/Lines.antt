@@ -1,5 +1,5 @@
 -- The lines of an input, and what one call takes of them.
-use Rattle.std.specs.Prelude.{ℕ, suc, ◌+◌, ◌≡◌, ◌≤◌, Bool, true, false, nat_eq, nat_le, nat_lt, ◌&&◌, ◌||◌, if◌then◌else◌, List, [], ◌∷◌, ◌++◌, length, Option, None, Some, Result, Ok, Err, MatchResult, IsErrOf}
+use Rattle.std.specs.Prelude.{ℕ, suc, ◌+◌, ◌≡◌, ◌≤◌, Bool, true, false, nat_eq, nat_le, nat_lt, ◌&&◌, ◌||◌, if◌then◌else◌, List, [], ◌∷◌, ◌++◌, length, Option, None, Some, Result, Ok, Err, MatchResult, OnOk, IsErrOf}
 use Rattle.std.specs.Bool.{MatchBool}
 use Rattle.std.specs.List.{AllByRecursion}
 use Rattle.ut_outside.specs.declared.ask.Ask.{Ask}
@@ -110,10 +110,12 @@ abbrev pub StaysFailed : Option LineError → Reading → Result Bool LineError 
 StaysFailed None old result new = Unit {0}
 StaysFailed (Some e) old result new = (result ≡ Err e) × (new ≡ old)
 
--- the count of faults doesn't fall, and a fault is answered only where it rose, or again
+-- The count of faults doesn't fall, and a fault is answered only where it rose, or again. It stays where there is a line, and
+-- at the end of the input.
 pub record MayFail (old : Reading) (before now : ℕ) (result : Result Bool LineError) : Type 0 where
   pub later : before ≤ now
   pub read : IsErrOf result Read → old.failed ≡ None → Rose before now
+  pub still : OnOk result (now ≡ before)
 
 -- ---- when a source is asked
 

@@ -21,7 +21,7 @@ use Rattle.ut_table.specs.Finds.{hits_of}
 use Rattle.ut_store.specs.Held.{Held}
 use Rattle.ut_store.specs.Reads.{looks_at, own_at}
 use Rattle.ut_store.specs.Hits.{Hits, plain_rows}
-use Rattle.ut_scan.specs.declared.place.ColumnPred.{ColumnPred}
+use Rattle.ut_key.specs.declared.comparison.ColumnPred.{ColumnPred}
 use Rattle.ut_store.specs.Changes.{CanLook}
 use Rattle.ut_store.proofs.NamedLemmas.{named_table}
 use Rattle.ut_store.proofs.SearchLemmas.{seen_once}

@@ -13,8 +13,8 @@ use Rattle.ut_plain.proofs.TableLemmas.{there}
 use Rattle.ut_stamps.specs.declared.place.Place.{Place}
 use Rattle.ut_exact.specs.Stamped.{Stamped}
 use Rattle.ut_exact.specs.Places.{stamped_in}
-use Rattle.ut_scan.specs.declared.place.ColumnPred.{ColumnPred}
-use Rattle.ut_names.specs.Compiled.{Compiles}
+use Rattle.ut_key.specs.declared.comparison.ColumnPred.{ColumnPred}
+use Rattle.ut_plain.specs.Compiled.{Compiles}
 use Rattle.ut_names.specs.declared.resolved.Selection.{Selection}
 use Rattle.ut_names.specs.Resolved.{IsSelection}
 use Rattle.ut_query.specs.Tells.{IsSelected}

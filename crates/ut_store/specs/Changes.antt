@@ -29,7 +29,7 @@ use Rattle.ut_staged.specs.Staged.{Staged}
 use Rattle.ut_tables.specs.Rows.{HasTable}
 use Rattle.ut_tables.specs.Changed.{Changed, Committed}
 use Rattle.ut_tables.specs.Finds.{CanScan}
-use Rattle.ut_scan.specs.declared.place.ColumnPred.{ColumnPred}
+use Rattle.ut_key.specs.declared.comparison.ColumnPred.{ColumnPred}
 use Rattle.ut_names.specs.declared.resolved.Selection.{Selection}
 use Rattle.ut_names.specs.declared.resolved.Target.{Target}
 use Rattle.ut_names.specs.Resolved.{IsSelection, IsTarget}

@@ -11,7 +11,7 @@ use Rattle.ut_exact.specs.Stamped.{Stamped}
 use Rattle.ut_exact.specs.Exact.{shown_by, ended_by, may_take}
 use Rattle.ut_txn.specs.declared.opened.Opened.{Opened}
 use Rattle.ut_txn.specs.Seats.{opened_at, payload_at}
-use Rattle.ut_query.specs.Look.{Sight}
+use Rattle.ut_look.specs.Look.{Sight}
 use Rattle.ut_tables.specs.Finds as seen
 use Rattle.ut_store.specs.Held.{Held}
 use Rattle.ut_store.specs.Stands.{opened_snapshot}

@@ -3,7 +3,7 @@ ghost use Rattle.std.specs.Prelude.{◌≡◌, ◌<◌, ℕ, List, IfOk};
 ghost use Rattle.ut_plain.specs.declared.statement.Pred.{Pred};
 ghost use Rattle.ut_table.specs.Finds.{hits_of};
 ghost use Rattle.ut_names.specs.Resolved.{IsSelection};
-ghost use Rattle.ut_query.specs.Look.{sight};
+ghost use Rattle.ut_look.specs.Look.{sight};
 ghost use Rattle.ut_query.specs.Tells.{IsSelected};
 ghost use Rattle.ut_store.specs.Changes.{Looked};
 ghost use Rattle.ut_store.specs.Listed.{Lists};

@@ -1,7 +1,9 @@
 //! Merges into main: one begins, hands out its job, and ends with what was built of it.
 ghost use Rattle.std.specs.Prelude.{◌≡◌, ◌<◌, false, Some, None, IsTrue, IfOk, OnOk, OnErr, slice_get};
+ghost use Rattle.std.specs.Option.{option_map};
 ghost use Rattle.ut_value.specs.declared.entry.Entry.TheVariants as entries;
 ghost use Rattle.ut_value.specs.Spelling.{spelling};
+ghost use Rattle.ut_plain.specs.declared.stage.PendingMerge.{PendingMerge};
 ghost use Rattle.ut_plain.specs.declared.statement.Statement.TheVariants as statements;
 ghost use Rattle.ut_plain.specs.Refusals.{is_save};
 ghost use Rattle.ut_plain.specs.Spelled.{is_spelled};
@@ -17,9 +19,9 @@ use crate::pending::Pending;
 use crate::transactions::ENTRIES_LIMIT;
 use crate::{Outcome, Response, Store};
 use std::alloc::{AllocError, Global};
+use ut_frame::Frame;
 use ut_merge::{Built, Job};
 use ut_plain::{PendingMerge, Refusal, Reply, Statement};
-use ut_redo::Frame;
 use ut_value::{Entry, MergeKind, Name};
 
 impl Store {
@@ -120,7 +122,9 @@ impl Store {
         requires seat { session < 17 }
         requires stands { Stands self.old }
         requires built { pending_job self.old ≡ Some built }
-        ensures { Answers self.old session statements.MergeEnd result self.new }
+        ensures answers { Answers self.old session statements.MergeEnd result self.new }
+        // Nothing can be wanting: the number of the pending merge is to be told.
+        ensures appended { option_map (λ (m : PendingMerge). Response.Append (Reply.Merge m.number)) self.old.counts.pending ≡ Some result }
     {
         let pending = self.counts.pending.take().unwrap();
         let head = pending.head();

@@ -5,8 +5,8 @@ ghost use Rattle.ut_value.specs.Spelling.{spelling};
 
 use std::alloc::{AllocError, Global};
 use std::marker::Model;
+use ut_frame::Frame;
 use ut_plain::PendingMerge;
-use ut_redo::Frame;
 use ut_value::Entry;
 
 /// Its number, table and kind, and the frame that its end will append.

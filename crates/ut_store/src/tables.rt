@@ -12,8 +12,8 @@ ghost use Rattle.ut_store.specs.Created.{Created};
 use crate::transactions::ENTRIES_LIMIT;
 use crate::{Response, Store};
 use std::alloc::{AllocError, Global};
+use ut_frame::Frame;
 use ut_plain::{Refusal, Reply};
-use ut_redo::Frame;
 use ut_value::{Column, Duplicate, Entry, Name, Seq};
 
 /// A store may have so many tables.

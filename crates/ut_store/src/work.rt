@@ -16,7 +16,7 @@ ghost use Rattle.ut_store.specs.Changes.{CanDo, CanAppend, DoneInside, DoneAlone
 use crate::Store;
 use std::alloc::{AllocError, Global};
 use ut_change::{Bulk, bytes_of, framed, inserts_of, note_all, rows_in};
-use ut_redo::Frame;
+use ut_frame::Frame;
 use ut_scan::Found;
 use ut_tables::{Changes, Work};
 use ut_txn::Opened;

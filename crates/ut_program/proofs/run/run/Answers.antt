@@ -7,4 +7,4 @@ pub returns-in-Ok : goal.returns-in-Ok
 returns-in-Ok g c = told_ends _ _ _ _ _ (subst (λ ws. AreTold (g.W.Words.told c.args.words.now) (map string_bytes ws)) (sym c.deref.ensures.value) c.in-Ok.ensures.all) c.run_words.ensures
 
 pub returns-in-Err : goal.returns-in-Err
-returns-in-Err g c = Unasked c.unasked.ensures
+returns-in-Err g c = Unasked (c.unasked.ensures (g.W.Words.told c.args.words.now) c.in-Err.ensures.says)

@@ -32,7 +32,7 @@ loop-status-init g c =
     let before : World = record { source = g.S.Source.left c.args.source.now; asks = g.S.Source.asks c.args.source.now; reads = g.S.Source.faults c.args.source.now; sink = g.K.Taken.held c.args.sink.now; marks = g.K.Sink.moments c.args.sink.now; writes = g.K.Sink.faults c.args.sink.now; disk = g.D.Disk.view c.args.disk.now } in
     record {
       going = going-start c.args.plan.now before (g.D.Disk.view c.in-Ok-begin.engine.disk) c.in-Ok.lines c.in-Ok-begin.engine.store _ _ c.in-Ok.ensures (subst (λ (s : Start). Begun s c.args.plan.now.rows (g.D.Disk.view c.args.disk.now) (g.D.Disk.view c.in-Ok-begin.engine.disk) c.in-Ok-begin.engine.store) c.start_of.ensures c.in-Ok-begin.ensures.begun) (c.opened.ensures.acks ∙ c.in-Ok-new.ensures) (c.opened.ensures.journal ∙ c.journal_len.ensures)
-          (λ bytes is. g.met.K.Sink.one_each c.args.sink.now bytes is) c.in-Ok-begin.ensures.told c.in-Ok-begin.ensures.later;
+          (λ bytes is. g.met.K.Sink.one_each c.args.sink.now bytes is) c.in-Ok-begin.ensures.told;
       loan = refl;
     }
 
@@ -71,6 +71,6 @@ loop-status-preserved g c =
     let turned = subst (λ (l : List ℕ). Turns c.loop-status.engine.store mid.disk (parsed false l) (record { acks = c.next_line.new.replies.acks.items; journal = c.next_line.new.replies.journal }) (record { held = mid.sink; marks = mid.marks }) (Ok tt) c.turn.new.engine.store after.disk (record { acks = c.turn.new.replies.acks.items; journal = c.turn.new.replies.journal }) (record { held = after.sink; marks = after.marks })) c.line-line.ensures c.in-Ok-turn.ensures.turns in
     let causes = c.turn.ensures.causes in
     record {
-      going = going-more c.args.plan.now before mid after _ _ c.next_line.new.lines _ c.turn.new.engine.store _ _ _ _ going c.in-Ok-next_line.ensures.line c.in-Ok-next_line.ensures.steps c.next_line.ensures.asks c.in-Ok-next_line.ensures.counts c.next_line.ensures.later causes.told causes.no_fewer causes.no_fewer_writes (g.met.D.Disk.only_now c.turn.new.engine.disk) (g.met.D.Disk.counts_now c.turn.new.engine.disk) turned;
+      going = going-more c.args.plan.now before mid after _ _ c.next_line.new.lines _ c.turn.new.engine.store _ _ _ _ going c.in-Ok-next_line.ensures.line c.in-Ok-next_line.ensures.steps c.next_line.ensures.asks c.in-Ok-next_line.ensures.counts c.in-Ok-next_line.ensures.still causes.told c.in-Ok-turn.ensures.causes.still.0 c.in-Ok-turn.ensures.causes.still.1 (g.met.D.Disk.only_now c.turn.new.engine.disk) (g.met.D.Disk.counts_now c.turn.new.engine.disk) turned;
       loan = c.turn.ensures.loan ∙ c.loop-status.invariant.loan;
     }

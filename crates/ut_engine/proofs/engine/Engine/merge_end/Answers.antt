@@ -10,4 +10,4 @@ merge_end-requires-clause-runs g c = c.self.invariant (subst (λ (e : Lent g.row
 pub invariant_of-self : goal.invariant_of-self
 invariant_of-self g c =
     let runs = c.self.invariant (subst (λ (e : Lent g.row.D.Denot). e.store.down ≡ false) (sym c.self.view_is) c.requires.up) in
-    goes_on c.self.inside.store c.merge_end.new.self (g.D.Disk.view c.self.inside.disk.now) (g.D.Disk.view c.merge_end.new.disk) c.args.session statements.MergeEnd c.merge_end.result runs.0 runs.1 c.merge_end.ensures
+    goes_on c.self.inside.store c.merge_end.new.self (g.D.Disk.view c.self.inside.disk.now) (g.D.Disk.view c.merge_end.new.disk) c.args.session statements.MergeEnd c.merge_end.result runs.0 runs.1 c.merge_end.ensures.serves

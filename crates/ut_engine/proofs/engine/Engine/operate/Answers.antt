@@ -12,10 +12,10 @@ statement-requires-clause-runs g c = c.self.invariant (subst (λ (e : Lent g.row
 pub invariant_of-self : goal.invariant_of-self
 invariant_of-self g c =
     let runs = c.self.invariant (subst (λ (e : Lent g.row.D.Denot). e.store.down ≡ false) (sym c.self.view_is) c.requires.up) in
-    goes_on c.self.inside.store c.statement.new.self (g.D.Disk.view c.self.inside.disk.now) (g.D.Disk.view c.statement.new.disk) 0 c.args.st.now c.statement.result runs.0 runs.1 c.statement.ensures
+    goes_on c.self.inside.store c.statement.new.self (g.D.Disk.view c.self.inside.disk.now) (g.D.Disk.view c.statement.new.disk) 0 c.args.st.now c.statement.result runs.0 runs.1 c.statement.ensures.serves
 
 pub returns-clause-tells : goal.returns-clause-tells
 returns-clause-tells g c name is =
     let runs = c.self.invariant (subst (λ (e : Lent g.row.D.Denot). e.store.down ≡ false) (sym c.self.view_is) c.requires.up) in
-    let answered = stages_answered c.self.inside.store c.statement.new.self (g.D.Disk.view c.self.inside.disk.now) (g.D.Disk.view c.statement.new.disk) c.args.st.now c.statement.result name runs.0 runs.1 is c.statement.ensures in
+    let answered = stages_answered c.self.inside.store c.statement.new.self (g.D.Disk.view c.self.inside.disk.now) (g.D.Disk.view c.statement.new.disk) c.args.st.now c.statement.result name runs.0 runs.1 is c.statement.ensures.serves in
     subst (λ (e : Lent g.row.D.Denot). IsTrue (may_tell c.statement.result c.args.st.now (has_table e.store.store.rows.tables name))) c.self.view_is answered.1

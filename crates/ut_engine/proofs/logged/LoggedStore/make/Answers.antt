@@ -34,6 +34,9 @@ returns-clause-new g c =
     let v1 : View = g.D.Disk.view c.made.new.disk in
     let v2 : View = g.D.Disk.view c.make.new.disk in
     let v3 : View = g.D.Disk.view c.make-2.new.disk in
-    let files : c.new-2.result ≡ made_held = c.new-2.ensures ∙ (λ i. record { log = c.in_ok-redo.ensures.place i; slot = (c.fresh.ensures i).slot; reached = (c.fresh.ensures i).reached }) in
+    let files : c.new-2.result ≡ made_held = c.new-2.ensures ∙ (λ i. record { log = (c.in_ok-redo.ensures.place i).place; group = (c.in_ok-redo.ensures.place i).group; slot = (c.fresh.ensures i).slot; reached = (c.fresh.ensures i).reached }) in
     is_new v0 v1 v2 v3 c.in_ok-store.store c.new-2.result c.in_ok-next.next c.args.rows c.in_ok-next.ensures c.in_ok-made.ensures.reads (unmade_by _ v0 c.if-branch.false c.in_ok-made.ensures.made) (c.in_ok-store.ensures image_pages) files
     c.make.ensures.told c.make-2.ensures.told c.in_ok-redo.ensures.empty c.in_ok-make.ensures.made
+
+pub returns-clause-no_fault : goal.returns-clause-no_fault
+returns-clause-no_fault g c = c.in_ok-make.ensures.cause.still ∙ c.in_ok-redo.ensures.cause.still ∙ c.in_ok-made.ensures.cause.still

@@ -1,4 +1,4 @@
-use Rattle.std.proofs.Common.{◌≡◌, false, List, Err, None, sym, ◌∙◌, ap, subst, arith}
+use Rattle.std.proofs.Common.{◌≡◌, false, List, Err, None, refl, sym, ◌∙◌, ap, subst, arith}
 use Rattle.std.specs.Prelude.{IsTrue}
 use Rattle.std.proofs.lemmas.Result.{err_from_is_err_and}
 use Rattle.ut_value.specs.declared.entry.Entry.{Entry}
@@ -66,8 +66,8 @@ returns-in_err-store-clause-damaged g c is =
     let p = err_from_is_err_and c.from_residual-in_err-store.result c.from_residual-in_err-store.ensures.1 in
     let same : p.0 ≡ Damaged = cc in
     let error = restart_damaged c.in_err-store.field-0.0 (sym p.2 ∙ same) in
-    entries_damaged _ _ _ _ read image.field-0 image.ensures.found c.in_ok-redo.entries c.in_ok-redo.redo (λ told.
-    subst (λ (file : Which). LogHolds (record { file = file; end = image.field-0.root.offset }) c.in_ok-redo.entries c.in_ok-redo.redo (g.D.Disk.view c.read_image.new.disk).seen) c.log_file-begins.ensures (c.in_ok-redo.ensures.found told))
+    entries_damaged _ _ _ _ read image.field-0 image.ensures.found c.in_ok-redo.entries c.in_ok-redo.redo.place (λ told.
+    subst (λ (file : Which). LogHolds (record { file = file; end = image.field-0.root.offset }) c.in_ok-redo.entries c.in_ok-redo.redo.place (g.D.Disk.view c.read_image.new.disk).seen) c.log_file-begins.ensures (c.in_ok-redo.ensures.found told))
     (c.in_err-store.ensures.damaged (ap Err error))
 
 pub log_file-begins-requires : goal.log_file-begins-requires
@@ -87,10 +87,13 @@ returns-clause-opens g c =
     let read : IsRead v0 v1 v2 v3 = record { settle = c.in_ok-settle.ensures.reads; made = c.in_ok-made.ensures.reads; image = image.ensures.reads; is_made = λ told. (c.in_ok-made.ensures.made told).0 c.if-not-branch.false } in
     let begins = image.ensures.begins in
     let base = began image.field-0 begins.0 begins.1 in
-    let held : IsTold v3 → LogHolds (place_of image.field-0.root) c.in_ok-redo.entries c.in_ok-redo.redo v3.seen =
-    λ told. subst (λ (file : Which). LogHolds (record { file = file; end = image.field-0.root.offset }) c.in_ok-redo.entries c.in_ok-redo.redo v3.seen) c.log_file-begins.ensures (log.found told) in
+    let held : IsTold v3 → LogHolds (place_of image.field-0.root) c.in_ok-redo.entries c.in_ok-redo.redo.place v3.seen =
+    λ told. subst (λ (file : Which). LogHolds (record { file = file; end = image.field-0.root.offset }) c.in_ok-redo.entries c.in_ok-redo.redo.place v3.seen) c.log_file-begins.ensures (log.found told) in
     let opened =
     opens v0 v1 v2 v3 v4 read log.reads c.in_ok-settle.ensures.settled c.in_ok-store.store c.in_ok-redo.redo c.in_ok-next.next image.field-0 c.in_ok-redo.entries c.args.rows c.in_ok-store.ensures.ok log.log log.small
     (subst (λ (entries : List Entry). NotedBehind image.field-0.root.next entries c.in_ok-next.next) c.as_slice.ensures c.in_ok-next.ensures)
     image.ensures.found held begins.0 base.0 base.1 in
     subst (λ (e : Logged). Opens e c.args.rows v0 v4) (λ i. record { store = c.in_ok-store.store; files = (sym c.new.ensures) i; begins = (sym c.log_file-begins.ensures) i; saving = None; next = c.in_ok-next.next; down = false }) opened
+
+pub returns-clause-no_fault : goal.returns-clause-no_fault
+returns-clause-no_fault g c = c.in_ok-redo.ensures.still refl ∙ c.in_ok-pages.ensures.still refl ∙ c.in_ok-made.ensures.cause.still ∙ c.in_ok-settle.ensures.cause.still

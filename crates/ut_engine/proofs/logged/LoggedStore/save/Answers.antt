@@ -5,22 +5,22 @@ use Rattle.ut_plain.specs.Refusals.{is_save}
 use Rattle.ut_engine.specs.Serves.{Serves}
 use Rattle.ut_engine.proofs.logged.LoggedStore.save.Goals as goal
 
-pub returns-in-SaveBegin : goal.returns-in-SaveBegin
-returns-in-SaveBegin g c session =
+pub returns-in-SaveBegin-clause-serves : goal.returns-in-SaveBegin-clause-serves
+returns-in-SaveBegin-clause-serves g c session =
     subst (λ (st : Statement). Serves c.args.self.now (g.D.Disk.view c.args.disk.now) session st c.save_begin.result c.save_begin.new.self (g.D.Disk.view c.save_begin.new.disk)) (sym c.in-SaveBegin.is) (c.save_begin.ensures.serves session)
 
-pub returns-in-SaveStep : goal.returns-in-SaveStep
-returns-in-SaveStep g c session =
+pub returns-in-SaveStep-clause-serves : goal.returns-in-SaveStep-clause-serves
+returns-in-SaveStep-clause-serves g c session =
     subst (λ (st : Statement). Serves c.args.self.now (g.D.Disk.view c.args.disk.now) session st c.save_step.result c.save_step.new.self (g.D.Disk.view c.save_step.new.disk)) (sym c.in-SaveStep.is) (c.save_step.ensures.serves session)
 
-pub returns-in-SaveSeal : goal.returns-in-SaveSeal
-returns-in-SaveSeal g c session =
+pub returns-in-SaveSeal-clause-serves : goal.returns-in-SaveSeal-clause-serves
+returns-in-SaveSeal-clause-serves g c session =
     subst (λ (st : Statement). Serves c.args.self.now (g.D.Disk.view c.args.disk.now) session st c.save_seal.result c.save_seal.new.self (g.D.Disk.view c.save_seal.new.disk)) (sym c.in-SaveSeal.is) (c.save_seal.ensures.serves session)
 
-pub returns-in-SaveFlip : goal.returns-in-SaveFlip
-returns-in-SaveFlip g c session =
+pub returns-in-SaveFlip-clause-serves : goal.returns-in-SaveFlip-clause-serves
+returns-in-SaveFlip-clause-serves g c session =
     subst (λ (st : Statement). Serves c.args.self.now (g.D.Disk.view c.args.disk.now) session st c.save_flip.result c.save_flip.new.self (g.D.Disk.view c.save_flip.new.disk)) (sym c.in-SaveFlip.is) (c.save_flip.ensures.serves session)
 
-pub returns-in-SaveDrop : goal.returns-in-SaveDrop
-returns-in-SaveDrop g c session =
-    subst (λ (st : Statement). Serves c.args.self.now (g.D.Disk.view c.args.disk.now) session st c.save_drop.result c.save_drop.new.self (g.D.Disk.view c.save_drop.new.disk)) (sym c.in-SaveDrop.is) (c.save_drop.ensures.serves session)
+pub returns-in-SaveDrop-clause-serves : goal.returns-in-SaveDrop-clause-serves
+returns-in-SaveDrop-clause-serves g c session =
+    subst (λ (st : Statement). Serves c.args.self.now (g.D.Disk.view c.args.disk.now) session st c.save_drop.result c.save_drop.new.self (g.D.Disk.view c.args.disk.now)) (sym c.in-SaveDrop.is) (c.save_drop.ensures.serves session)

@@ -49,7 +49,7 @@ told-requires g c =
 pub returns-in-Ok-clause-serves : goal.returns-in-Ok-clause-serves
 returns-in-Ok-clause-serves g c session =
     let planned = rw c.in-Ok-Some.field-0-is at c.in-Ok-Some.ensures.planned in
-    serves_begun c.args.self.now c.leave_log.new.self _ _ _ session c.told.result planned.0 c.in-Ok-Some.savepoint (in_turn _ _ statements.SaveBegin c.in_default.ensures.passes) planned.1 planned.2 c.in-Ok.ensures.left c.leave_log.ensures.any_moment refl c.told.ensures c.leave_log.ensures.told c.leave_log.ensures.cause.later
+    serves_begun c.args.self.now c.leave_log.new.self _ _ _ session c.told.result planned.0 c.in-Ok-Some.savepoint (in_turn _ _ statements.SaveBegin c.in_default.ensures.passes) planned.1 planned.2 c.in-Ok.ensures.left c.leave_log.ensures.any_moment refl c.told.ensures c.leave_log.ensures.told c.in-Ok.ensures.cause.still
 
 pub returns-in-Ok-clause-tells : goal.returns-in-Ok-clause-tells
 returns-in-Ok-clause-tells g c =
@@ -60,7 +60,7 @@ returns-in-Ok-clause-tells g c =
 pub returns-in-Err-leave_log-clause-serves : goal.returns-in-Err-leave_log-clause-serves
 returns-in-Err-leave_log-clause-serves g c session =
     let planned = rw c.in-Ok-Some.field-0-is at c.in-Ok-Some.ensures.planned in
-    serves_unbegun c.args.self.now c.goes_down.new.self _ _ session c.goes_down.result planned.0 c.in-Ok-Some.savepoint (in_turn _ _ statements.SaveBegin c.in_default.ensures.passes) planned.1 planned.2 c.leave_log.ensures.any_moment c.goes_down.ensures.reply (ap (λ (e : Logged). e.down) c.goes_down.ensures.down) c.leave_log.ensures.told c.leave_log.ensures.cause.later c.in-Err-leave_log.ensures.cause.failed
+    serves_unbegun c.args.self.now c.goes_down.new.self _ _ session c.goes_down.result planned.0 c.in-Ok-Some.savepoint (in_turn _ _ statements.SaveBegin c.in_default.ensures.passes) planned.1 planned.2 c.leave_log.ensures.any_moment c.goes_down.ensures.reply (ap (λ (e : Logged). e.down) c.goes_down.ensures.down) (ap (λ (e : Logged). e.store) c.goes_down.ensures.down ∙ c.leave_log.ensures.memory) c.leave_log.ensures.told c.leave_log.ensures.cause.later c.in-Err-leave_log.ensures.cause.failed
 
 pub returns-in-Err-leave_log-clause-tells : goal.returns-in-Err-leave_log-clause-tells
 returns-in-Err-leave_log-clause-tells g c = fault_begin c.goes_down.result c.goes_down.ensures.reply

@@ -1,4 +1,4 @@
-use Rattle.std.proofs.Common.{refl, ap}
+use Rattle.std.proofs.Common.{refl, ap, ◌∙◌}
 use Rattle.ut_plain.specs.declared.statement.Statement.TheVariants as statements
 use Rattle.ut_engine.specs.Logged.{Logged}
 use Rattle.ut_engine.proofs.CallLemmas.{out_of_turn_flip, fault_flip, root_told}
@@ -21,14 +21,14 @@ select_root-requires g c = may_select _ _ _ c.requires.runs.1 (in_turn _ _ state
 
 pub returns-in-Ok-clause-serves : goal.returns-in-Ok-clause-serves
 returns-in-Ok-clause-serves g c session =
-    serves_flipped c.args.self.now _ _ _ session c.in-Ok.entries (in_turn _ _ statements.SaveFlip c.in_default.ensures.passes) c.in-Ok.ensures.selected c.select_root.ensures.any_moment c.select_root.ensures.told c.select_root.ensures.cause.later
+    serves_flipped c.args.self.now _ _ _ session c.in-Ok.entries (in_turn _ _ statements.SaveFlip c.in_default.ensures.passes) c.in-Ok.ensures.selected c.select_root.ensures.any_moment c.select_root.ensures.told c.in-Ok.ensures.cause.still
 
 pub returns-in-Ok-clause-tells : goal.returns-in-Ok-clause-tells
 returns-in-Ok-clause-tells g c = root_told c.in-Ok.entries
 
 pub returns-in-Err-clause-serves : goal.returns-in-Err-clause-serves
 returns-in-Err-clause-serves g c session =
-    serves_unflipped c.args.self.now c.goes_down.new.self _ _ session c.goes_down.result (in_turn _ _ statements.SaveFlip c.in_default.ensures.passes) c.select_root.ensures.any_moment c.goes_down.ensures.reply (ap (λ (e : Logged). e.down) c.goes_down.ensures.down) c.select_root.ensures.told c.select_root.ensures.cause.later c.in-Err.ensures.cause.failed
+    serves_unflipped c.args.self.now c.goes_down.new.self _ _ session c.goes_down.result (in_turn _ _ statements.SaveFlip c.in_default.ensures.passes) c.select_root.ensures.any_moment c.goes_down.ensures.reply (ap (λ (e : Logged). e.down) c.goes_down.ensures.down) (ap (λ (e : Logged). e.store) c.goes_down.ensures.down ∙ c.select_root.ensures.memory) c.select_root.ensures.told c.select_root.ensures.cause.later c.in-Err.ensures.cause.failed
 
 pub returns-in-Err-clause-tells : goal.returns-in-Err-clause-tells
 returns-in-Err-clause-tells g c = fault_flip c.goes_down.result c.goes_down.ensures.reply

@@ -1,4 +1,4 @@
-use Rattle.std.proofs.Common.{refl, ap}
+use Rattle.std.proofs.Common.{refl, ap, ◌∙◌}
 use Rattle.ut_plain.specs.declared.statement.Statement.TheVariants as statements
 use Rattle.ut_engine.specs.Logged.{Logged}
 use Rattle.ut_engine.proofs.CallLemmas.{out_of_turn_told, fault_told, phase_told, written_counted, serves_unwritten}
@@ -27,14 +27,14 @@ told-requires g c = written_counted _ _ _ _ c.args.n _ c.requires.runs.1 (in_tur
 
 pub returns-in-Ok-clause-serves : goal.returns-in-Ok-clause-serves
 returns-in-Ok-clause-serves g c session =
-    serves_written c.args.self.now _ _ _ session c.args.n c.told.result (in_turn _ _ (statements.SaveStep c.args.n) c.in_default.ensures.passes) c.in-Ok.ensures.written c.write_pages.ensures.stays c.told.ensures c.write_pages.ensures.told c.write_pages.ensures.cause.later
+    serves_written c.args.self.now _ _ _ session c.args.n c.told.result (in_turn _ _ (statements.SaveStep c.args.n) c.in_default.ensures.passes) c.in-Ok.ensures.written c.write_pages.ensures.stays c.told.ensures c.write_pages.ensures.told c.in-Ok.ensures.cause.still
 
 pub returns-in-Ok-clause-tells : goal.returns-in-Ok-clause-tells
 returns-in-Ok-clause-tells g c = phase_told c.told.result c.write_pages.new.self.saving c.told.ensures
 
 pub returns-in-Err-clause-serves : goal.returns-in-Err-clause-serves
 returns-in-Err-clause-serves g c session =
-    serves_unwritten c.args.self.now c.goes_down.new.self _ _ session c.args.n c.goes_down.result (in_turn _ _ (statements.SaveStep c.args.n) c.in_default.ensures.passes) c.write_pages.ensures.stays c.goes_down.ensures.reply (ap (λ (e : Logged). e.down) c.goes_down.ensures.down) c.write_pages.ensures.told c.write_pages.ensures.cause.later c.in-Err.ensures.cause.failed
+    serves_unwritten c.args.self.now c.goes_down.new.self _ _ session c.args.n c.goes_down.result (in_turn _ _ (statements.SaveStep c.args.n) c.in_default.ensures.passes) c.write_pages.ensures.stays c.goes_down.ensures.reply (ap (λ (e : Logged). e.down) c.goes_down.ensures.down) (ap (λ (e : Logged). e.store) c.goes_down.ensures.down ∙ c.write_pages.ensures.memory) c.write_pages.ensures.told c.write_pages.ensures.cause.later c.in-Err.ensures.cause.failed
 
 pub returns-in-Err-clause-tells : goal.returns-in-Err-clause-tells
 returns-in-Err-clause-tells g c = fault_told c.goes_down.result c.goes_down.new.self.saving c.goes_down.ensures.reply

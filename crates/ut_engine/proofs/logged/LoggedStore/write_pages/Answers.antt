@@ -1,4 +1,4 @@
-use Rattle.std.proofs.Common.{◌≡◌, ℕ, min, ◌∙◌, refl, sym, subst, arith}
+use Rattle.std.proofs.Common.{◌≡◌, ℕ, min, ◌∙◌, refl, sym, ap, subst, arith}
 use Rattle.std.specs.Option.{IsSome}
 use Rattle.ut_outside.specs.Disk.{View}
 use Rattle.ut_durable.specs.Calls.{FilesHeld, Stays}
@@ -14,7 +14,7 @@ loop-init g c =
       goes = goes_none c.args.self.now v;
       stays = stays_none c.args.self.now.files v (g.met.D.Disk.only_now c.args.disk.now);
       told = refl;
-      later = omega arith;
+      still = refl;
     }
 
 pub pages_left-requires-clause-under_way : goal.pages_left-requires-clause-under_way
@@ -44,7 +44,7 @@ loop-preserved g c =
       goes = goes_more c.loop.counter c.args.self.now c.loop.self c.write_page.new.self v m w goes c.in_ok-write_page.ensures.written;
       stays = stays_then f v m w c.loop.invariant.told c.loop.invariant.stays (subst (λ (e : Logged). Stays e.files m w) goes.same c.write_page.ensures.stays);
       told = c.write_page.ensures.told ∙ c.loop.invariant.told;
-      later = omega (arith, c.loop.invariant.later, c.write_page.ensures.cause.later);
+      still = c.in_ok-write_page.ensures.cause.still ∙ c.loop.invariant.still;
     }
 
 pub returns-clause-written : goal.returns-clause-written
@@ -53,3 +53,9 @@ returns-clause-written g c =
     let m : View = g.D.Disk.view c.loop.disk in
     let all : c.loop.counter ≡ min c.args.n (pages_left c.args.self.now.saving) = omega (arith, c.loop-test.false, c.loop.auto.counter-end, c.min-count.ensures, c.pages_left.ensures) in
     subst (λ (count : ℕ). Goes count c.args.self.now v c.loop.self m) all c.loop.invariant.goes
+
+pub returns-in_err-write_page-clause-memory : goal.returns-in_err-write_page-clause-memory
+returns-in_err-write_page-clause-memory g c = c.write_page.ensures.memory ∙ ap (λ (e : Logged). e.store) c.loop.invariant.goes.same
+
+pub returns-clause-memory : goal.returns-clause-memory
+returns-clause-memory g c = ap (λ (e : Logged). e.store) c.loop.invariant.goes.same

@@ -60,7 +60,7 @@ loop-self-preserved g c =
       asks = asks_on _ _ _ _ _ _ _ _ c.loop-self.invariant.part c.loop-self.invariant.asks c.fill.ensures.asks;
       same = record { number = take.number ∙ fill.number ∙ before.number; limit = take.limit ∙ fill.limit ∙ before.limit; failed = take.failed ∙ fill.failed ∙ before.failed };
       short = c.take_piece.ensures.short;
-      later = omega (arith, c.loop-self.invariant.later, c.fill.ensures.cause.later);
+      still = c.in_ok-fill.ensures.cause.still ∙ c.loop-self.invariant.still;
     }
 
 pub returns-in_err-fill-clause-asks : goal.returns-in_err-fill-clause-asks

@@ -1,5 +1,5 @@
 use Rattle.std.proofs.Common.{◌≡◌, ◌+◌, ℕ, Option, Some, sym, ap, ◌∙◌, subst}
-use Rattle.std.specs.Option.{option_and_then}
+use Rattle.std.specs.Option.{option_map, option_and_then}
 use Rattle.ut_value.specs.declared.entry.Entry.TheVariants as entries
 use Rattle.ut_value.specs.Spelling.{spelling}
 use Rattle.ut_plain.specs.declared.stage.PendingMerge.{PendingMerge}
@@ -23,8 +23,8 @@ switch-requires c =
     let built : pending_job e ≡ Some c.args.built = subst (λ (x : Held). pending_job x ≡ Some c.args.built) (sym c.self.view_is) c.requires.built in
     ap (job_at e.rows) c.from.ensures ∙ ap (option_and_then (λ (x : PendingMerge). job_at e.rows x.table)) (sym is) ∙ built
 
-pub returns : goal.returns
-returns c =
+pub returns-clause-answers : goal.returns-clause-answers
+returns-clause-answers c =
     let e = the_view c.self.inside in
     let m = c.head-head.result in
     let rows = c.switch.new.self.rows in
@@ -36,3 +36,11 @@ returns c =
     (subst (λ (o : Option PendingMerge). Answers e c.args.session MergeEnd (Append (replies.Merge m.number)) (record e { rows = rows; counts = record e.counts { entries = e.counts.entries + 1; pending = o }; frame = c.into_frame.result.payload })) (sym c.take.ensures.after)
     (merge_ended_now e rows m c.args.session c.into_frame.result.payload c.requires.seat is switched
     (c.into_frame.ensures ∙ ap (λ (h : PendingMerge). spelling (entries.Ended h.number)) (sym c.head-head.ensures))))
+
+pub returns-clause-appended : goal.returns-clause-appended
+returns-clause-appended c =
+    let e = the_view c.self.inside in
+    let m = c.head-head.result in
+    let is : e.counts.pending ≡ Some m = sym c.take.ensures.value ∙ c.unwrap-pending.ensures ∙ ap Some (sym c.head-head.ensures) in
+    subst (λ (x : Held). option_map (λ (o : PendingMerge). Append (replies.Merge o.number)) x.counts.pending ≡ Some (Append (replies.Merge m.number))) c.self.view_is
+    (ap (option_map (λ (o : PendingMerge). Append (replies.Merge o.number))) is)

@@ -1,7 +1,7 @@
 use Rattle.std.proofs.Common.{◌∙◌, ℕ, [], Option, sym, ap, subst}
 use Rattle.std.proofs.lemmas.Result.{IfOk-weaker}
 use Rattle.ut_plain.specs.Tables.{place_of}
-use Rattle.ut_query.specs.Look.{Sight}
+use Rattle.ut_look.specs.Look.{Sight}
 use Rattle.ut_tables.specs.Finds.{CanScan, ListsSeen}
 use Rattle.ut_tables.specs.Rows.{HasTable}
 use Rattle.ut_store.specs.Held.{Held}

@@ -1,10 +1,10 @@
 use Rattle.std.proofs.Common.{◌∙◌, ℕ, List, Option, sym, ap, subst, slice_get}
 use Rattle.std.proofs.lemmas.Result.{IfOk-weaker}
 use Rattle.ut_plain.specs.Condition.{meets}
-use Rattle.ut_scan.specs.declared.place.ColumnPred.{ColumnPred}
+use Rattle.ut_key.specs.declared.comparison.ColumnPred.{ColumnPred}
 use Rattle.ut_table.specs.Finds.{hits_of}
-use Rattle.ut_names.specs.Compiled.{Compiles}
-use Rattle.ut_query.specs.Look.{Sight}
+use Rattle.ut_plain.specs.Compiled.{Compiles}
+use Rattle.ut_look.specs.Look.{Sight}
 use Rattle.ut_tables.specs.Finds.{CanScan, Hits}
 use Rattle.ut_tables.specs.Rows.{HasTable}
 use Rattle.ut_store.specs.Held.{Held}

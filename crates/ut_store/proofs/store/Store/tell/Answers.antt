@@ -4,7 +4,8 @@ use Rattle.ut_plain.specs.declared.table.Table.{Table}
 use Rattle.ut_plain.specs.Kinds.{query_fits}
 use Rattle.ut_plain.specs.Names.{query_known}
 use Rattle.ut_names.specs.Resolved.{Hinders}
-use Rattle.ut_query.specs.Look.{CanLook, Sight}
+use Rattle.ut_look.specs.Look.{Sight}
+use Rattle.ut_query.specs.Look.{CanLook}
 use Rattle.ut_query.specs.Tells.{IsAnswer}
 use Rattle.ut_store.proofs.AskLemmas.{kept_back, told_now}
 use Rattle.ut_store.proofs.LookLemmas.{can_ask}
