@@ -22,7 +22,7 @@ use Rattle.ut_run.specs.declared.report.Status.TheVariants.{Done, Usage, NoStore
 use Rattle.ut_app.specs.declared.tally.Heard.{Heard}
 use Rattle.ut_app.specs.declared.tally.Heard.TheVariants as heards
 use Rattle.ut_app.specs.declared.tally.Tally.{Tally}
-use Rattle.ut_run.specs.World.{World}
+use Rattle.ut_run.specs.World.{World, NoFault}
 use Rattle.ut_run.specs.Plans.{start_of}
 use Rattle.ut_run.specs.Origin.{Origin, Begins}
 use Rattle.ut_run.specs.Beginning.{Begun, NotBegun}
@@ -41,8 +41,8 @@ use Rattle.ut_run.proofs.RunLemmas.{late_fits, early_cause, streams_stay, opened
 -- ---- the way
 
 pub bench-start : (plan : Plan) (entry now : View) (left : List (List ℕ)) (lines : ℕ) (store : Logged) (notes : Noting) → left ≡ script_of plan → lines ≡ 0 → Begun (start_of plan) plan.rows entry now store → notes.acks ≡ [] → notes.journal ≡ store.store.counts.entries
-    → notes.tally ≡ tally_of [] → now.told ≡ entry.told → entry.faults ≤ now.faults → IsBenching plan entry now left lines store notes
-bench-start plan entry now left lines store notes all none begun no_acks journal tally told faults = record {
+    → notes.tally ≡ tally_of [] → now.told ≡ entry.told → IsBenching plan entry now left lines store notes
+bench-start plan entry now left lines store notes all none begun no_acks journal tally told = record {
   front = [];
   parts = sym all;
   count_is = none;
@@ -51,7 +51,7 @@ bench-start plan entry now left lines store notes all none begun no_acks journal
   tally = tally;
   few = let e = ap (λ (t : Tally). t.refused) tally in omega (arith, e);
   told = told;
-  faults = faults;
+  faults = begun.no_fault;
 }
 
 -- a script has few lines
@@ -81,7 +81,7 @@ not_both : (heard : Heard) → heard ≡ heards.Fault → is_fault heard ≡ fal
 not_both heard e f = let no : true ≡ false = sym (ap is_fault e) ∙ f in cc
 
 module _ (plan : Plan) (entry was now : View) (all left : List (List ℕ)) (lines : ℕ) (old new : Logged) (notes notes_now : Noting) (text : List ℕ) (heard : Heard) (b : IsBenching plan entry was all lines old notes) (took : all ≡ text ∷ left)
-    (noted : notes_now ≡ noted_by heard notes old.store.counts.entries new.store.counts.entries now.moment) (told : now.told ≡ was.told) (faults : was.faults ≤ now.faults) (only : OnlyNow now) (counts : CountsNow now) where
+    (noted : notes_now ≡ noted_by heard notes old.store.counts.entries new.store.counts.entries now.moment) (told : now.told ≡ was.told) (still : (heard ≡ heards.Fault → ⊥) → now.faults ≡ was.faults) (only : OnlyNow now) (counts : CountsNow now) where
   abbrev front_now : List (List ℕ)
   front_now = b.front ++ text ∷ []
 
@@ -107,7 +107,7 @@ module _ (plan : Plan) (entry was now : View) (all left : List (List ℕ)) (line
         tally = same ∙ b.tally;
         few = let e = ap (λ (t : Tally). t.refused) same in let f = b.few in omega (arith, e, f);
         told = told ∙ b.told;
-        faults = let f = b.faults in omega (arith, f, faults);
+        faults = still (λ e. not_both heard e well) ∙ b.faults;
       }
   going_on well (Answered a q e sound answers runs keeps) =
       let n = noted_now a e sound in
@@ -123,7 +123,7 @@ module _ (plan : Plan) (entry was now : View) (all left : List (List ℕ)) (line
         tally = same ∙ ap (λ (t : Tally). counted t (heard_of a.reply)) b.tally ∙ tally_more b.answers a sound;
         few = subst (λ (t : Tally). t.refused ≤ lines + 1) (sym same) (refused_one notes.tally a.reply lines sound b.few);
         told = told ∙ b.told;
-        faults = let f = b.faults in omega (arith, f, faults);
+        faults = still (λ e. not_both heard e well) ∙ b.faults;
       }
   going_on well (Failed a q e faulted keeps) = absurd (not_both heard e well)
 
@@ -210,6 +210,7 @@ bench_early plan before disk status said lines acks journal is none no_acks no_j
       unasked = record { source = refl; asks = refl; reads = refl };
       store = n.fits;
       cause = cause;
+      still = λ e. absurd (subst IsEarly e n.early);
       taken = λ e. subst IsEarly e n.early;
       complete = bench_completes plan before after status (inr n.early) n.fits cause;
     })
@@ -232,14 +233,15 @@ reached_late Memory r = tt
 reached_late TooLong r = absurd r
 
 -- lines of the script were answered
-pub bench_late : (plan : Plan) (before after : World) (status : Status) (lines : ℕ) (acks : List Ack) (journal : ℕ) → IsReached status → IsUnasked before after → HasRisen status before after → Benched plan before after status lines acks journal → BenchRun plan before after status lines acks journal
-bench_late plan before after status lines acks journal r unasked cause b =
+pub bench_late : (plan : Plan) (before after : World) (status : Status) (lines : ℕ) (acks : List Ack) (journal : ℕ) → IsReached status → IsUnasked before after → HasRisen status before after → (status ≡ Done → NoFault before after) → Benched plan before after status lines acks journal → BenchRun plan before after status lines acks journal
+bench_late plan before after status lines acks journal r unasked cause still b =
     let store : IsTold before.disk → FitsStore status (start_of plan) before.disk.seen = λ told. late_fits status (start_of plan) before.disk.seen (reached_late status r) (b.served.first, b.served.begins told) in
     record {
       ended = Late r b;
       unasked = unasked;
       store = store;
       cause = cause;
+      still = still;
       taken = λ e. subst IsReached e r;
       complete = bench_completes plan before after status (inl r) store cause;
     }
@@ -289,7 +291,7 @@ telling_risen TooLong before after t h = tt
 pub bench_faulted : (plan : Plan) (before after : World) (left : List (List ℕ)) (lines : ℕ) (front : List (List ℕ)) (answers : List Answer) (plain : Plain) (acks : List Ack) (journal : ℕ) → script_of plan ≡ front ++ left → lines ≡ length front
     → Served (start_of plan) plan.rows before.disk after.disk DiskFault front answers acks journal plain → IsUnasked before after → sink_of after ≡ sink_of before → Rose before.disk.faults after.disk.faults → BenchRun plan before after DiskFault lines acks journal
 bench_faulted plan before after left lines front answers plain acks journal parts count served unasked ungiven rose =
-    bench_late plan before after DiskFault lines acks journal tt unasked rose (record {
+    bench_late plan before after DiskFault lines acks journal tt unasked rose (λ e. cc) (record {
       front = front;
       left = left;
       parts = parts;
@@ -322,7 +324,7 @@ noted_same plan entry now left lines lines_now store acks acks_now journal journ
 pub bench_told : (plan : Plan) (before after : World) (left : List (List ℕ)) (lines : ℕ) (store : Logged) (notes : Noting) (status : Status) → IsBenching plan before.disk after.disk left lines store notes → IsThrough status left → IsUnasked before after
     → TellsEnd store.store lines notes.tally status (sink_of before) after.disk.moment (sink_of after) → BenchRun plan before after status lines notes.acks notes.journal
 bench_told plan before after left lines store notes status b through unasked told =
-    bench_late plan before after status lines notes.acks notes.journal (telling_reached status told.says) unasked (telling_risen status before after told.says told.cause) (record {
+    bench_late plan before after status lines notes.acks notes.journal (telling_reached status told.says) unasked (telling_risen status before after told.says told.cause) (λ e. record { reads = unasked.reads; writes = told.still e; disk = b.faults }) (record {
       front = b.front;
       left = left;
       parts = b.parts;

@@ -1,11 +1,10 @@
 -- What a run of the crowd comes to, at each of its ends.
-use Rattle.std.proofs.Common.{inl, inr, ℕ, suc, ◌+◌, ◌≡◌, ◌≤◌, ◌⊎◌, Bool, true, false, cond, List, [], ◌∷◌, ◌++◌, length, Option, None, Result, Ok, Err, slice_index_or, ◌-◌, refl, sym, ap, ◌∙◌, subst, arith}
+use Rattle.std.proofs.Common.{inl, inr, ℕ, suc, ◌≡◌, ◌≤◌, ◌⊎◌, Bool, true, false, cond, List, [], ◌∷◌, ◌++◌, length, Option, None, Result, Ok, Err, slice_index_or, ◌-◌, refl, sym, ap, ◌∙◌, subst, arith}
 use Rattle.std.proofs.lemmas.List.{length-append}
 use Rattle.std.specs.Prelude.{IsTrue, OnErr}
 use Rattle.ut_outside.specs.Disk.{View, Image, IsTold}
 use Rattle.ut_outside.specs.Faults.{Rose}
 use Rattle.ut_outside.specs.declared.ack.Ack.{Ack}
-use Rattle.ut_outside.specs.declared.ask.Ask.{Ask}
 use Rattle.ut_plain.specs.Journal.{Journal, journal_len}
 use Rattle.ut_plain.specs.Plain.{Plain}
 use Rattle.ut_durable.specs.Journals.{HoldsPrefix}
@@ -13,10 +12,9 @@ use Rattle.ut_engine.specs.Logged.{Logged}
 use Rattle.ut_words.specs.declared.plan.Plan.{Plan}
 use Rattle.ut_course.specs.Keeping.{lengths_of, Holding}
 use Rattle.ut_course.specs.Course.{Course, Goes, Failed}
-use Rattle.ut_course.proofs.KeepLemmas.{OnlyNow, runs_whole, no_shorter}
+use Rattle.ut_course.proofs.KeepLemmas.{runs_whole, no_shorter}
 use Rattle.ut_crowd.specs.declared.book.Turn.{Turn}
 use Rattle.ut_crowd.specs.Book.{lines_in, answers_in, acks_in}
-use Rattle.ut_crowd.specs.Queues.{HasAnswered}
 use Rattle.ut_crowd.specs.Crowding.{Crowded}
 use Rattle.ut_run.specs.declared.start.Start.{Start}
 use Rattle.ut_run.specs.declared.report.Status.{Status}
@@ -24,13 +22,13 @@ use Rattle.ut_run.specs.declared.report.Status.TheVariants.{Done, Usage, NoStore
 use Rattle.ut_run.specs.World.{World}
 use Rattle.ut_run.specs.Plans.{start_of}
 use Rattle.ut_run.specs.Script.{FitsInput}
-use Rattle.ut_run.specs.Origin.{opened, Begins}
+use Rattle.ut_run.specs.Origin.{opened}
 use Rattle.ut_run.specs.Keeping.{Kept, SinceEntry, HoldsRun}
 use Rattle.ut_run.specs.Beginning.{Begun, NotBegun}
-use Rattle.ut_app.specs.Benching.{Sinking, sink_of}
+use Rattle.ut_app.specs.Benching.{sink_of}
 use Rattle.ut_run.specs.Ends.{FitsStore, HasRisen, IsEarly, IsLate}
 use Rattle.ut_app.specs.Crowds as crowds
-use Rattle.ut_app.specs.Crowds.{IsRead, IsUnrun, IsUnread, EndsBook, TellsEnd, TellsAcks, IsFault, last_journal, last_length, Booked, RanCrowd, CrowdRun, Early, Halted, Late}
+use Rattle.ut_app.specs.Crowds.{IsRead, IsUnrun, IsUnread, EndsBook, TellsEnd, IsFault, last_journal, last_length, Booked, RanCrowd, CrowdRun, Early, Halted, Late}
 use Rattle.ut_run.proofs.KeepLemmas.{run_longer, run_holds}
 use Rattle.ut_script.specs.declared.lines.LineError.TheVariants as failed
 use Rattle.ut_script.specs.Lines.{Reading, NextLine, StepsLine, Counts}
@@ -40,7 +38,7 @@ use Rattle.ut_run.proofs.RunLemmas.{late_fits, completes, early_cut, early_cause
 
 -- ---- reading
 
--- so many lines were read, the rest of the input is left, and the count of faults did not fall
+-- so many lines were read, the rest of the input is left, and no fault was counted
 pub record IsReadingAll (limit : ℕ) (first : Option (List ℕ)) (script : List (List ℕ)) (reader : Reading) (left : Option (List ℕ)) (reads reads_now : ℕ) : Type 0 where
   pub few : length script ≤ limit
   pub fit : all_fit script ≡ true
@@ -48,7 +46,7 @@ pub record IsReadingAll (limit : ℕ) (first : Option (List ℕ)) (script : List
   pub no_error : reader.failed ≡ None
   pub number : reader.number ≡ length script
   pub limit_is : reader.limit ≡ limit
-  pub reads_no_fewer : reads ≤ reads_now
+  pub still : reads_now ≡ reads
 
 pub read_start : (limit : ℕ) (first : Option (List ℕ)) (reader : Reading) (reads : ℕ) → reader ≡ record { held = []; line = []; number = 0; limit = limit; failed = None } → IsReadingAll limit first [] reader first reads reads
 read_start limit first reader reads is = record {
@@ -58,19 +56,19 @@ read_start limit first reader reads is = record {
   no_error = ap (λ (r : Reading). r.failed) is;
   number = ap (λ (r : Reading). r.number) is;
   limit_is = ap (λ (r : Reading). r.limit) is;
-  reads_no_fewer = omega arith;
+  still = refl;
 }
 
-pub read_more : (limit : ℕ) (first : Option (List ℕ)) (script : List (List ℕ)) (old new : Reading) (left left2 : Option (List ℕ)) (reads was now : ℕ) → IsReadingAll limit first script old left reads was → NextLine old left (Ok true) new left2 → StepsLine old left new left2 → Counts old (Ok true) new → was ≤ now
+pub read_more : (limit : ℕ) (first : Option (List ℕ)) (script : List (List ℕ)) (old new : Reading) (left left2 : Option (List ℕ)) (reads was now : ℕ) → IsReadingAll limit first script old left reads was → NextLine old left (Ok true) new left2 → StepsLine old left new left2 → Counts old (Ok true) new → now ≡ was
     → IsReadingAll limit first (script ++ new.line ∷ []) new left2 reads now
-read_more limit first script old new left left2 reads was now r n m c le = record {
+read_more limit first script old new left left2 reads was now r n m c same = record {
   few = let a = c.number in let b = c.few in let d = c.limit in let e = r.number in let f = r.limit_is in omega (arith, a, b, d, e, f, length-append script (new.line ∷ []));
   fit = fit_more script new.line r.fit c.short;
   reading = reading-more first script old new left left2 r.reading n m;
   no_error = c.failed;
   number = let a = c.number in let e = r.number in omega (arith, a, e, length-append script (new.line ∷ []));
   limit_is = c.limit ∙ r.limit_is;
-  reads_no_fewer = let a = r.reads_no_fewer in omega (arith, a, le);
+  still = same ∙ r.still;
 }
 
 pub read_done : (limit : ℕ) (first : Option (List ℕ)) (script : List (List ℕ)) (old new : Reading) (left left2 : Option (List ℕ)) (reads was : ℕ) → IsReadingAll limit first script old left reads was → NextLine old left (Ok false) new left2 → IsRead limit first left2 script
@@ -85,7 +83,7 @@ read_long limit first script old new left left2 reads was now r n =
 
 pub read_failed : (limit : ℕ) (first : Option (List ℕ)) (script : List (List ℕ)) (old : Reading) (left : Option (List ℕ)) (reads was now : ℕ) → IsReadingAll limit first script old left reads was → Rose was now → IsUnread limit first ReadFault reads now
 read_failed limit first script old left reads was now r rose =
-    record { unrun = tt; fits = fits_cut limit ReadFault first tt; cause = λ k. let a = r.reads_no_fewer in omega (arith, a, rose) }
+    record { unrun = tt; fits = fits_cut limit ReadFault first tt; cause = λ k. let a = r.still in omega (arith, a, rose) }
 
 -- ---- the store couldn't begin
 
@@ -101,6 +99,7 @@ crowd_early plan before disk status said lines acks journal is none no_acks no_j
       store = n.fits;
       input = input;
       cause = cause;
+      still = λ e. absurd (subst IsEarly e n.early);
       taken = taken;
       complete = completes plan before after status n.fits input cause taken;
     })
@@ -146,10 +145,12 @@ crowd_unrun plan before after status said lines acks journal store is none no_ac
         begins = begun.begins;
         length_is = length ∙ begun.runs.stands.counts.entries;
         kept = begun.kept;
+        stays = runs_whole store after.disk (opened begun.first plan.rows) begun.runs;
       });
       store = fits;
       input = unread.fits;
       cause = cause;
+      still = λ e. absurd (subst IsUnrun e unread.unrun);
       taken = taken;
       complete = completes plan before after status fits unread.fits cause taken;
     })
@@ -204,6 +205,9 @@ all_of status stopped down all ends (inl a) e = a
 all_of status stopped down all ends (inr (inl s)) e = let d : EndsBook Done stopped down = subst (λ (x : Status). EndsBook x stopped down) e ends in let no : true ≡ false = sym s ∙ d.0 in cc
 all_of status stopped down all ends (inr (inr k)) e = let d : EndsBook Done stopped down = subst (λ (x : Status). EndsBook x stopped down) e ends in let no : true ≡ false = sym k ∙ d.1 in cc
 
+up_by : (status : Status) (stopped down : Bool) → EndsBook status stopped down → status ≡ Done → down ≡ false
+up_by status stopped down ends e = let d : EndsBook Done stopped down = subst (λ (x : Status). EndsBook x stopped down) e ends in d.1
+
 fault_by : (status : Status) (stopped down : Bool) → EndsBook status stopped down → down ≡ true → IsFault status
 fault_by Done stopped down ends is = let no : true ≡ false = sym is ∙ ends.1 in cc
 fault_by Usage stopped down ends is = absurd ends
@@ -213,11 +217,11 @@ fault_by ReadFault stopped down ends is = absurd ends
 fault_by WriteFault stopped down ends is = tt
 fault_by DiskFault stopped down ends is = tt
 fault_by Damaged stopped down ends is = absurd ends
-fault_by Memory stopped down ends is = tt
+fault_by Memory stopped down ends is = let no : true ≡ false = sym is ∙ ends in cc
 fault_by TooLong stopped down ends is = absurd ends
 
 module _ (plan : Plan) (entry mid now : View) (status : Status) (script : List (List ℕ)) (book : List Turn) (all stopped : Bool) (store new : Logged) (journal : ℕ) (begun : Begun (start_of plan) plan.rows entry mid store) (told : mid.told ≡ entry.told) (le : entry.faults ≤ mid.faults)
-    (c : Crowded store mid script book all stopped new now) (ends : EndsBook status stopped new.down) (length_is : journal ≡ last_length new.down new.store.counts.entries book) where
+    (c : Crowded store mid plan.l1 script book all stopped new now) (ends : EndsBook status stopped new.down) (length_is : journal ≡ last_length new.down new.store.counts.entries book) where
   abbrev p : Plain
   p = opened begun.first plan.rows
 
@@ -225,7 +229,7 @@ module _ (plan : Plan) (entry mid now : View) (status : Status) (script : List (
   Ran = Course p mid (lines_in book) (answers_in book) (acks_in book) now new
 
   booked_by : Ran → Booked plan entry now status script book journal
-  booked_by (Goes q runs tells holding) = record {
+  booked_by (Goes q runs tells none holding) = record {
     queues = c.queues;
     weaves = c.weaves;
     first = begun.first;
@@ -235,6 +239,7 @@ module _ (plan : Plan) (entry mid now : View) (status : Status) (script : List (
       all = record { tells = tells; length_is = length_is ∙ length_by new.down new.store.counts.entries book false runs.up ∙ runs.stands.counts.entries };
       stays = runs_whole new now q runs;
     });
+    asks = c.asks p begun.runs;
     kept = λ t. kept_of (start_of plan) entry mid now begun.first.journal q.journal (acks_in book) (begun.kept t) (holding (told ∙ t));
     answered = λ e. c.answered (all_of status stopped new.down all ends c.cause e);
   }
@@ -262,6 +267,7 @@ module _ (plan : Plan) (entry mid now : View) (status : Status) (script : List (
       says = fault_by status stopped new.down ends down;
       rose = omega (arith, le, rose);
     });
+    asks = c.asks p begun.runs;
     kept = λ t. kept_of (start_of plan) entry mid now begun.first.journal q.journal (acks_in book) (begun.kept t) (holding (told ∙ t));
     answered = λ e. c.answered (all_of status stopped new.down all ends c.cause e);
   }
@@ -270,11 +276,18 @@ module _ (plan : Plan) (entry mid now : View) (status : Status) (script : List (
   booked = booked_by (c.course p begun.runs)
 
   risen_by : Ran → new.down ≡ true → Rose entry.faults now.faults
-  risen_by (Goes q runs tells holding) is = let no : true ≡ false = sym is ∙ runs.up in cc
+  risen_by (Goes q runs tells none holding) is = let no : true ≡ false = sym is ∙ runs.up in cc
   risen_by (Failed n q down answers rose holding) is = omega (arith, le, rose)
 
   risen : new.down ≡ true → Rose entry.faults now.faults
   risen is = risen_by (c.course p begun.runs) is
+
+  still_by : Ran → new.down ≡ false → now.faults ≡ entry.faults
+  still_by (Goes q runs tells none holding) up = none ∙ begun.no_fault
+  still_by (Failed n q down answers rose holding) up = let no : true ≡ false = sym down ∙ up in cc
+
+  still : new.down ≡ false → now.faults ≡ entry.faults
+  still up = still_by (c.course p begun.runs) up
 
 book_late : (status : Status) (stopped down : Bool) → EndsBook status stopped down → crowds.IsLate status
 book_late Done stopped down e = tt
@@ -325,9 +338,9 @@ late_cause Memory before after stopped down e w d = tt
 late_cause TooLong before after stopped down e w d = absurd e
 
 pub crowd_late : (plan : Plan) (before after : World) (mid : View) (status : Status) (script : List (List ℕ)) (book : List Turn) (all stopped : Bool) (store new : Logged) (lines : ℕ) (acks : List Ack) (journal : ℕ) → Begun (start_of plan) plan.rows before.disk mid store
-    → mid.told ≡ before.disk.told → before.disk.faults ≤ mid.faults → IsRead plan.lines before.source after.source script → Crowded store mid script book all stopped new after.disk
+    → mid.told ≡ before.disk.told → before.disk.faults ≤ mid.faults → IsRead plan.lines before.source after.source script → after.reads ≡ before.reads → Crowded store mid plan.l1 script book all stopped new after.disk
     → TellsEnd stopped new.down book (length script) (sink_of before) after.disk.moment (sink_of after) status lines acks → journal ≡ last_length new.down new.store.counts.entries book → CrowdRun plan before after status lines acks journal
-crowd_late plan before after mid status script book all stopped store new lines acks journal begun told le read c t length_is =
+crowd_late plan before after mid status script book all stopped store new lines acks journal begun told le read reads c t length_is =
     let late = book_late status stopped new.down t.ends in
     let fits : IsTold before.disk → FitsStore status (start_of plan) before.disk.seen = λ k. late_fits status (start_of plan) before.disk.seen (late_late status late) (begun.first, begun.begins k) in
     let input = input_by plan.lines status before.source late read.fits in
@@ -339,13 +352,17 @@ crowd_late plan before after mid status script book all stopped store new lines 
         read = read;
         book = book;
         booked = booked plan before.disk mid after.disk status script book all stopped store new journal begun told le c t.ends length_is;
-        written = t.written;
-        acks_are = t.acks_are;
+        told = t.told;
         count = t.count;
       });
       store = fits;
       input = input;
       cause = cause;
+      still = λ e. record {
+        reads = reads;
+        writes = t.still e;
+        disk = still plan before.disk mid after.disk status script book all stopped store new journal begun told le c t.ends length_is (up_by status stopped new.down t.ends e);
+      };
       taken = taken;
       complete = completes plan before after status fits input cause taken;
     }

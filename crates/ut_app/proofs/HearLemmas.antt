@@ -20,7 +20,7 @@ use Rattle.ut_engine.specs.Serves.{Serves, IsAnswered, IsLost}
 use Rattle.ut_app.specs.declared.tally.Heard.{Heard}
 use Rattle.ut_app.specs.declared.tally.Heard.TheVariants as heards
 use Rattle.ut_app.specs.declared.tally.Tally.{Tally}
-use Rattle.ut_app.specs.Hearing.{is_refusal, sum_in, refusals_in, last_sum, tally_of, heard_of, counted, Quiet, Answered, Failed, Hearing, Hears, Noting, noted_by}
+use Rattle.ut_app.specs.Hearing.{is_refusal, sum_in, refusals_in, last_sum, tally_of, heard_of, counted, Quiet, Answered, Failed, Hearing, Hears, MayHear, Noting, noted_by}
 use Rattle.ut_course.proofs.KeepLemmas.{OnlyNow, still}
 use Rattle.ut_run.proofs.SayLemmas.{lacks}
 
@@ -53,6 +53,35 @@ pub hears_lacking : (e : Logged) (v : View) (line : Parsed) (session : ℕ) (hea
 hears_lacking e v line session heard only may h =
     let a : Answer = record { session = Some session; reply = replies.Refused refusals.Memory } in
     record { each = λ p runs. Answered a p h (λ k. cc) (lacks p line session may) runs (still e v p only runs) }
+
+-- ---- the faults of the disk
+
+fault_of : (reply : Reply) → heard_of reply ≡ heards.Fault → reply ≡ replies.DiskFault
+fault_of replies.Done h = cc
+fault_of (replies.Committed n) h = cc
+fault_of (replies.Changed a b) h = cc
+fault_of (replies.Rows a) h = cc
+fault_of (replies.Groups a) h = cc
+fault_of (replies.Count a) h = cc
+fault_of (replies.Sum a) h = cc
+fault_of (replies.Min a) h = cc
+fault_of (replies.Max a) h = cc
+fault_of (replies.Moved a) h = cc
+fault_of (replies.Merge a) h = cc
+fault_of (replies.Saving a b) h = cc
+fault_of (replies.Sealed a) h = cc
+fault_of (replies.Root a) h = cc
+fault_of (replies.Shape a) h = cc
+fault_of (replies.Refused a) h = cc
+fault_of replies.DiskFault h = refl
+
+pub heard_faults : (old : Logged) (before : View) (session : ℕ) (st : Statement) (reply : Reply) (new : Logged) (after : View) (heard : Heard) → Serves old before session st reply new after → heard ≡ heard_of reply → MayHear before after heard
+heard_faults old before session st reply new after heard s e = record {
+  told = s.told;
+  no_fewer = s.later;
+  cause = λ is. s.cause (fault_of reply (sym e ∙ is));
+  still = λ not. s.still (λ is. not (e ∙ ap heard_of is));
+}
 
 -- ---- what is counted
 

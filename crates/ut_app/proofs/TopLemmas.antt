@@ -6,11 +6,11 @@ use Rattle.ut_words.specs.declared.plan.WordsError.{WordsError}
 use Rattle.ut_words.specs.declared.plan.WordsError.TheVariants as errors
 use Rattle.ut_words.specs.Plans.{Refuses}
 use Rattle.ut_run.specs.declared.report.Status.{Status}
-use Rattle.ut_run.specs.declared.report.Status.TheVariants.{Usage, Memory}
+use Rattle.ut_run.specs.declared.report.Status.TheVariants.{Done, Usage, Memory}
 use Rattle.ut_outside.specs.declared.ack.Ack.{Ack}
 use Rattle.ut_words.specs.declared.plan.Mode.{Mode}
 use Rattle.ut_words.specs.declared.plan.Mode.TheVariants as modes
-use Rattle.ut_run.specs.World.{World}
+use Rattle.ut_run.specs.World.{World, NoFault}
 use Rattle.ut_app.specs.Crowds.{CrowdRun}
 use Rattle.ut_app.specs.Top.{ServesMode, RunsMode, RunsPlan, WordsStatus}
 
@@ -32,3 +32,9 @@ served_runs modes.Crowd plan before after status lines acks journal (inr is) s =
 -- a plan of the mode `crowd` is run as a crowd
 pub crowd_runs : (plan : Plan) (before after : World) (status : Status) (lines : ℕ) (acks : List Ack) (journal : ℕ) → plan.mode ≡ modes.Crowd → CrowdRun plan before after status lines acks journal → RunsPlan plan before after status lines acks journal
 crowd_runs plan before after status lines acks journal is run = subst (λ (m : Mode). RunsMode m plan before after status lines acks journal) (sym is) run
+
+-- where a run that is served is Done, no count of faults rose
+pub served_still : (mode : Mode) (plan : Plan) (before after : World) (status : Status) (lines : ℕ) (acks : List Ack) (journal : ℕ) → ServesMode mode plan before after status lines acks journal → status ≡ Done → NoFault before after
+served_still modes.Run plan before after status lines acks journal s e = s.still e
+served_still modes.Bench plan before after status lines acks journal s e = s.still e
+served_still modes.Crowd plan before after status lines acks journal s e = let no : Usage ≡ Done = sym s.says ∙ e in cc

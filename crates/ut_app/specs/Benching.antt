@@ -11,7 +11,7 @@ use Rattle.ut_gen.specs.Script.{script}
 use Rattle.ut_words.specs.declared.plan.Plan.{Plan}
 use Rattle.ut_run.specs.declared.report.Status.{Status}
 use Rattle.ut_run.specs.declared.report.Status.TheVariants.{Done, Usage, WriteFault, DiskFault, Memory}
-use Rattle.ut_run.specs.World.{World}
+use Rattle.ut_run.specs.World.{World, NoFault}
 use Rattle.ut_run.specs.Plans.{start_of}
 use Rattle.ut_run.specs.Writing.{Writes}
 use Rattle.ut_run.specs.Origin.{Origin, Begins}
@@ -27,7 +27,7 @@ use Rattle.ut_app.specs.Figures.{figures_by, figures_of, figures_text}
 abbrev pub script_of : Plan → List (List ℕ)
 script_of plan = script plan.seed plan.size
 
--- So many lines of the script were answered, these are left, and the store runs.
+-- So many lines of the script were answered, these are left, the store runs, and the count of the disk's faults stayed.
 pub record IsBenching (plan : Plan) (entry now : View) (left : List (List ℕ)) (lines : ℕ) (store : Logged) (notes : Noting) : Type 0 where
   pub front : List (List ℕ)
   pub parts : script_of plan ≡ front ++ left
@@ -37,7 +37,7 @@ pub record IsBenching (plan : Plan) (entry now : View) (left : List (List ℕ)) 
   pub tally : notes.tally ≡ tally_of answers
   pub few : notes.tally.refused ≤ lines
   pub told : now.told ≡ entry.told
-  pub faults : entry.faults ≤ now.faults
+  pub faults : now.faults ≡ entry.faults
 
 -- the source wasn't asked
 pub record IsUnasked (before after : World) : Type 0 where
@@ -100,6 +100,7 @@ pub record TellsEnd (store : Held) (lines : ℕ) (tally : Tally) (status : Statu
   pub each : (p : Plain) → StandsFor store p → TellsLine status was (figures_text (figures_by lines tally p.journal)) moment now
   pub says : IsTelling status
   pub cause : status ≡ WriteFault → Rose was.writes now.writes
+  pub still : status ≡ Done → now.writes ≡ was.writes
 
 -- a status of a run that reached the script
 abbrev pub IsReached : Status → Type 0
@@ -130,6 +131,8 @@ pub record BenchRun (plan : Plan) (before after : World) (status : Status) (line
   pub store : IsTold before.disk → FitsStore status (start_of plan) before.disk.seen
   -- a fault only where its count rose
   pub cause : HasRisen status before after
+  -- and a fault that was counted is told: Done only where no count rose
+  pub still : status ≡ Done → NoFault before after
   pub taken : status ≡ Usage → ⊥
   -- where nothing is in the way, all is done, but for want of memory
   pub complete : IsWholeBench plan before after status

@@ -12,10 +12,11 @@ use Rattle.ut_course.specs.Keeping.{lengths_of}
 use Rattle.ut_crowd.specs.declared.book.Turn.{Turn}
 use Rattle.ut_crowd.specs.Book.{lines_in, answers_in, acks_in}
 use Rattle.ut_crowd.specs.Queues.{Weaves, HasAnswered}
+use Rattle.ut_crowd.specs.Asking.{AsksFrom}
 use Rattle.ut_crowd.specs.Texts.{book_text}
 use Rattle.ut_run.specs.declared.report.Status.{Status}
 use Rattle.ut_run.specs.declared.report.Status.TheVariants.{Done, Usage, ReadFault, WriteFault, DiskFault, Memory, TooLong}
-use Rattle.ut_run.specs.World.{World}
+use Rattle.ut_run.specs.World.{World, NoFault}
 use Rattle.ut_run.specs.Plans.{start_of}
 use Rattle.ut_run.specs.Script.{all_fit, FitsInput, ReadsInput}
 use Rattle.ut_run.specs.Writing.{Writes}
@@ -49,25 +50,29 @@ pub record IsUnread (limit : ℕ) (before : Option (List ℕ)) (status : Status)
 
 -- ---- what is told
 
--- the text of the book was written, or where the sink failed a part of it; where memory was wanting it was given nothing
-abbrev pub TellsBook : Status → Sinking → List Turn → ℕ → Sinking → Type 0
-TellsBook Done was book moment now =
+-- the text of the book was written
+abbrev pub WritesBook : Sinking → List Turn → ℕ → Sinking → Type 0
+WritesBook was book moment now =
     Writes {T = Unit {0}} {E = Failed} was.held was.marks (book_text book) moment (Ok tt) now.held now.marks
-TellsBook DiskFault was book moment now =
-    Writes {T = Unit {0}} {E = Failed} was.held was.marks (book_text book) moment (Ok tt) now.held now.marks
-TellsBook WriteFault was book moment now =
-    (e : Failed)
-    × Writes {T = Unit {0}} {E = Failed} was.held was.marks (book_text book) moment (Err e) now.held now.marks
-TellsBook _ was book moment now = now ≡ was
 
 -- these are the first ones of those
 abbrev pub IsFrontOf : List Ack → List Ack → Type 0
 IsFrontOf all acks = (rest : List Ack) × (all ≡ acks ++ rest)
 
--- each turn is an acknowledgement; where memory was wanting those of the first ones are told
-abbrev pub TellsAcks : Status → List Ack → List Ack → Type 0
-TellsAcks Memory all acks = IsFrontOf all acks
-TellsAcks _ all acks = acks ≡ all
+-- nothing was written, and the acknowledgements of the first turns are told
+abbrev pub TellsFront : Sinking → List Turn → Sinking → List Ack → Type 0
+TellsFront was book now acks = (now ≡ was) × IsFrontOf (acks_in book) acks
+
+-- The text of the book was written, or where the sink failed a part of it, and each turn is an acknowledgement. Where memory was wanting
+-- the sink was given nothing, and the acknowledgements of the first turns are told; so it is too where the disk failed as well.
+abbrev pub TellsBook : Status → Sinking → List Turn → ℕ → Sinking → List Ack → Type 0
+TellsBook Done was book moment now acks = WritesBook was book moment now × (acks ≡ acks_in book)
+TellsBook DiskFault was book moment now acks =
+    (WritesBook was book moment now × (acks ≡ acks_in book)) ⊎ TellsFront was book now acks
+TellsBook WriteFault was book moment now acks =
+    ((e : Failed) × Writes {T = Unit {0}} {E = Failed} was.held was.marks (book_text book) moment (Err e) now.held now.marks)
+    × (acks ≡ acks_in book)
+TellsBook _ was book moment now acks = TellsFront was book now acks
 
 -- the length of the journal behind the last turn without a fault: the last turn carries it where the disk failed
 abbrev pub last_journal : List Turn → ℕ
@@ -85,31 +90,35 @@ TellsCount Done all lines = lines ≡ all
 TellsCount WriteFault all lines = lines ≡ all
 TellsCount _ all lines = lines ≡ 0
 
--- the disk failed, and the status says so, or that the sink failed too or memory was wanting
+-- the disk failed, and the status says so, or that the sink failed too
 abbrev pub IsFault : Status → Type 0
 IsFault DiskFault = Unit {0}
 IsFault WriteFault = Unit {0}
-IsFault Memory = Unit {0}
 IsFault _ = ⊥
 
--- how a run ends whose turns were answered: all of them, unless there was no memory or the disk failed
+-- how a run ends whose turns were answered: all of them, unless there was no memory or the disk failed, which outranks
 abbrev pub EndsBook : Status → (stopped down : Bool) → Type 0
 EndsBook Done stopped down = (stopped ≡ false) × (down ≡ false)
 EndsBook DiskFault stopped down = down ≡ true
 EndsBook WriteFault stopped down = Unit {0}
-EndsBook Memory stopped down = Unit {0}
+EndsBook Memory stopped down = down ≡ false
 EndsBook _ stopped down = ⊥
+
+-- the status where there is no memory for the book
+abbrev pub untold : (down : Bool) → Status
+untold true = DiskFault
+untold false = Memory
 
 -- What a report and the sink say of a book.
 pub record TellsEnd
     (stopped down : Bool) (book : List Turn) (all : ℕ) (was : Sinking) (moment : ℕ) (now : Sinking) (status : Status)
     (lines : ℕ) (acks : List Ack) : Type 0 where
   pub ends : EndsBook status stopped down
-  pub written : TellsBook status was book moment now
-  pub acks_are : TellsAcks status (acks_in book) acks
+  pub told : TellsBook status was book moment now acks
   pub count : TellsCount status all lines
   pub cause : status ≡ WriteFault → Rose was.writes now.writes
   pub later : was.writes ≤ now.writes
+  pub still : status ≡ Done → now.writes ≡ was.writes
 
 -- ---- the run
 
@@ -122,6 +131,8 @@ pub record Unrun (plan : Plan) (before after : World) (lines : ℕ) (acks : List
   pub begins : IsTold before.disk → Begins (start_of plan) first before.disk.seen
   pub length_is : journal ≡ journal_len first.journal
   pub kept : IsTold before.disk → Kept (start_of plan) before.disk after.disk first.journal first.journal []
+  -- a crash now leaves the whole journal, so a store that was made stays made
+  pub stays : IsTold after.disk → HoldsWhole after.disk first.journal
 
 -- The turns were answered to the last, and a crash now leaves the whole journal.
 pub record AllAnswered (p : Plain) (book : List Turn) (journal : ℕ) (q : Plain) (now : View) : Type 0 where
@@ -147,6 +158,8 @@ pub record Booked
   pub plain : Plain
   pub legal : AllAnswered (opened first plan.rows) book journal plain now
       ⊎ LastFaulted (opened first plan.rows) book journal plain entry now status
+  -- what the store asked of its own accord is what it may ask in the state of that turn, with the plan's number of rows
+  pub asks : AsksFrom plan.l1 (opened first plan.rows) book
   pub kept : IsTold entry → Kept (start_of plan) entry now first.journal plain.journal (acks_in book)
   -- with Done each line of each session has its turn
   pub answered : status ≡ Done → HasAnswered script book
@@ -157,8 +170,7 @@ pub record RanCrowd (plan : Plan) (before after : World) (status : Status) (line
   pub read : IsRead plan.lines before.source after.source script
   pub book : List Turn
   pub booked : Booked plan before.disk after.disk status script book journal
-  pub written : TellsBook status (sink_of before) book after.disk.moment (sink_of after)
-  pub acks_are : TellsAcks status (acks_in book) acks
+  pub told : TellsBook status (sink_of before) book after.disk.moment (sink_of after) acks
   pub count : TellsCount status (length script) lines
 
 -- a status of a run whose turns were answered
@@ -186,6 +198,8 @@ pub record CrowdRun (plan : Plan) (before after : World) (status : Status) (line
   pub input : FitsInput plan.lines status before.source
   -- a fault only where its count rose
   pub cause : HasRisen status before after
+  -- and a fault that was counted is told: Done only where no count rose
+  pub still : status ≡ Done → NoFault before after
   pub taken : status ≡ Usage → ⊥
   -- where nothing is in the way, all is done, but for want of memory
   pub complete : IsComplete plan before after status

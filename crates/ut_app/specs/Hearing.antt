@@ -79,11 +79,12 @@ pub data Hearing (p : Plain) (line : Parsed) (before : View) (heard : Heard) (ne
 pub record Hears (old : Logged) (before : View) (line : Parsed) (heard : Heard) (new : Logged) (after : View) : Type 0 where
   pub each : (p : Plain) → Runs old before p → Hearing p line before heard new after
 
--- a fault of the disk is heard only where its count rose
+-- a fault of the disk is heard only where its count rose, and everything else only where it stayed
 pub record MayHear (before after : View) (heard : Heard) : Type 0 where
   pub told : after.told ≡ before.told
   pub no_fewer : before.faults ≤ after.faults
   pub cause : heard ≡ Fault → Rose before.faults after.faults
+  pub still : (heard ≡ Fault → ⊥) → after.faults ≡ before.faults
 
 -- ---- what is noted
 

@@ -2,7 +2,7 @@
 ghost use Rattle.std.specs.Prelude.{◌≡◌, ◌≤◌, ◌++◌, ◌∷◌, [], ℕ, IfOk, IfErr, OnOk, OnErr};
 ghost use Rattle.ut_words.specs.Plans.{IsInRange};
 ghost use Rattle.ut_crowd.specs.Book.{acks_in};
-ghost use Rattle.ut_app.specs.Crowds.{CrowdRun, IsFrontOf, IsRead, IsUnread, TellsEnd, last_length};
+ghost use Rattle.ut_app.specs.Crowds.{CrowdRun, IsFrontOf, IsRead, IsUnread, TellsEnd, last_length, untold};
 
 use std::alloc::{AllocError, Global};
 use std::collections::VecDeque;
@@ -99,6 +99,7 @@ fn read_all<S: Source<K>, K: Taken>(
     ensures read { IfOk result (λ lines. IsRead limit (S.left source.old) (S.left source.new) lines.items) }
     ensures unread { IfErr result (λ status. IsUnread limit (S.left source.old) status (S.faults source.old) (S.faults source.new)) }
     ensures later { S.faults source.old ≤ S.faults source.new }
+    ensures still { OnOk result (S.faults source.new ≡ S.faults source.old) }
 {
     let mut reader = match Lines::new(alloc, limit) {
         Ok(reader) => reader,
@@ -148,16 +149,15 @@ fn tell<K: Sink<D>, D: Disk>(
     let mut acks = AckList::new(alloc);
     let journal = last_length(engine, book) as u64;
     let mut text = Vec::new(alloc);
-    if note_all(&mut acks, book).is_err() || stopped || put_book(&mut text, book).is_err() {
-        return Report {
-            status: Status::Memory,
-            lines: 0,
-            acks,
-            journal,
-        };
+    let down = engine.down();
+    if note_all(&mut acks, book).is_err() || put_book(&mut text, book).is_err() {
+        return untold(down, acks, journal);
+    }
+    if stopped && !down {
+        return untold(down, acks, journal);
     }
     let (status, lines) = match write_all(sink, engine.disk(), &text) {
-        Ok(()) => if engine.down() {
+        Ok(()) => if down {
             (Status::DiskFault, 0)
         } else {
             (Status::Done, lines)
@@ -167,6 +167,25 @@ fn tell<K: Sink<D>, D: Disk>(
     Report {
         status,
         lines: lines as u64,
+        acks,
+        journal,
+    }
+}
+
+// Where memory is wanting no book is written. That the disk failed outranks it.
+fn untold(down: bool, acks: AckList, journal: u64) -> Report
+    ensures status { result.status ≡ untold down }
+    ensures lines { result.lines ≡ 0 }
+    ensures acks { result.acks.items ≡ acks.items }
+    ensures journal { result.journal ≡ journal }
+{
+    Report {
+        status: if down {
+            Status::DiskFault
+        } else {
+            Status::Memory
+        },
+        lines: 0,
         acks,
         journal,
     }

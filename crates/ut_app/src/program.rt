@@ -39,6 +39,9 @@ pub fn top<S: Source<K>, K: Sink<D>, D: Disk + Send, H: Hook + Sync>(
     ensures read { result.status ≡ Status.ReadFault → Rose (S.faults source.old) (S.faults source.new) }
     ensures write { result.status ≡ Status.WriteFault → Rose (K.faults sink.old) (K.faults sink.new) }
     ensures disk { result.status ≡ Status.DiskFault → Rose (D.view disk.old).faults (D.view disk.new).faults }
+    // And a fault that was counted is told: Done only where no count rose.
+    ensures still { result.status ≡ Status.Done → (S.faults source.new ≡ S.faults source.old) × (K.faults sink.new ≡ K.faults sink.old)
+        × ((D.view disk.new).faults ≡ (D.view disk.old).faults) }
 {
     match plan_of(alloc, words) {
         Ok(plan) => match plan.mode {

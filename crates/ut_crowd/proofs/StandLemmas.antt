@@ -13,7 +13,6 @@ use Rattle.ut_plain.specs.Spelled.{is_spelled}
 use Rattle.ut_plain.specs.Plain.{Plain}
 use Rattle.ut_plain.specs.Transcript.{Answer}
 use Rattle.ut_merge.specs.Jobs.{JobValue}
-use Rattle.ut_store.specs.Jobs.{pending_job}
 use Rattle.ut_store.specs.Standing.{is_of_store}
 use Rattle.ut_script.specs.Grammar.{parsed}
 use Rattle.ut_engine.specs.Logged.{Logged}
@@ -26,12 +25,15 @@ use Rattle.ut_course.proofs.CourseLemmas.{course_more}
 use Rattle.ut_course.proofs.SessionLemmas.{line_asks}
 use Rattle.ut_crowd.specs.declared.book.Asked.{Asked}
 use Rattle.ut_crowd.specs.declared.book.Asked.TheVariants.{Line, Store}
+use Rattle.ut_crowd.specs.declared.book.Begun.{Begun}
 use Rattle.ut_crowd.specs.declared.book.Turn.{Turn}
 use Rattle.ut_crowd.specs.Ground.{Ground}
 use Rattle.ut_crowd.specs.Book.{said, lines_in, answer_of, answers_in, ack_of, acks_in, strangers, lines_of_session}
 use Rattle.ut_crowd.specs.Queues.{Takes, TakesNone, left_of}
 use Rattle.ut_crowd.specs.Sorting.{Sorted}
+use Rattle.ut_crowd.specs.Asking.{StoreAsks, IsAsked, Asks, begun_by, begun_first, begun_in}
 use Rattle.ut_crowd.specs.Standing.{IsHeld, StandsOn, Starts}
+use Rattle.ut_crowd.proofs.AskingLemmas.{running_at, asks_more, begun_more, asks_none, begun_none}
 use Rattle.ut_crowd.proofs.SortLemmas.{by_nobodys, refused_tell, refused_kept}
 use Rattle.ut_crowd.proofs.TextLaws.{store_line_read}
 use Rattle.ut_crowd.proofs.WeaveLemmas.{weaves_more, weaves_same, weaves_stored}
@@ -75,16 +77,16 @@ no_both true h k = cc
 no_both false h k = cc
 
 running : (p : Plain) (disk : View) (lines : List Parsed) (answers : List Answer) (acks : List Ack) (was : View) (old : Logged) → old.down ≡ false → Course p disk lines answers acks was old → (q : Plain) × Runs old was q
-running p disk lines answers acks was old up (Goes q runs tells holding) = (q, runs)
+running p disk lines answers acks was old up (Goes q runs tells none holding) = (q, runs)
 running p disk lines answers acks was old up (Failed journal q down told rose holding) = no_both old.down down up
 
-held_more : (g : Ground) (queues : List (List (List ℕ))) (book : List Turn) (name : GName) (was now : View) (old new : Logged) (job : Option JobValue) (line : Parsed) (who : Option ℕ) (t : Turn) → asks_merge line ≡ false → old.down ≡ false
-    → Comes old was line who t.reply new now → StandsOn g queues book name was old job → IsHeld job new
-held_more g queues book name was now old new None line who t none up comes s = tt
-held_more g queues book name was now old new (Some job) line who t none up comes s = λ still.
+held_more : (g : Ground) (queues : List (List (List ℕ))) (book : List Turn) (name : GName) (was now : View) (old new : Logged) (job : Option JobValue) (l1 : ℕ) (last : Begun) (line : Parsed) (who : Option ℕ) (t : Turn) → asks_merge line ≡ false → old.down ≡ false
+    → Comes old was line who t.reply new now → StandsOn g queues book name was old job l1 last → IsHeld job new
+held_more g queues book name was now old new None l1 last line who t none up comes s = tt
+held_more g queues book name was now old new (Some job) l1 last line who t none up comes s =
     let p = s.some in
     let q = running p.0 g.disk (lines_in book) (answers_in book) (acks_in book) was old up (s.course p.0 p.1) in
-    comes.job q.0 q.1 none still ∙ s.held up
+    comes.job q.0 q.1 none ∙ s.held
 
 -- ---- one turn more
 
@@ -103,18 +105,38 @@ turn_is session asked before reply t old new now e f = (
   ap (λ (u : Turn). u.moment) e,
 )
 
+-- what the store asks, and the last savepoint that began, one turn more
+module _ (g : Ground) (queues : List (List (List ℕ))) (book : List Turn) (name : GName) (was : View) (old : Logged) (job : Option JobValue) (l1 : ℕ) (last : Begun) (t : Turn) (asked : Asked) (is : t.asked ≡ asked) (s : StandsOn g queues book name was old job l1 last) where
+  asks_on : old.down ≡ false → ((q : Plain) → Runs old was q → IsAsked l1 last q asked) → (p : Plain) → g.from p → Asks g.l1 (begun_first p) p (book ++ t ∷ [])
+  asks_on up may p from =
+      asks_more g.l1 (begun_first p) p book t (s.asks p from)
+      (λ q a.
+      let runs = running_at p g.disk (lines_in book) (answers_in book) (acks_in book) was old up (s.course p from) q a in
+      subst (λ (x : Asked). IsAsked g.l1 (begun_in (begun_first p) book) q x) (sym is)
+      (subst (λ (b : Begun). IsAsked g.l1 b q asked) (s.last_is p from) (subst (λ (n : ℕ). IsAsked n last q asked) s.l1_is (may q runs))))
+
+  last_on : (last' : Begun) → last' ≡ begun_by last asked t.reply t.journal → (p : Plain) → g.from p → last' ≡ begun_in (begun_first p) (book ++ t ∷ [])
+  last_on last' e p from =
+      e ∙ ap (λ (b : Begun). begun_by b asked t.reply t.journal) (s.last_is p from)
+      ∙ ap (λ (x : Asked). begun_by (begun_in (begun_first p) book) x t.reply t.journal) (sym is)
+      ∙ sym (begun_more (begun_first p) book t)
+
 -- a line more was answered
-stands_more : (g : Ground) (queues left : List (List (List ℕ))) (book : List Turn) (name name' : GName) (was now : View) (old new : Logged) (job : Option JobValue) (session : ℕ) (line : List ℕ) (t : Turn) → turn_now session (Line line) t old new now
+stands_more : (g : Ground) (queues left : List (List (List ℕ))) (book : List Turn) (name name' : GName) (was now : View) (old new : Logged) (job : Option JobValue) (l1 : ℕ) (last : Begun) (session : ℕ) (line : List ℕ) (t : Turn) → turn_now session (Line line) t old new now
     → Takes queues session line left → Comes old was (parsed true line) (Some session) t.reply new now → name' ≡ name → old.down ≡ false → OnlyNow now → CountsNow now
-    → StandsOn g queues book name was old job → StandsOn g left (book ++ t ∷ []) name' now new job
-stands_more g queues left book name name' was now old new job session line t turn takes comes same up only counts s = record {
+    → StandsOn g queues book name was old job l1 last → StandsOn g left (book ++ t ∷ []) name' now new job l1 last
+stands_more g queues left book name name' was now old new job l1 last session line t turn takes comes same up only counts s = record {
   weaves = weaves_more g.lines queues left book session line t turn.0 turn.1 takes s.weaves;
   some = s.some;
   course = λ p from. course_turn p g.disk book was old t session (Line line) now new only counts comes.told s.faults turn up comes (s.course p from);
+  asks = asks_on g queues book name was old job l1 last t (Line line) turn.1 s up (λ q runs. tt);
+  last_is = last_on g queues book name was old job l1 last t (Line line) turn.1 s last refl;
+  l1_is = s.l1_is;
+  range = s.range;
   told = comes.told ∙ s.told;
   faults = omega (arith, s.faults, comes.later);
   loan = s.loan ∙ ap Some (sym same);
-  held = held_more g queues book name was now old new job (parsed true line) (Some session) t (line_asks line) up comes s;
+  held = held_more g queues book name was now old new job l1 last (parsed true line) (Some session) t (line_asks line) up comes s;
 }
 
 -- what the book has of a statement of the store is read as that statement
@@ -122,62 +144,65 @@ read_as : (old : Logged) (was : View) (st : Statement) (t : Turn) (new : Logged)
 read_as old was st t new now of spelled comes = subst (λ (line : Parsed). Comes old was line (Some 0) t.reply new now) (sym (store_line_read st of spelled)) comes
 
 -- a statement of the store was answered; which job the hall has then
-stands_asked : (g : Ground) (queues : List (List (List ℕ))) (book : List Turn) (name name' : GName) (was now : View) (old new : Logged) (job job' : Option JobValue) (st : Statement) (t : Turn) → IsTrue (is_of_store st) → IsTrue (is_spelled st) → IsHeld job' new
+stands_asked : (g : Ground) (queues : List (List (List ℕ))) (book : List Turn) (name name' : GName) (was now : View) (old new : Logged) (job job' : Option JobValue) (l1 : ℕ) (last last' : Begun) (st : Statement) (t : Turn) → IsTrue (is_of_store st) → IsTrue (is_spelled st)
+    → ((q : Plain) → Runs old was q → StoreAsks l1 last q st) → last' ≡ begun_by last (Store st) t.reply t.journal → IsHeld job' new
     → turn_now 0 (Store st) t old new now → Comes old was (Good 0 st) (Some 0) t.reply new now → name' ≡ name → old.down ≡ false → OnlyNow now → CountsNow now
-    → StandsOn g queues book name was old job → StandsOn g queues (book ++ t ∷ []) name' now new job'
-stands_asked g queues book name name' was now old new job job' st t of spelled held turn comes same up only counts s = record {
+    → StandsOn g queues book name was old job l1 last → StandsOn g queues (book ++ t ∷ []) name' now new job' l1 last'
+stands_asked g queues book name name' was now old new job job' l1 last last' st t of spelled may last_is held turn comes same up only counts s = record {
   weaves = weaves_stored g.lines queues book st t of turn.0 turn.1 s.weaves;
   some = s.some;
   course = λ p from. course_turn p g.disk book was old t 0 (Store st) now new only counts comes.told s.faults turn up (read_as old was st t new now of spelled comes) (s.course p from);
+  asks = asks_on g queues book name was old job l1 last t (Store st) turn.1 s up may;
+  last_is = last_on g queues book name was old job l1 last t (Store st) turn.1 s last' last_is;
+  l1_is = s.l1_is;
+  range = s.range;
   told = comes.told ∙ s.told;
   faults = omega (arith, s.faults, comes.later);
   loan = s.loan ∙ ap Some (sym same);
   held = held;
 }
 
--- one that neither begins a merge nor ends it
-stands_stored : (g : Ground) (queues : List (List (List ℕ))) (book : List Turn) (name name' : GName) (was now : View) (old new : Logged) (job : Option JobValue) (st : Statement) (t : Turn) → IsTrue (is_of_store st) → IsTrue (is_spelled st) → is_of_merge st ≡ false
-    → turn_now 0 (Store st) t old new now → Comes old was (Good 0 st) (Some 0) t.reply new now → name' ≡ name → old.down ≡ false → OnlyNow now → CountsNow now
-    → StandsOn g queues book name was old job → StandsOn g queues (book ++ t ∷ []) name' now new job
-stands_stored g queues book name name' was now old new job st t of spelled none turn comes same up only counts s =
-    stands_asked g queues book name name' was now old new job job st t of spelled (held_more g queues book name was now old new job (Good 0 st) (Some 0) t none up comes s) turn comes same up only counts s
-
--- one behind which the hall has no job
-stands_merged : (g : Ground) (queues : List (List (List ℕ))) (book : List Turn) (name name' : GName) (was now : View) (old new : Logged) (job : Option JobValue) (st : Statement) (t : Turn) → IsTrue (is_of_store st) → IsTrue (is_spelled st)
-    → turn_now 0 (Store st) t old new now → Comes old was (Good 0 st) (Some 0) t.reply new now → name' ≡ name → old.down ≡ false → OnlyNow now → CountsNow now
-    → StandsOn g queues book name was old job → StandsOn g queues (book ++ t ∷ []) name' now new None
-stands_merged g queues book name name' was now old new job st t of spelled turn comes same up only counts s =
-    stands_asked g queues book name name' was now old new job None st t of spelled tt turn comes same up only counts s
-
 -- ---- the same, by the turn that the code makes
 
-pub stands_line : (g : Ground) (queues left : List (List (List ℕ))) (book : List Turn) (name name' : GName) (was now : View) (old new : Logged) (job : Option JobValue) (session before : ℕ) (line : List ℕ) (reply : Reply) (t : Turn) → t ≡ turn_with session (Line line) before reply new now → before ≡ old.store.counts.entries
+pub stands_line : (g : Ground) (queues left : List (List (List ℕ))) (book : List Turn) (name name' : GName) (was now : View) (old new : Logged) (job : Option JobValue) (l1 : ℕ) (last : Begun) (session before : ℕ) (line : List ℕ) (reply : Reply) (t : Turn) → t ≡ turn_with session (Line line) before reply new now → before ≡ old.store.counts.entries
     → Takes queues session line left → Comes old was (parsed true line) (Some session) reply new now → name' ≡ name → old.down ≡ false → OnlyNow now → CountsNow now
-    → StandsOn g queues book name was old job → StandsOn g left (book ++ t ∷ []) name' now new job
-stands_line g queues left book name name' was now old new job session before line reply t e f takes comes same up only counts s =
-    stands_more g queues left book name name' was now old new job session line t (turn_is session (Line line) before reply t old new now e f) takes
+    → StandsOn g queues book name was old job l1 last → StandsOn g left (book ++ t ∷ []) name' now new job l1 last
+stands_line g queues left book name name' was now old new job l1 last session before line reply t e f takes comes same up only counts s =
+    stands_more g queues left book name name' was now old new job l1 last session line t (turn_is session (Line line) before reply t old new now e f) takes
     (subst (λ (r : Reply). Comes old was (parsed true line) (Some session) r new now) (sym (reply_is session (Line line) before reply t new now e)) comes) same up only counts s
 
-pub stands_said : (g : Ground) (queues : List (List (List ℕ))) (book : List Turn) (name name' : GName) (was now : View) (old new : Logged) (job : Option JobValue) (before : ℕ) (st : Statement) (reply : Reply) (t : Turn) → t ≡ turn_with 0 (Store st) before reply new now → before ≡ old.store.counts.entries
-    → IsTrue (is_of_store st) → IsTrue (is_spelled st) → is_of_merge st ≡ false → Comes old was (Good 0 st) (Some 0) reply new now → name' ≡ name → old.down ≡ false → OnlyNow now → CountsNow now
-    → StandsOn g queues book name was old job → StandsOn g queues (book ++ t ∷ []) name' now new job
-stands_said g queues book name name' was now old new job before st reply t e f of spelled none comes same up only counts s =
-    stands_stored g queues book name name' was now old new job st t of spelled none (turn_is 0 (Store st) before reply t old new now e f)
-    (subst (λ (r : Reply). Comes old was (Good 0 st) (Some 0) r new now) (sym (reply_is 0 (Store st) before reply t new now e)) comes) same up only counts s
+-- one that neither begins a merge nor ends it
+pub stands_said : (g : Ground) (queues : List (List (List ℕ))) (book : List Turn) (name name' : GName) (was now : View) (old new : Logged) (job : Option JobValue) (l1 : ℕ) (last last' : Begun) (before : ℕ) (st : Statement) (reply : Reply) (t : Turn) → t ≡ turn_with 0 (Store st) before reply new now → before ≡ old.store.counts.entries
+    → IsTrue (is_of_store st) → IsTrue (is_spelled st) → is_of_merge st ≡ false → ((q : Plain) → Runs old was q → StoreAsks l1 last q st) → last' ≡ begun_by last t.asked t.reply t.journal
+    → Comes old was (Good 0 st) (Some 0) reply new now → name' ≡ name → old.down ≡ false → OnlyNow now → CountsNow now
+    → StandsOn g queues book name was old job l1 last → StandsOn g queues (book ++ t ∷ []) name' now new job l1 last'
+stands_said g queues book name name' was now old new job l1 last last' before st reply t e f of spelled none may last_is comes same up only counts s =
+    let turn = turn_is 0 (Store st) before reply t old new now e f in
+    let says : Comes old was (Good 0 st) (Some 0) t.reply new now = subst (λ (r : Reply). Comes old was (Good 0 st) (Some 0) r new now) (sym (reply_is 0 (Store st) before reply t new now e)) comes in
+    stands_asked g queues book name name' was now old new job job l1 last last' st t of spelled may
+    (last_is ∙ ap (λ (x : Asked). begun_by last x t.reply t.journal) turn.1)
+    (held_more g queues book name was now old new job l1 last (Good 0 st) (Some 0) t none up says s)
+    turn says same up only counts s
 
-pub stands_jobless : (g : Ground) (queues : List (List (List ℕ))) (book : List Turn) (name name' : GName) (was now : View) (old new : Logged) (job : Option JobValue) (before : ℕ) (st : Statement) (reply : Reply) (t : Turn) → t ≡ turn_with 0 (Store st) before reply new now → before ≡ old.store.counts.entries
-    → IsTrue (is_of_store st) → IsTrue (is_spelled st) → Comes old was (Good 0 st) (Some 0) reply new now → name' ≡ name → old.down ≡ false → OnlyNow now → CountsNow now
-    → StandsOn g queues book name was old job → StandsOn g queues (book ++ t ∷ []) name' now new None
-stands_jobless g queues book name name' was now old new job before st reply t e f of spelled comes same up only counts s =
-    stands_merged g queues book name name' was now old new job st t of spelled (turn_is 0 (Store st) before reply t old new now e f)
+-- one that does; the last savepoint that began stays, and behind it the hall has no job
+pub stands_jobless : (g : Ground) (queues : List (List (List ℕ))) (book : List Turn) (name name' : GName) (was now : View) (old new : Logged) (job : Option JobValue) (l1 : ℕ) (last : Begun) (before : ℕ) (st : Statement) (reply : Reply) (t : Turn) → t ≡ turn_with 0 (Store st) before reply new now → before ≡ old.store.counts.entries
+    → IsTrue (is_of_store st) → IsTrue (is_spelled st) → ((q : Plain) → Runs old was q → StoreAsks l1 last q st) → last ≡ begun_by last (Store st) t.reply t.journal
+    → Comes old was (Good 0 st) (Some 0) reply new now → name' ≡ name → old.down ≡ false → OnlyNow now → CountsNow now
+    → StandsOn g queues book name was old job l1 last → StandsOn g queues (book ++ t ∷ []) name' now new None l1 last
+stands_jobless g queues book name name' was now old new job l1 last before st reply t e f of spelled may last_is comes same up only counts s =
+    stands_asked g queues book name name' was now old new job None l1 last last st t of spelled may last_is tt (turn_is 0 (Store st) before reply t old new now e f)
     (subst (λ (r : Reply). Comes old was (Good 0 st) (Some 0) r new now) (sym (reply_is 0 (Store st) before reply t new now e)) comes) same up only counts s
 
 -- there was no line to take
-pub stands_same : (g : Ground) (queues left : List (List (List ℕ))) (book : List Turn) (name : GName) (now : View) (store : Logged) (job : Option JobValue) (session : ℕ) → TakesNone queues session left → StandsOn g queues book name now store job → StandsOn g left book name now store job
-stands_same g queues left book name now store job session none s = record {
+pub stands_same : (g : Ground) (queues left : List (List (List ℕ))) (book : List Turn) (name : GName) (now : View) (store : Logged) (job : Option JobValue) (l1 : ℕ) (last : Begun) (session : ℕ) → TakesNone queues session left → StandsOn g queues book name now store job l1 last → StandsOn g left book name now store job l1 last
+stands_same g queues left book name now store job l1 last session none s = record {
   weaves = weaves_same g.lines queues left book session none s.weaves;
   some = s.some;
   course = s.course;
+  asks = s.asks;
+  last_is = s.last_is;
+  l1_is = s.l1_is;
+  range = s.range;
   told = s.told;
   faults = s.faults;
   loan = s.loan;
@@ -186,9 +211,12 @@ stands_same g queues left book name now store job session none s = record {
 
 -- ---- the beginning
 
-pub starts_stand : (g : Ground) (lines : List (List ℕ)) (queues : List (List (List ℕ))) (book : List Turn) (n m : ℕ) (name : GName) (now : View) (store : Logged) → n ≡ store.store.counts.entries → m ≡ now.moment → OnlyNow now → Sorted lines queues book n m
-    → Starts g lines name now store → StandsOn g queues book name now store None
-starts_stand g lines queues book n m name now store e f only sorted s = record {
+abbrev pub begun_at : ℕ → Begun
+begun_at n = record { entries = n; pages = 0 }
+
+pub starts_stand : (g : Ground) (lines : List (List ℕ)) (queues : List (List (List ℕ))) (book : List Turn) (n m : ℕ) (name : GName) (now : View) (store : Logged) (l1 : ℕ) → n ≡ store.store.counts.entries → m ≡ now.moment → OnlyNow now → Sorted lines queues book n m
+    → Starts g lines name now store l1 → StandsOn g queues book name now store None l1 (begun_at n)
+starts_stand g lines queues book n m name now store l1 e f only sorted s = record {
   weaves = record {
     each = λ k. ap (λ l. l ++ left_of queues k) (by_nobodys k book n m sorted.turns) ∙ sorted.each k ∙ ap (lines_of_session k) (sym s.lines_are);
     first = book;
@@ -201,6 +229,10 @@ starts_stand g lines queues book n m name now store e f only sorted s = record {
   };
   some = s.some;
   course = λ p from. begun p (s.runs p from);
+  asks = λ p from. asks_none g.l1 (begun_first p) p book n m sorted.turns;
+  last_is = λ p from. ap begun_at (e ∙ (s.runs p from).stands.counts.entries) ∙ sym (begun_none (begun_first p) book n m sorted.turns);
+  l1_is = s.l1_is;
+  range = s.range;
   told = s.told;
   faults = let k = s.faults in omega (arith, k);
   loan = s.loan;
@@ -210,7 +242,7 @@ starts_stand g lines queues book n m name now store e f only sorted s = record {
     begun : (p : Plain) → Runs store now p → Course p g.disk (lines_in book) (answers_in book) (acks_in book) now store
     begun p runs =
         let entries : n ≡ journal_len p.journal = e ∙ runs.stands.counts.entries in
-        Goes p runs (refused_tell p book n m entries sorted.turns) (λ told.
+        Goes p runs (refused_tell p book n m entries sorted.turns) s.faults (λ told.
         let here : IsTold now = s.told ∙ told in
         let whole : (c : Image) → now.crash_states_since now.moment c → HoldsPrefix p.journal (journal_len p.journal) c = λ c left. runs_whole store now p runs here c (only c left) in
         record {

@@ -4,7 +4,7 @@ use Rattle.std.specs.Prelude.{ℕ, false, List, [], Option, None}
 use Rattle.ut_outside.specs.Disk.{View}
 use Rattle.ut_plain.specs.Plain.{Plain}
 
--- the states that the store may run from, the disk with its loan, and all lines
+-- the states that the store may run from, the disk with its loan, all lines, and how many rows of a stage are merged
 pub record Ground : Type 1 where
   -- the plain states that the store may run from
   pub from : Plain → Type 0
@@ -14,6 +14,8 @@ pub record Ground : Type 1 where
   pub loan : Option GName
   -- all lines
   pub lines : List (List ℕ)
+  -- so many rows of a stage at least are merged
+  pub l1 : ℕ
 
 -- a ground on which no store stands
 abbrev pub no_ground : Ground
@@ -29,4 +31,5 @@ no_ground = record {
   };
   loan = None;
   lines = [];
+  l1 = 0;
 }

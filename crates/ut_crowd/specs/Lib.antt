@@ -4,6 +4,8 @@ pub mod Ground
 pub mod Standing
 pub mod Sorting
 pub mod Saving
+pub mod Asking
+pub mod Keepers
 pub mod Crowding
 pub mod Ripe
 pub mod Texts

@@ -1,5 +1,5 @@
 -- A table whose rows are to be merged.
-use Rattle.std.specs.Prelude.{ℕ}
+use Rattle.std.specs.Prelude.{ℕ, Option, None, Some}
 use Rattle.ut_crowd.specs.declared.merger.Ripe.{Ripe}
 use Rattle.ut_crowd.specs.declared.merger.Ripe.TheVariants.{First, Second}
 
@@ -7,3 +7,9 @@ use Rattle.ut_crowd.specs.declared.merger.Ripe.TheVariants.{First, Second}
 abbrev pub place_of : Ripe → ℕ
 place_of (First place) = place
 place_of (Second place) = place
+
+-- the first one whose first stage is full, or else the first one whose second is
+abbrev pub ripe_of : Option ℕ → Option ℕ → Option Ripe
+ripe_of (Some place) second = Some (First place)
+ripe_of None (Some place) = Some (Second place)
+ripe_of None None = None

@@ -5,6 +5,7 @@ ghost use Rattle.ut_crowd.specs.Book.{HasTurn};
 ghost use Rattle.ut_crowd.specs.Standing.{StandsOn};
 ghost use Rattle.ut_crowd.specs.Queues.{IsDone};
 ghost use Rattle.ut_crowd.specs.Going.{goes_on};
+ghost use Rattle.ut_crowd.specs.Keepers.{IsDated};
 
 use crate::book::Asked;
 use crate::hall::{Hall, Opening, turn_of};
@@ -19,7 +20,6 @@ use ut_outside::{Disk, Hook, Point};
 #[derive(Drop)]
 pub(crate) struct Advance<'a, H> {
     pub session: u8,
-    pub l1: u32,
     pub hook: &'a H,
 }
 
@@ -27,18 +27,23 @@ impl<'a, 'd, D: Disk + Send, O: Opening + Send, H: Hook> Act<Hall<'d, D, O>> for
     ghost use Rattle.ut_crowd.specs.Book.{HasTurn};
     ghost use Rattle.ut_crowd.specs.Queues.{IsDone};
     ghost use Rattle.ut_crowd.specs.Going.{goes_on};
+    ghost use Rattle.ut_crowd.specs.Keepers.{IsDated};
     ghost use Rattle.std.specs.Prelude.{◌≡◌, false, IsTrue};
 
     type Answer = Went;
 
-    ghost relates = { λ a _ x y _ _ answer. (goes_on answer ≡ false → IsDone a.session y.stopped y.engine.store y.queues.items) × (IsTrue (goes_on answer) → HasTurn a.session (λ _. Unit {0}) x.book.items y.book.items) };
+    ghost relates = { λ a _ x y _ _ answer.
+        (goes_on answer ≡ false → IsDone a.session y.stopped y.engine.store y.queues.items)
+        × (IsTrue (goes_on answer) → HasTurn a.session (λ _. Unit {0}) x.book.items y.book.items)
+        × IsDated (D.view y.engine.disk).moment x.book.items y.book.items
+        × (y.save_waits ≡ x.save_waits) };
 
     ghost asks = { λ _ _. Unit {0} };
 
     #[tactic(auto, using(ut_gate::proofs::Jobs::job_stays))]
     fn run(&mut self, value: &mut Hall<'d, D, O>, _slip: &mut Slip<Job>) -> Went {
         let more = value.advance(self.session);
-        came_to(more, value.is_due(self.l1))
+        came_to(more, value.is_due())
     }
 }
 
@@ -64,12 +69,14 @@ impl<'a, H: Hook> Between for Advance<'a, H> {
 impl<'d, D: Disk, O: Opening> Hall<'d, D, O> {
     /// Answers the next line of a session.
     pub fn advance(&mut self, session: u8) -> bool
-        requires stands { StandsOn O.ground self.old.queues.items self.old.book.items self.old.engine.loan (D.view self.old.engine.disk) self.old.engine.store self.old.job }
-        ensures stands { StandsOn O.ground self.new.queues.items self.new.book.items self.new.engine.loan (D.view self.new.engine.disk) self.new.engine.store self.new.job }
+        requires stands { StandsOn O.ground self.old.queues.items self.old.book.items self.old.engine.loan (D.view self.old.engine.disk) self.old.engine.store self.old.job self.old.l1 self.old.last }
+        ensures stands { StandsOn O.ground self.new.queues.items self.new.book.items self.new.engine.loan (D.view self.new.engine.disk) self.new.engine.store self.new.job self.new.l1 self.new.last }
         ensures book { AddsOne self.old.book.items self.new.book.items }
         ensures job { self.new.job ≡ self.old.job }
         ensures done { result ≡ false → IsDone session self.new.stopped self.new.engine.store self.new.queues.items }
         ensures turn { IsTrue result → HasTurn session (λ _. Unit {0}) self.old.book.items self.new.book.items }
+        ensures dated { IsDated (D.view self.new.engine.disk).moment self.old.book.items self.new.book.items }
+        ensures waits { self.new.save_waits ≡ self.old.save_waits }
     {
         if self.stopped || self.engine.down() || !has_line(&self.queues, session) {
             return false;
@@ -89,7 +96,7 @@ impl<'d, D: Disk, O: Opening> Hall<'d, D, O> {
     }
 
     // Whether a keeper that sleeps may have something to do. It looks at the lengths of each table.
-    fn is_due(&self, l1: u32) -> bool {
-        !self.stopped && !self.engine.down() && (self.calls_saver() || self.calls_merger(l1))
+    fn is_due(&self) -> bool {
+        !self.stopped && !self.engine.down() && (self.calls_saver() || self.calls_merger())
     }
 }

@@ -21,3 +21,11 @@ pub struct Turn {
     /// The disk's moment behind the turn.
     pub moment: u64,
 }
+
+/// The last savepoint of a run that began: how many entries the journal had then, and how many pages it has. Before the first of them
+/// the entries are those at the opening, and there are no pages.
+#[derive(Clone, Copy, Debug, PartialEq, Eq)]
+pub struct Begun {
+    pub entries: u32,
+    pub pages: u32,
+}

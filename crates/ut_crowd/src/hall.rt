@@ -1,16 +1,19 @@
 //! What a crowd shares: the store, the lines that are left, and the book.
-ghost use Rattle.std.specs.Prelude.{◌≡◌, ◌∷◌, ◌++◌, [], false, None, Some, IsTrue, IfOk, IfErr};
+ghost use Rattle.std.specs.Prelude.{◌≡◌, ◌≤◌, ◌∷◌, ◌++◌, [], false, None, Some, IsTrue, IfOk, IfErr};
+ghost use Rattle.ut_plain.specs.Plain.{Plain};
 ghost use Rattle.ut_plain.specs.declared.statement.Parsed.TheVariants.{Good};
 ghost use Rattle.ut_plain.specs.Spelled.{is_spelled};
 ghost use Rattle.ut_store.specs.Standing.{is_of_store};
+ghost use Rattle.ut_engine.specs.Runs.{Runs};
 ghost use Rattle.ut_gate.specs.Turns.{AddsOne};
 ghost use Rattle.ut_course.specs.Coming.{is_of_merge, length_after};
 ghost use Rattle.ut_crowd.specs.declared.book.Asked.TheVariants as asks;
-ghost use Rattle.ut_crowd.specs.Book.{HasTurn};
+ghost use Rattle.ut_crowd.specs.Asking.{StoreAsks, begun_by};
+ghost use Rattle.ut_crowd.specs.Keepers.{AsksOnce, IsDated, is_refusal, kept_after, woken};
 ghost use Rattle.ut_crowd.specs.Standing.{StandsOn, Starts};
 ghost use Rattle.ut_crowd.specs.Queues.{IsOver};
 
-use crate::book::{Asked, Turn};
+use crate::book::{Asked, Begun, Turn};
 use crate::queues::{Queue, waiting};
 use crate::sort::sort;
 use std::alloc::Global;
@@ -45,12 +48,11 @@ pub(crate) struct Hall<'d, D: Disk, O: Opening> {
     pub engine: Engine<'d, D>,
     pub queues: Vec<Queue>,
     pub book: Vec<Turn>,
+    /// So many rows of a stage at least are merged.
+    pub l1: u32,
     /// A share of the job that a merger builds.
     pub job: Option<Job>,
-    /// How many entries the journal had at the last begin of a savepoint, or at the opening.
-    pub saved: u32,
-    /// How many pages the last savepoint of this run had, 0 before the first.
-    pub pages: u32,
+    pub last: Begun,
     /// Whether a savepoint waits for the end of the merge that is pending.
     pub save_waits: bool,
     /// There was no memory for a turn.
@@ -69,7 +71,7 @@ impl<'d, D: Disk + Send, O: Opening + Send> Held for Hall<'d, D, O> {
 
     ghost ground = { tt };
 
-    ghost stands_on = { λ _ h. StandsOn O.ground h.queues.items h.book.items h.engine.loan (D.view h.engine.disk) h.engine.store h.job };
+    ghost stands_on = { λ _ h. StandsOn O.ground h.queues.items h.book.items h.engine.loan (D.view h.engine.disk) h.engine.store h.job h.l1 h.last };
 
     ghost book = { λ h. h.book.items };
 
@@ -81,9 +83,10 @@ pub(crate) fn hall_of<'d, D: Disk, O: Opening>(
     alloc: Global,
     engine: Engine<'d, D>,
     lines: VecDeque<Seq<u8>>,
+    l1: u32,
 ) -> Result<Hall<'d, D, O>, Back<Engine<'d, D>>>
-    requires starts { Starts O.ground lines.items engine.loan (D.view engine.disk) engine.store }
-    ensures stands { IfOk result (λ h. StandsOn O.ground h.queues.items h.book.items h.engine.loan (D.view h.engine.disk) h.engine.store h.job) }
+    requires starts { Starts O.ground lines.items engine.loan (D.view engine.disk) engine.store l1 }
+    ensures stands { IfOk result (λ h. StandsOn O.ground h.queues.items h.book.items h.engine.loan (D.view h.engine.disk) h.engine.store h.job h.l1 h.last) }
     ensures job { IfOk result (λ h. h.job ≡ None) }
     ensures engine { IfOk result (λ h. h.engine ≡ engine.entry) }
     ensures err { IfErr result (λ b. b.value ≡ engine.entry) }
@@ -97,9 +100,12 @@ pub(crate) fn hall_of<'d, D: Disk, O: Opening>(
         engine,
         queues,
         book,
+        l1,
         job: None,
-        saved: journal,
-        pages: 0,
+        last: Begun {
+            entries: journal,
+            pages: 0,
+        },
         save_waits: false,
         stopped: false,
         of: PhantomData,
@@ -110,23 +116,35 @@ impl<'d, D: Disk, O: Opening> Hall<'d, D, O> {
     /// Whether it was stopped, the disk failed, or all lines were answered.
     pub fn is_over(&self) -> bool
         ensures over { IsTrue result → IsOver self.now.stopped self.now.engine.store self.now.queues.items }
-        ensures up { result ≡ false → self.now.engine.store.down ≡ false }
+        ensures on { result ≡ false → IsOver self.now.stopped self.now.engine.store self.now.queues.items → ⊥ }
+        ensures up { result ≡ false → (self.now.stopped ≡ false) × (self.now.engine.store.down ≡ false) }
     {
-        self.stopped || self.engine.down() || waiting(&self.queues).is_none()
+        if self.stopped || self.engine.down() {
+            return true;
+        }
+        match waiting(&self.queues) {
+            Some(_) => false,
+            None => true,
+        }
     }
 
-    /// The store itself asks, in a turn of its own, and not for a merge into main. The answer is over where it was refused or the
-    /// disk failed.
+    /// The store itself asks what it may, in a turn of its own, and not for a merge into main.
     pub fn ask(&mut self, st: Statement) -> Kept
         requires up { self.old.engine.store.down ≡ false }
+        requires going { self.old.stopped ≡ false }
         requires stores { IsTrue (is_of_store st) }
         requires spelled { IsTrue (is_spelled st) }
         requires no_merge { is_of_merge st ≡ false }
-        requires stands { StandsOn O.ground self.old.queues.items self.old.book.items self.old.engine.loan (D.view self.old.engine.disk) self.old.engine.store self.old.job }
-        ensures stands { StandsOn O.ground self.new.queues.items self.new.book.items self.new.engine.loan (D.view self.new.engine.disk) self.new.engine.store self.new.job }
+        requires may { (p : Plain) → Runs self.old.engine.store (D.view self.old.engine.disk) p → StoreAsks self.old.l1 self.old.last p st }
+        requires stands { StandsOn O.ground self.old.queues.items self.old.book.items self.old.engine.loan (D.view self.old.engine.disk) self.old.engine.store self.old.job self.old.l1 self.old.last }
+        ensures stands { StandsOn O.ground self.new.queues.items self.new.book.items self.new.engine.loan (D.view self.new.engine.disk) self.new.engine.store self.new.job self.new.l1 self.new.last }
         ensures book { AddsOne self.old.book.items self.new.book.items }
+        ensures kept { AsksOnce st self.new.stopped self.new.engine.store.down self.old.book.items self.new.book.items result }
+        ensures dated { IsDated (D.view self.new.engine.disk).moment self.old.book.items self.new.book.items }
+
+        // What else the hall holds.
         ensures job { self.new.job ≡ self.old.job }
-        ensures turn { result ≡ Kept.Did → HasTurn 0 (λ asked. asked ≡ asks.Store st) self.old.book.items self.new.book.items }
+        ensures waits { self.new.save_waits ≡ self.old.save_waits }
     {
         if self.book.reserve(1).is_err() {
             self.stopped = true;
@@ -134,8 +152,9 @@ impl<'d, D: Disk, O: Opening> Hall<'d, D, O> {
         }
         let before = self.engine.journal_len();
         let reply = answer_statement(self.alloc, &mut self.engine, &st);
-        let kept = kept_of(&reply);
+        let kept = kept_after(&reply, self.engine.down());
         let turn = turn_of(&self.engine, 0, Asked::Store(st), before, reply);
+        self.last = begun_by(self.last, &turn);
         self.book.push_reserved(turn);
         kept
     }
@@ -161,19 +180,45 @@ pub(crate) fn turn_of<D: Disk>(
     }
 }
 
-/// What a keeper's turn came to: there is no more to do where it was refused, or the disk failed.
-pub(crate) fn kept_of(reply: &Reply) -> Kept {
-    match reply {
-        Reply::Refused(_) => Kept::Over,
-        Reply::DiskFault => Kept::Over,
-        _ => Kept::Did,
+/// The last savepoint that began, behind a turn.
+pub(crate) fn begun_by(last: Begun, turn: &Turn) -> Begun
+    ensures { result ≡ begun_by last turn.now.asked turn.now.reply turn.now.journal }
+{
+    match &turn.asked {
+        Asked::Store(Statement::SaveBegin) => match &turn.reply {
+            Reply::Saving { done: _, pages } => Begun {
+                entries: turn.journal,
+                pages: *pages,
+            },
+            _ => last,
+        },
+        _ => last,
     }
 }
 
-/// What was done lets the other keeper go on, which may have waited for it.
-pub(crate) fn due(kept: Kept) -> Kept {
+/// What a keeper's turn came to: there is no more to do where its statement was refused, or the disk failed.
+pub(crate) fn kept_after(reply: &Reply, down: bool) -> Kept
+    ensures { result ≡ kept_after reply.now down }
+{
+    if down || is_refusal(reply) {
+        Kept::Over
+    } else {
+        Kept::Did
+    }
+}
+
+fn is_refusal(reply: &Reply) -> bool
+    ensures { result ≡ is_refusal reply.now }
+{
+    matches!(reply, Reply::Refused(_))
+}
+
+/// What was done lets the other keeper go on, where that waited for it.
+pub(crate) fn woken(waited: bool, kept: Kept) -> Kept
+    ensures { result ≡ woken waited kept }
+{
     match kept {
-        Kept::Did => Kept::Due,
+        Kept::Did if waited => Kept::Due,
         _ => kept,
     }
 }

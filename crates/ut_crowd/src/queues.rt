@@ -1,5 +1,5 @@
 //! The lines that are left, in a queue for each session.
-ghost use Rattle.std.specs.Prelude.{◌≡◌, ◌<◌, [], ◌∷◌, ◌++◌, ℕ, length, false, MatchOption, IsTrue, IfOk, IfNone, OnOk};
+ghost use Rattle.std.specs.Prelude.{◌≡◌, ◌<◌, [], ◌∷◌, ◌++◌, ℕ, length, false, MatchOption, IsTrue, ◌↔◌, IfOk, IfNone, IfSome, OnOk};
 ghost use Rattle.ut_crowd.specs.Queues.{left_of, Takes, TakesNone, HasNone};
 ghost use Rattle.ut_crowd.specs.Sorting.{Adds};
 
@@ -42,7 +42,7 @@ impl Queue {
     }
 
     fn is_empty(&self) -> bool
-        ensures { IsTrue result → self.now ≡ [] }
+        ensures { IsTrue result ↔ (self.now ≡ []) }
     {
         self.lines.is_empty()
     }
@@ -79,7 +79,8 @@ pub(crate) fn enqueue(queues: &mut Vec<Queue>, session: u8, line: Seq<u8>) -> Re
 
 /// Whether a session has a line left.
 pub(crate) fn has_line(queues: &[Queue], session: u8) -> bool
-    ensures { result ≡ false → left_of queues.now session ≡ [] }
+    ensures none { result ≡ false → left_of queues.now session ≡ [] }
+    ensures some { IsTrue result → left_of queues.now session ≡ [] → ⊥ }
 {
     match queues.get(session as usize) {
         Some(queue) => !queue.is_empty(),
@@ -99,7 +100,8 @@ pub(crate) fn take_line(queues: &mut Vec<Queue>, session: u8) -> Option<Seq<u8>>
 
 /// A session that has a line left.
 pub(crate) fn waiting(queues: &[Queue]) -> Option<u8>
-    ensures { IfNone result (HasNone queues.now) }
+    ensures none { IfNone result (HasNone queues.now) }
+    ensures some { IfSome result (λ session. (session < 17) × (left_of queues.now session ≡ [] → ⊥)) }
 {
     for session in 0..17 {
         if has_line(queues, session) {

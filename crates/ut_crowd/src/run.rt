@@ -1,7 +1,8 @@
 //! A run of the crowd.
-ghost use Rattle.std.specs.Prelude.{◌≡◌, ◌≤◌, ◌⊎◌, Option, IfOk, IfErr, IsTrue, vec_len};
+ghost use Rattle.std.specs.Prelude.{◌≡◌, ◌≤◌, ◌⊎◌, ℕ, Option, IfOk, IfErr, IsTrue, vec_len};
 ghost use Rattle.ut_plain.specs.Plain.{Plain};
 ghost use Rattle.ut_engine.specs.Runs.{Runs};
+ghost use Rattle.ut_crowd.specs.declared.book.Begun.{Begun};
 ghost use Rattle.ut_crowd.specs.Crowding.{Crowded};
 ghost use Rattle.ut_merge.specs.Jobs.{JobValue};
 ghost use Rattle.ut_crowd.specs.Queues.{IsOver, HasNone};
@@ -52,7 +53,7 @@ pub fn crowd<'d, D: Disk + Send, B: Build + Sync, H: Hook + Sync, R: Threads + W
     requires runs { (p : Plain) × Runs engine.store (D.view engine.disk) p }
     requires range { (1 ≤ l1) × (l1 ≤ 1048576) }
     requires ready { (b : B) → B.ready b }
-    ensures ran { IfOk result (λ e. Crowded engine.entry.store (D.view engine.entry.disk) lines.items e.book.items e.all e.stopped e.engine.store (D.view e.engine.disk)) }
+    ensures ran { IfOk result (λ e. Crowded engine.entry.store (D.view engine.entry.disk) l1 lines.items e.book.items e.all e.stopped e.engine.store (D.view e.engine.disk)) }
     ensures loan { IfOk result (λ e. e.engine.loan ≡ engine.entry.loan) }
     ensures err { IfErr result (λ b. b.value ≡ engine.entry) }
 {
@@ -111,25 +112,23 @@ fn on_ground<
     builder: &B,
     hook: &H,
 ) -> Result<Over<'d, D>, Back<Engine<'d, D>>>
-    requires starts { Starts O.ground lines.items engine.loan (D.view engine.disk) engine.store }
-    requires range { (1 ≤ l1) × (l1 ≤ 1048576) }
+    requires starts { Starts O.ground lines.items engine.loan (D.view engine.disk) engine.store l1 }
     requires ready { (b : B) → B.ready b }
-    ensures stands { IfOk result (λ e. (job : Option JobValue) × StandsOn O.ground e.queues.items e.book.items e.engine.loan (D.view e.engine.disk) e.engine.store job) }
+    ensures stands { IfOk result (λ e. (job : Option JobValue) × (n : ℕ) × (last : Begun) × StandsOn O.ground e.queues.items e.book.items e.engine.loan (D.view e.engine.disk) e.engine.store job n last) }
     ensures over { IfOk result (λ e. IsOver e.stopped e.engine.store e.queues.items) }
     ensures err { IfErr result (λ b. b.value ≡ engine.entry) }
 {
-    let hall = match hall_of::<D, O>(alloc, engine, lines) {
+    let hall = match hall_of::<D, O>(alloc, engine, lines, l1) {
         Ok(hall) => hall,
         Err(back) => return Err(back),
     };
-    let Ok(acts) = sessions(alloc, &hall.queues, l1, hook) else {
+    let Ok(acts) = sessions(alloc, &hall.queues, hook) else {
         return Err(Back {
             value: engine_of(hall),
         });
     };
     let merger = Merger {
         alloc,
-        l1,
         builder,
         hook,
     };
@@ -145,7 +144,6 @@ fn on_ground<
 fn sessions<'a, H>(
     alloc: Global,
     queues: &[Queue],
-    l1: u32,
     hook: &'a H,
 ) -> Result<Vec<Advance<'a, H>>, AllocError>
     ensures { IfOk result (λ acts. vec_len acts ≤ 16) }
@@ -153,7 +151,7 @@ fn sessions<'a, H>(
     let mut acts = Vec::new(alloc);
     for session in 1..17u8 {
         if has_line(queues, session) {
-            acts.push(Advance { session, l1, hook })?;
+            acts.push(Advance { session, hook })?;
         }
     }
     Ok(acts)
@@ -161,8 +159,8 @@ fn sessions<'a, H>(
 
 // Goes on alone until the hall is over.
 fn finish<'d, D: Disk, O: Opening, R: Wait>(rt: &R, hall: Hall<'d, D, O>) -> Hall<'d, D, O>
-    requires stands { StandsOn O.ground hall.queues.items hall.book.items hall.engine.loan (D.view hall.engine.disk) hall.engine.store hall.job }
-    ensures stands { StandsOn O.ground result.queues.items result.book.items result.engine.loan (D.view result.engine.disk) result.engine.store result.job }
+    requires stands { StandsOn O.ground hall.queues.items hall.book.items hall.engine.loan (D.view hall.engine.disk) hall.engine.store hall.job hall.l1 hall.last }
+    ensures stands { StandsOn O.ground result.queues.items result.book.items result.engine.loan (D.view result.engine.disk) result.engine.store result.job result.l1 result.last }
     ensures over { IsOver result.stopped result.engine.store result.queues.items }
 {
     let mut hall = hall;
@@ -188,9 +186,9 @@ fn apart<'d, D: Disk, O: Opening>(hall: Hall<'d, D, O>) -> Over<'d, D>
         engine,
         queues,
         book,
+        l1: _,
         job: _,
-        saved: _,
-        pages: _,
+        last: _,
         save_waits: _,
         stopped,
         of: _,
@@ -211,9 +209,9 @@ fn engine_of<'d, D: Disk, O: Opening>(hall: Hall<'d, D, O>) -> Engine<'d, D>
         engine,
         queues: _,
         book: _,
+        l1: _,
         job: _,
-        saved: _,
-        pages: _,
+        last: _,
         save_waits: _,
         stopped: _,
         of: _,

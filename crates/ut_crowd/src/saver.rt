@@ -2,13 +2,15 @@
 ghost use Rattle.std.specs.Prelude.{◌≡◌, false, IsTrue, IfSome};
 ghost use Rattle.ut_plain.specs.Spelled.{is_spelled};
 ghost use Rattle.ut_store.specs.Standing.{is_of_store};
-ghost use Rattle.ut_engine.specs.Savepoints.{progress_of};
 ghost use Rattle.ut_gate.specs.Turns.{AddsOne};
 ghost use Rattle.ut_course.specs.Coming.{is_of_merge};
+ghost use Rattle.ut_crowd.specs.Asking.{waits};
+ghost use Rattle.ut_crowd.specs.Keepers.{IsDated, IsSaveDue, IsWaiting, KeepsUp};
+ghost use Rattle.ut_crowd.specs.Queues.{IsOver};
 ghost use Rattle.ut_crowd.specs.Saving.{due_piece, is_enough};
 ghost use Rattle.ut_crowd.specs.Standing.{StandsOn};
 
-use crate::hall::{Hall, Opening, due};
+use crate::hall::{Hall, Opening, woken};
 use ut_crew::Kept;
 use ut_gate::{Act, Slip};
 use ut_merge::Job;
@@ -29,9 +31,15 @@ const PAGES: u32 = 8;
 pub(crate) struct Saver;
 
 impl<'d, D: Disk + Send, O: Opening + Send> Act<Hall<'d, D, O>> for Saver {
+    ghost use Rattle.ut_crowd.specs.Keepers.{IsDated, IsSaveDue, IsWaiting, KeepsUp};
+    ghost use Rattle.ut_crowd.specs.Queues.{IsOver};
+
     type Answer = Kept;
 
-    ghost relates = { λ _ _ _ _ _ _ _. Unit {0} };
+    ghost relates = { λ _ _ x y _ _ answer.
+        KeepsUp (IsOver x.stopped x.engine.store x.queues.items) (IsSaveDue x.last x.engine.store (D.view x.engine.disk)) (λ _. Unit {0}) y.stopped y.engine.store.down x.book.items y.book.items answer
+        × ((IsOver x.stopped x.engine.store x.queues.items → ⊥) → IsWaiting x.last x.engine.store (D.view x.engine.disk) y.save_waits)
+        × IsDated (D.view y.engine.disk).moment x.book.items y.book.items };
 
     ghost asks = { λ _ _. Unit {0} };
 
@@ -42,26 +50,35 @@ impl<'d, D: Disk + Send, O: Opening + Send> Act<Hall<'d, D, O>> for Saver {
 }
 
 impl<'d, D: Disk, O: Opening> Hall<'d, D, O> {
-    /// Asks for the piece that is due.
+    /// Asks for the piece that is due. A savepoint doesn't begin while a merge is pending: of its rows, which stand in the delta that it
+    /// closed, it would spell each, and of the part that the merge makes a savepoint behind it needs only the bytes.
     pub fn save_piece(&mut self) -> Kept
-        requires stands { StandsOn O.ground self.old.queues.items self.old.book.items self.old.engine.loan (D.view self.old.engine.disk) self.old.engine.store self.old.job }
-        ensures stands { StandsOn O.ground self.new.queues.items self.new.book.items self.new.engine.loan (D.view self.new.engine.disk) self.new.engine.store self.new.job }
+        requires stands { StandsOn O.ground self.old.queues.items self.old.book.items self.old.engine.loan (D.view self.old.engine.disk) self.old.engine.store self.old.job self.old.l1 self.old.last }
+        ensures stands { StandsOn O.ground self.new.queues.items self.new.book.items self.new.engine.loan (D.view self.new.engine.disk) self.new.engine.store self.new.job self.new.l1 self.new.last }
         ensures book { AddsOne self.old.book.items self.new.book.items }
         ensures job { self.new.job ≡ self.old.job }
+        ensures kept { KeepsUp (IsOver self.old.stopped self.old.engine.store self.old.queues.items) (IsSaveDue self.old.last self.old.engine.store (D.view self.old.engine.disk)) (λ _. Unit {0}) self.new.stopped self.new.engine.store.down self.old.book.items self.new.book.items result }
+        ensures waits { (IsOver self.old.stopped self.old.engine.store self.old.queues.items → ⊥) → IsWaiting self.old.last self.old.engine.store (D.view self.old.engine.disk) self.new.save_waits }
+        ensures dated { IsDated (D.view self.new.engine.disk).moment self.old.book.items self.new.book.items }
     {
         if self.is_over() {
             return Kept::Over;
         }
-        let entries = self.engine.journal_len();
-        let progress = self.engine.phase();
-        self.pages = pages_of(progress, self.pages);
-        let Some(piece) = due_piece(progress, entries, self.saved, self.pages) else {
+        let waited = self.save_waits;
+        let piece = due_piece(
+            self.engine.phase(),
+            self.engine.journal_len(),
+            self.last.entries,
+            self.last.pages,
+        );
+        self.save_waits = waits(self.engine.pending().is_some(), &piece);
+        if self.save_waits {
             return Kept::Idle;
-        };
-        if progress == Progress::Idle {
-            return self.begin_save(entries, piece);
         }
-        self.ask(piece)
+        match piece {
+            Some(piece) => woken(waited, self.ask(piece)),
+            None => Kept::Idle,
+        }
     }
 
     /// Whether a saver that sleeps would do something at its turn: none does so while a savepoint is written.
@@ -69,32 +86,23 @@ impl<'d, D: Disk, O: Opening> Hall<'d, D, O> {
         requires up { self.now.engine.store.down ≡ false }
     {
         let progress = self.engine.phase();
-        let entries = self.engine.journal_len();
         progress == Progress::Idle
-            && due_piece(progress, entries, self.saved, self.pages).is_some()
-            && (self.job.is_none() || !self.save_waits)
+            && is_enough(
+                self.engine.journal_len(),
+                self.last.entries,
+                self.last.pages,
+            )
+            && (self.engine.pending().is_none() || !self.save_waits)
     }
+}
 
-    // Begins a savepoint of so many entries, unless a merge is pending: of its rows, which stand in the delta that it closed,
-    // a savepoint would spell each, and of the part that it makes a savepoint behind it needs only the bytes.
-    fn begin_save(&mut self, entries: u32, begin: Statement) -> Kept
-        requires up { self.old.engine.store.down ≡ false }
-        requires stores { IsTrue (is_of_store begin) }
-        requires spelled { IsTrue (is_spelled begin) }
-        requires no_merge { is_of_merge begin ≡ false }
-        requires stands { StandsOn O.ground self.old.queues.items self.old.book.items self.old.engine.loan (D.view self.old.engine.disk) self.old.engine.store self.old.job }
-        ensures stands { StandsOn O.ground self.new.queues.items self.new.book.items self.new.engine.loan (D.view self.new.engine.disk) self.new.engine.store self.new.job }
-        ensures book { AddsOne self.old.book.items self.new.book.items }
-        ensures job { self.new.job ≡ self.old.job }
-    {
-        let waited = self.save_waits;
-        self.save_waits = self.job.is_some();
-        if self.save_waits {
-            return Kept::Idle;
-        }
-        self.saved = entries;
-        let kept = self.ask(begin);
-        if waited { due(kept) } else { kept }
+// Whether the piece that comes next has to wait for the end of a merge.
+fn waits(pending: bool, piece: &Option<Statement>) -> bool
+    ensures { result ≡ waits pending piece.now }
+{
+    match piece {
+        Some(Statement::SaveBegin) => pending,
+        _ => false,
     }
 }
 
@@ -130,12 +138,4 @@ fn is_enough(entries: u32, saved: u32, pages: u32) -> bool
 {
     let (entries, saved) = (entries as u64, saved as u64);
     entries >= saved + ENTRIES && entries >= saved + ENTRIES_A_PAGE * pages as u64
-}
-
-// How many pages the savepoint has that is written, or had the last one.
-fn pages_of(progress: Progress, last: u32) -> u32 {
-    match progress {
-        Progress::Writing { done: _, pages } => pages,
-        _ => last,
-    }
 }

@@ -25,7 +25,7 @@ returns-in-Err-begin g c = λ source asks reads.
 pub loop-end-init : goal.loop-end-init
 loop-end-init g c = record {
   going = bench-start c.args.plan.now (g.D.Disk.view c.args.disk.now) (g.D.Disk.view c.in-Ok-begin.engine.disk) c.new-script.result c.new-notes.result.lines c.in-Ok-begin.engine.store (record { acks = c.new-notes.result.acks.items; journal = c.new-notes.result.journal; tally = c.new-notes.result.tally }) c.new-script.ensures c.new-notes.ensures.lines
-      (subst (λ (s : Start). Begun s c.args.plan.now.rows (g.D.Disk.view c.args.disk.now) (g.D.Disk.view c.in-Ok-begin.engine.disk) c.in-Ok-begin.engine.store) c.start_of.ensures c.in-Ok-begin.ensures.begun) c.new-notes.ensures.acks (c.new-notes.ensures.journal ∙ c.journal_len.ensures) c.new-notes.ensures.tally c.in-Ok-begin.ensures.told c.in-Ok-begin.ensures.later;
+      (subst (λ (s : Start). Begun s c.args.plan.now.rows (g.D.Disk.view c.args.disk.now) (g.D.Disk.view c.in-Ok-begin.engine.disk) c.in-Ok-begin.engine.store) c.start_of.ensures c.in-Ok-begin.ensures.begun) c.new-notes.ensures.acks (c.new-notes.ensures.journal ∙ c.journal_len.ensures) c.new-notes.ensures.tally c.in-Ok-begin.ensures.told;
   loan = refl;
   same = refl;
 }
@@ -60,7 +60,7 @@ returns-then-is_fault g c = λ source asks reads.
     let stayed = noted_same c.args.plan.now (g.D.Disk.view c.args.disk.now) (g.D.Disk.view c.loop-end.engine.disk) c.loop-end.script c.loop-end.notes.lines c.loop-end.notes.lines c.loop-end.engine.store _ _ _ _ _ _ c.loop-end.invariant.going refl c.next_line.ensures.same in
     let ill = sym c.is_fault.ensures ∙ c.if-is_fault.true in
     let rose : Rose before.disk.faults after.disk.faults = (let r = cause.cause (fault_heard c.answer_line-heard.result ill) in let later = c.loop-end.invariant.going.faults in omega (arith, r, later)) in
-    let f = bench-fault c.args.plan.now (g.D.Disk.view c.args.disk.now) (g.D.Disk.view c.loop-end.engine.disk) (g.D.Disk.view c.answer_line-heard.new.engine.disk) c.loop-end.script c.next_line.new.script c.loop-end.notes.lines c.loop-end.engine.store c.answer_line-heard.new.engine.store (record { acks = c.next_line.new.notes.acks.items; journal = c.next_line.new.notes.journal; tally = c.next_line.new.notes.tally }) (record { acks = c.answer_line-heard.new.notes.acks.items; journal = c.answer_line-heard.new.notes.journal; tally = c.answer_line-heard.new.notes.tally }) c.next_line.new.text.items c.answer_line-heard.result stayed c.in-Ok-next_line.ensures.line c.answer_line-heard.ensures.noted cause.told cause.no_fewer (g.met.D.Disk.only_now c.answer_line-heard.new.engine.disk) (g.met.D.Disk.counts_now c.answer_line-heard.new.engine.disk) ill rose (subst (λ (l : List ℕ). Hears c.loop-end.engine.store (g.D.Disk.view c.loop-end.engine.disk) (parsed false l) c.answer_line-heard.result c.answer_line-heard.new.engine.store (g.D.Disk.view c.answer_line-heard.new.engine.disk)) c.deref.ensures.value c.answer_line-heard.ensures.hears) in
+    let f = bench-fault c.args.plan.now (g.D.Disk.view c.args.disk.now) (g.D.Disk.view c.loop-end.engine.disk) (g.D.Disk.view c.answer_line-heard.new.engine.disk) c.loop-end.script c.next_line.new.script c.loop-end.notes.lines c.loop-end.engine.store c.answer_line-heard.new.engine.store (record { acks = c.next_line.new.notes.acks.items; journal = c.next_line.new.notes.journal; tally = c.next_line.new.notes.tally }) (record { acks = c.answer_line-heard.new.notes.acks.items; journal = c.answer_line-heard.new.notes.journal; tally = c.answer_line-heard.new.notes.tally }) c.next_line.new.text.items c.answer_line-heard.result stayed c.in-Ok-next_line.ensures.line c.answer_line-heard.ensures.noted cause.told cause.still (g.met.D.Disk.only_now c.answer_line-heard.new.engine.disk) (g.met.D.Disk.counts_now c.answer_line-heard.new.engine.disk) ill rose (subst (λ (l : List ℕ). Hears c.loop-end.engine.store (g.D.Disk.view c.loop-end.engine.disk) (parsed false l) c.answer_line-heard.result c.answer_line-heard.new.engine.store (g.D.Disk.view c.answer_line-heard.new.engine.disk)) c.deref.ensures.value c.answer_line-heard.ensures.hears) in
     let ungiven : sink_of after ≡ sink_of before = ap (λ (k : g.row.K.Denot). sinking (g.K.Taken.held k) (g.K.Sink.moments k) (g.K.Sink.faults k)) c.loop-end.invariant.same in
     let back = c.disk-then-is_fault-1.given.1 (sym (c.release-disk-then-is_fault.ensures.loan ∙ (c.answer_line-heard.ensures.loan ∙ (c.loop-end.invariant.loan ∙ c.in-Ok-begin.ensures.loan)))) ∙ c.release-disk-then-is_fault.ensures.disk in
     subst (λ (d : g.row.D.Denot). BenchRun c.args.plan.now before (record { source = source; asks = asks; reads = reads; sink = after.sink; marks = after.marks; writes = after.writes; disk = g.D.Disk.view d }) c.report-then-is_fault.result.status c.report-then-is_fault.result.lines c.report-then-is_fault.result.acks.items c.report-then-is_fault.result.journal) (sym back)
@@ -74,7 +74,7 @@ loop-end-preserved g c =
     let well = sym c.is_fault.ensures ∙ c.if-is_fault.false in
     record {
       going = subst (λ (n : ℕ). IsBenching c.args.plan.now (g.D.Disk.view c.args.disk.now) (g.D.Disk.view c.answer_line-heard.new.engine.disk) c.next_line.new.script n c.answer_line-heard.new.engine.store (record { acks = c.answer_line-heard.new.notes.acks.items; journal = c.answer_line-heard.new.notes.journal; tally = c.answer_line-heard.new.notes.tally })) (sym (c.answer_line-heard.ensures.lines ∙ c.in-Ok-next_line.ensures.lines))
-          (bench-more c.args.plan.now (g.D.Disk.view c.args.disk.now) (g.D.Disk.view c.loop-end.engine.disk) (g.D.Disk.view c.answer_line-heard.new.engine.disk) c.loop-end.script c.next_line.new.script c.loop-end.notes.lines c.loop-end.engine.store c.answer_line-heard.new.engine.store (record { acks = c.next_line.new.notes.acks.items; journal = c.next_line.new.notes.journal; tally = c.next_line.new.notes.tally }) (record { acks = c.answer_line-heard.new.notes.acks.items; journal = c.answer_line-heard.new.notes.journal; tally = c.answer_line-heard.new.notes.tally }) c.next_line.new.text.items c.answer_line-heard.result stayed c.in-Ok-next_line.ensures.line c.answer_line-heard.ensures.noted cause.told cause.no_fewer (g.met.D.Disk.only_now c.answer_line-heard.new.engine.disk) (g.met.D.Disk.counts_now c.answer_line-heard.new.engine.disk) well (subst (λ (l : List ℕ). Hears c.loop-end.engine.store (g.D.Disk.view c.loop-end.engine.disk) (parsed false l) c.answer_line-heard.result c.answer_line-heard.new.engine.store (g.D.Disk.view c.answer_line-heard.new.engine.disk)) c.deref.ensures.value c.answer_line-heard.ensures.hears));
+          (bench-more c.args.plan.now (g.D.Disk.view c.args.disk.now) (g.D.Disk.view c.loop-end.engine.disk) (g.D.Disk.view c.answer_line-heard.new.engine.disk) c.loop-end.script c.next_line.new.script c.loop-end.notes.lines c.loop-end.engine.store c.answer_line-heard.new.engine.store (record { acks = c.next_line.new.notes.acks.items; journal = c.next_line.new.notes.journal; tally = c.next_line.new.notes.tally }) (record { acks = c.answer_line-heard.new.notes.acks.items; journal = c.answer_line-heard.new.notes.journal; tally = c.answer_line-heard.new.notes.tally }) c.next_line.new.text.items c.answer_line-heard.result stayed c.in-Ok-next_line.ensures.line c.answer_line-heard.ensures.noted cause.told cause.still (g.met.D.Disk.only_now c.answer_line-heard.new.engine.disk) (g.met.D.Disk.counts_now c.answer_line-heard.new.engine.disk) well (subst (λ (l : List ℕ). Hears c.loop-end.engine.store (g.D.Disk.view c.loop-end.engine.disk) (parsed false l) c.answer_line-heard.result c.answer_line-heard.new.engine.store (g.D.Disk.view c.answer_line-heard.new.engine.disk)) c.deref.ensures.value c.answer_line-heard.ensures.hears));
       loan = c.answer_line-heard.ensures.loan ∙ c.loop-end.invariant.loan;
       same = c.loop-end.invariant.same;
     }

@@ -1,11 +1,11 @@
-use Rattle.std.proofs.Common.{List, ℕ, ◌≡◌, length, refl, sym, subst, ap, ◌∙◌}
+use Rattle.std.proofs.Common.{List, ℕ, ◌≡◌, refl, sym, subst, ap, ◌∙◌}
 use Rattle.ut_engine.specs.Lent.{Lent}
 use Rattle.ut_crowd.specs.declared.book.Turn.{Turn}
 use Rattle.ut_run.specs.declared.start.Start.{Start}
 use Rattle.ut_run.specs.declared.report.Status.TheVariants.{Memory}
 use Rattle.ut_run.specs.World.{World}
 use Rattle.ut_run.specs.Beginning.{Begun, NotBegun}
-use Rattle.ut_app.specs.Benching.{Sinking, sink_of}
+use Rattle.ut_app.specs.Benching.{sink_of}
 use Rattle.ut_app.specs.Crowds.{CrowdRun, TellsEnd, last_length}
 use Rattle.ut_app.proofs.CrowdLemmas.{crowd_early, crowd_unrun, lacks_crowd, crowd_late}
 use Rattle.ut_app.proofs.crowd.crowd.Goals as goal
@@ -44,7 +44,7 @@ returns-in-Ok-answer_all g c =
     let back = c.disk-in-Ok-answer_all-1.given.1 (sym (c.release-disk-in-Ok-answer_all.ensures.loan ∙ (c.in-Ok-answer_all.ensures.loan ∙ c.in-Ok.ensures.loan))) ∙ c.release-disk-in-Ok-answer_all.ensures.disk in
     subst (λ (d : g.row.D.Denot). CrowdRun c.args.plan.now before (record { source = after.source; asks = after.asks; reads = after.reads; sink = after.sink; marks = after.marks; writes = after.writes; disk = g.D.Disk.view d }) r.status r.lines r.acks.items r.journal) (sym back)
     (crowd_late c.args.plan.now before after (g.D.Disk.view c.in-Ok.engine.disk) r.status script over.book.items over.all over.stopped c.in-Ok.engine.store over.engine.store r.lines r.acks.items r.journal
-    (subst (λ (s : Start). Begun s c.args.plan.now.rows (g.D.Disk.view c.args.disk.now) (g.D.Disk.view c.in-Ok.engine.disk) c.in-Ok.engine.store) c.start_of.ensures c.in-Ok.ensures.begun) c.in-Ok.ensures.told c.in-Ok.ensures.later c.in-Ok-read_all.ensures.read c.in-Ok-answer_all.ensures.ran tells_all journal)
+    (subst (λ (s : Start). Begun s c.args.plan.now.rows (g.D.Disk.view c.args.disk.now) (g.D.Disk.view c.in-Ok.engine.disk) c.in-Ok.engine.store) c.start_of.ensures c.in-Ok.ensures.begun) c.in-Ok.ensures.told c.in-Ok.ensures.later c.in-Ok-read_all.ensures.read c.in-Ok-read_all.ensures.still c.in-Ok-answer_all.ensures.ran tells_all journal)
 
 pub returns-in-Err-answer_all : goal.returns-in-Err-answer_all
 returns-in-Err-answer_all g c =

@@ -1,4 +1,4 @@
-use Rattle.std.proofs.Common.{List, ℕ, ◌≡◌, ◌++◌, [], ◌∷◌, Bool, true, false, Ok, Err, length, length-append, sym, subst, ap, ◌∙◌, arith}
+use Rattle.std.proofs.Common.{List, ℕ, ◌≡◌, ◌++◌, [], ◌∷◌, Bool, true, Ok, Err, length, length-append, sym, subst, ap, ◌∙◌, arith}
 use Rattle.ut_script.specs.declared.lines.LineError.{LineError}
 use Rattle.ut_script.specs.Lines.{NextLine, Counts}
 use Rattle.ut_app.proofs.CrowdLemmas.{IsReadingAll, read_start, read_more, read_done, read_long, read_failed}
@@ -16,14 +16,17 @@ returns-in-Ok-false-clause-read g c =
     (subst (λ (b : Bool). NextLine c.loop-lines.reader (g.S.Source.left c.loop-lines.source) (Ok b) c.advance.new.self (g.S.Source.left c.advance.new.source)) c.in-Ok-false.field-0-test (c.in-Ok-false.ensures.next c.loop-lines.invariant.no_error))
 
 pub returns-in-Ok-false-clause-later : goal.returns-in-Ok-false-clause-later
-returns-in-Ok-false-clause-later g c = let a = c.loop-lines.invariant.reads_no_fewer in let b = c.advance.ensures.cause.later in omega (arith, a, b)
+returns-in-Ok-false-clause-later g c = let a = c.loop-lines.invariant.still in let b = c.advance.ensures.cause.later in omega (arith, a, b)
+
+pub returns-in-Ok-false-clause-still : goal.returns-in-Ok-false-clause-still
+returns-in-Ok-false-clause-still g c = c.in-Ok-false.ensures.cause.still ∙ c.loop-lines.invariant.still
 
 pub returns-in-Err-Read-clause-unread : goal.returns-in-Err-Read-clause-unread
 returns-in-Err-Read-clause-unread g c =
     read_failed c.args.limit _ c.loop-lines.lines.items c.loop-lines.reader (g.S.Source.left c.loop-lines.source) _ _ _ c.loop-lines.invariant (c.in-Err-Read.ensures.cause.read (ap (λ (e : LineError). Err e) c.in-Err-Read.field-0-is) c.loop-lines.invariant.no_error)
 
 pub returns-in-Err-Read-clause-later : goal.returns-in-Err-Read-clause-later
-returns-in-Err-Read-clause-later g c = let a = c.loop-lines.invariant.reads_no_fewer in let b = c.advance.ensures.cause.later in omega (arith, a, b)
+returns-in-Err-Read-clause-later g c = let a = c.loop-lines.invariant.still in let b = c.advance.ensures.cause.later in omega (arith, a, b)
 
 pub returns-in-Err-TooLong-clause-unread : goal.returns-in-Err-TooLong-clause-unread
 returns-in-Err-TooLong-clause-unread g c =
@@ -31,7 +34,7 @@ returns-in-Err-TooLong-clause-unread g c =
     (subst (λ (e : LineError). NextLine c.loop-lines.reader (g.S.Source.left c.loop-lines.source) (Err e) c.advance.new.self (g.S.Source.left c.advance.new.source)) c.in-Err-TooLong.field-0-is (c.in-Err-TooLong.ensures.next c.loop-lines.invariant.no_error))
 
 pub returns-in-Err-TooLong-clause-later : goal.returns-in-Err-TooLong-clause-later
-returns-in-Err-TooLong-clause-later g c = let a = c.loop-lines.invariant.reads_no_fewer in let b = c.advance.ensures.cause.later in omega (arith, a, b)
+returns-in-Err-TooLong-clause-later g c = let a = c.loop-lines.invariant.still in let b = c.advance.ensures.cause.later in omega (arith, a, b)
 
 pub loop-lines-smaller : goal.loop-lines-smaller
 loop-lines-smaller g c =
@@ -61,7 +64,7 @@ loop-lines-preserved g c =
     (subst (λ (b : Bool). NextLine old left (Ok b) new left2) c.in-Ok-true.field-0-test (c.in-Ok-true.ensures.next inv.no_error))
     (c.in-Ok-true.ensures.steps inv.no_error)
     (subst (λ (b : Bool). Counts old (Ok b) new) c.in-Ok-true.field-0-test (c.in-Ok-true.ensures.counts inv.no_error))
-    c.advance.ensures.cause.later)
+    c.in-Ok-true.ensures.cause.still)
 
 pub returns-in-Err-keep-clause-later : goal.returns-in-Err-keep-clause-later
-returns-in-Err-keep-clause-later g c = let a = c.loop-lines.invariant.reads_no_fewer in let b = c.advance.ensures.cause.later in omega (arith, a, b)
+returns-in-Err-keep-clause-later g c = let a = c.loop-lines.invariant.still in let b = c.advance.ensures.cause.later in omega (arith, a, b)

@@ -1,5 +1,5 @@
 use Rattle.std.proofs.Common.{refl}
-use Rattle.ut_app.proofs.HearLemmas.{hears_statement, hears_nothing, hears_stranger, hears_bad}
+use Rattle.ut_app.proofs.HearLemmas.{hears_statement, hears_nothing, hears_stranger, hears_bad, heard_faults}
 use Rattle.ut_app.proofs.hear.hear_parsed.Goals as goal
 
 pub returns-in-Comment-clause-hears : goal.returns-in-Comment-clause-hears
@@ -13,3 +13,6 @@ returns-in-Bad-clause-hears g c = hears_bad _ _ _ _ _ (g.met.D.Disk.only_now c.a
 
 pub returns-in-Good-clause-hears : goal.returns-in-Good-clause-hears
 returns-in-Good-clause-hears g c = hears_statement _ _ _ c.in-Good.session c.in-Good.st c.answer.result _ _ _ c.in-Good.is c.answer.ensures.serves c.heard_of.ensures
+
+pub returns-in-Good-clause-cause : goal.returns-in-Good-clause-cause
+returns-in-Good-clause-cause g c = heard_faults _ _ c.in-Good.session c.in-Good.st c.answer.result _ _ _ c.answer.ensures.serves c.heard_of.ensures

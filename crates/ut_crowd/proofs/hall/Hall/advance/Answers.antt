@@ -10,8 +10,8 @@ use Rattle.ut_crowd.proofs.hall.Hall.advance.Goals as goal
 
 pub returns-in_default-clause-stands : goal.returns-in_default-clause-stands
 returns-in_default-clause-stands g c =
-    subst (λ (book : List Turn). StandsOn g.O.Opening.ground c.take_line.new.queues.items book c.args.self.now.engine.loan (g.D.Disk.view c.args.self.now.engine.disk) c.args.self.now.engine.store c.args.self.now.job) (sym c.reserve.ensures.items)
-    (stands_same g.O.Opening.ground c.args.self.now.queues.items c.take_line.new.queues.items c.args.self.now.book.items _ _ _ _ c.args.session c.in_default.ensures c.requires.stands)
+    subst (λ (book : List Turn). StandsOn g.O.Opening.ground c.take_line.new.queues.items book c.args.self.now.engine.loan (g.D.Disk.view c.args.self.now.engine.disk) c.args.self.now.engine.store c.args.self.now.job c.args.self.now.l1 c.args.self.now.last) (sym c.reserve.ensures.items)
+    (stands_same g.O.Opening.ground c.args.self.now.queues.items c.take_line.new.queues.items c.args.self.now.book.items _ _ _ _ _ _ c.args.session c.in_default.ensures c.requires.stands)
 
 pub answer_line-reply-requires-clause-own : goal.answer_line-reply-requires-clause-own
 answer_line-reply-requires-clause-own g c =
@@ -28,6 +28,6 @@ returns-clause-stands g c =
     let line : List ℕ = c.in-Some.line in
     let t : Turn = c.turn_of-turn.result in
     let comes : Comes old was (parsed true line) (Some c.args.session) reply new now = subst (λ (l : List ℕ). Comes old was (parsed true l) (Some c.args.session) reply new now) c.as_slice.ensures c.answer_line-reply.ensures.comes in
-    subst (λ (book : List Turn). StandsOn g.O.Opening.ground c.take_line.new.queues.items book c.answer_line-reply.new.engine.loan now new c.args.self.now.job) (sym (c.push_reserved.ensures.items ∙ ap (λ (b : List Turn). b ++ t ∷ []) c.reserve.ensures.items))
-    (stands_line g.O.Opening.ground c.args.self.now.queues.items c.take_line.new.queues.items c.args.self.now.book.items c.args.self.now.engine.loan c.answer_line-reply.new.engine.loan was now old new c.args.self.now.job c.args.session c.journal_len-before.result line reply t
+    subst (λ (book : List Turn). StandsOn g.O.Opening.ground c.take_line.new.queues.items book c.answer_line-reply.new.engine.loan now new c.args.self.now.job c.args.self.now.l1 c.args.self.now.last) (sym (c.push_reserved.ensures.items ∙ ap (λ (b : List Turn). b ++ t ∷ []) c.reserve.ensures.items))
+    (stands_line g.O.Opening.ground c.args.self.now.queues.items c.take_line.new.queues.items c.args.self.now.book.items c.args.self.now.engine.loan c.answer_line-reply.new.engine.loan was now old new c.args.self.now.job c.args.self.now.l1 c.args.self.now.last c.args.session c.journal_len-before.result line reply t
     c.turn_of-turn.ensures c.journal_len-before.ensures c.in-Some.ensures comes c.answer_line-reply.ensures.loan (sym c.down.ensures ∙ c.if-down.false) (g.met.D.Disk.only_now c.answer_line-reply.new.engine.disk) (g.met.D.Disk.counts_now c.answer_line-reply.new.engine.disk) c.requires.stands)
