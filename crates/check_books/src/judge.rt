@@ -63,8 +63,9 @@ fn wrong_in(
     disk: &mut MemDisk,
 ) -> Result<Option<Wrong>, AllocError> {
     match came.status {
-        Status::Done | Status::DiskFault => wrong_in_book(rt, alloc, came, disk),
-        Status::Memory | Status::ReadFault | Status::WriteFault => {
+        Status::Done => wrong_in_book(rt, alloc, came, disk),
+        Status::DiskFault if !came.book.is_empty() => wrong_in_book(rt, alloc, came, disk),
+        Status::DiskFault | Status::Memory | Status::ReadFault | Status::WriteFault => {
             wrong_without_book(rt, alloc, came, disk)
         }
         _ => Ok(Some(Wrong::End)),

@@ -1,4 +1,4 @@
-//! A directory as its description gives it, and bytes that are none.
+//! A directory as its description gives it, of up to eight parts.
 use std::alloc::Global;
 use std::test::Fail;
 use ut_image::{Drawn, image_from, image_start, image_table};
@@ -14,24 +14,6 @@ const EMPTY_TABLE: &[u8] = b"\x01\0\0\0\x01T\x01\0\x01k\0\0\0\0\0\0\0\0\0";
 
 /// Where the number of parts stands in it.
 const PARTS_AT: usize = 10;
-
-/// A byte that is changed, and that is none any more.
-struct Change {
-    at: usize,
-    byte: u8,
-}
-
-const CHANGES: [Change; 9] = [
-    Change { at: 0, byte: 2 },
-    Change { at: 12, byte: b'k' },
-    Change { at: 13, byte: 9 },
-    Change { at: 31, byte: 5 },
-    Change { at: 32, byte: 2 },
-    Change { at: 36, byte: 0 },
-    Change { at: 54, byte: 7 },
-    Change { at: 54, byte: 9 },
-    Change { at: 66, byte: 1 },
-];
 
 fn written(alloc: Global, tables: &[Drawn]) -> Result<Vec<u8>, Fail> {
     let mut out = Vec::new(alloc);
@@ -74,23 +56,5 @@ fn a_directory_is_read_and_written_again(rt: HostRuntime) -> Result<(), Fail> {
     }
     assert!(rt; is_written_again(alloc, &with_parts(alloc, 8)?)?);
     assert!(rt; image_from(alloc, &with_parts(alloc, 9)?, 9, 1)?.is_none());
-    Ok(())
-}
-
-#[test]
-fn changed_bytes_are_no_directory(rt: HostRuntime) -> Result<(), Fail> {
-    let alloc = rt.alloc();
-    for change in &CHANGES {
-        let mut bytes = Vec::from_slice(alloc, DIRECTORY)?;
-        assert!(rt; change.at < bytes.len());
-        bytes[change.at] = change.byte;
-        assert!(rt;
-            image_from(alloc, &bytes, 9, 256)?.is_none(),
-            "at {}",
-            change.at
-        );
-    }
-    assert!(rt; image_from(alloc, DIRECTORY, 9, 0)?.is_none());
-    assert!(rt; image_from(alloc, b"\0\0\0\0\0", 9, 0)?.is_none());
     Ok(())
 }

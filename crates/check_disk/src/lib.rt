@@ -1,10 +1,10 @@
-//! Checks of the journal's bytes and of the files on the disk, by worked examples.
+//! Checks of the journal's bytes and of the files on the disk, by calls that no script makes.
 #![tactic(auto)]
 
 #[cfg(test)]
-mod durable;
+mod frame;
 #[cfg(test)]
-mod entry;
+mod group;
 #[cfg(test)]
 mod image;
 #[cfg(test)]
@@ -14,8 +14,4 @@ mod pages;
 #[cfg(test)]
 mod pieces;
 #[cfg(test)]
-mod reading;
-#[cfg(test)]
 mod redo;
-#[cfg(test)]
-mod savepoint;

@@ -1,4 +1,4 @@
-//! A log byte for byte, in its first file and behind a Switch frame.
+//! A log byte for byte, in its first file and behind a Switch frame, which takes seven calls of the disk.
 use std::alloc::{AllocError, Global};
 use std::process::Abort;
 use std::test::Fail;

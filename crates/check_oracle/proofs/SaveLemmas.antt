@@ -144,12 +144,12 @@ selected_sealed p Idle s reply h is i = i
 selected_sealed p (Writing at done all image) s reply h is i = i
 selected_sealed p (Sealed at all image) s reply h is i = by_reply reply
   where
-    under : IsUnderWay p.journal p.opening (Sealed at all image)
-    under = subst (IsUnderWay p.journal p.opening) is h.saving
+    under : IsUnderWay p.journal (Sealed at all image)
+    under = subst (IsUnderWay p.journal) is h.saving
 
     new : IsSelected (record { length = at; directory = image }) p
     new = record {
-      since = let since = under.since in let opened = h.opened in omega (arith, since, opened.0);
+      since = under.since;
       until = under.until;
       tables = under.tables;
       captured = under.image;

@@ -1,6 +1,6 @@
 //! The rows that a scan of a small table finds.
 ghost use Rattle.std.specs.Prelude.{◌<◌, ◌∷◌, [], None, IsSome, IfOk, length};
-ghost use Rattle.ut_names.specs.Compiled.{Compiles};
+ghost use Rattle.ut_plain.specs.Compiled.{Compiles};
 ghost use Rattle.ut_staged.specs.Staged.{row_at};
 ghost use Rattle.ut_table.specs.Finds.{SeenOnce, AreThere};
 ghost use Rattle.ut_table.specs.Numbered.{AreNumbered};
@@ -64,8 +64,8 @@ fn count(
     table.count(alloc, fates, 0, None, &preds)
 }
 
-// Finds the rows that meet a comparison.
-fn find(
+/// Finds the rows that meet a comparison.
+pub(crate) fn find(
     rt: &impl Abort,
     alloc: Global,
     table: &Table,
@@ -107,12 +107,13 @@ fn has_text(
     Ok(())
 }
 
-// The row in a place has this text, by each call that reads it.
+// The row in a place has this id and this text, by each call that reads it.
 fn has(
     rt: &impl Abort,
     alloc: Global,
     table: &Table,
     place: Place,
+    id: u32,
     text: &[u8],
 ) -> Result<(), AllocError>
     requires { IsSome (row_at table.now.stages place) }
@@ -122,6 +123,9 @@ fn has(
     has_text(rt, alloc, table, place, text)?;
     assert!(rt; table.values(alloc, place)?.len() == 2);
     assert!(rt; table.stamp(place).begin == 0);
+    let row = table.row(alloc, place)?;
+    assert!(rt; row.id == id);
+    assert!(rt; row.values.len() == 2);
     Ok(())
 }
 
@@ -142,7 +146,7 @@ fn are(
     for i in 0..wanted.len() {
         let (id, text) = wanted[i];
         assert!(rt; found[i].id == id);
-        has(rt, alloc, table, found[i].place, text)?;
+        has(rt, alloc, table, found[i].place, id, text)?;
     }
     Ok(())
 }

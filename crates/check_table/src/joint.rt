@@ -1,10 +1,29 @@
 //! The stamps of a part before one of its rows ends, and then.
-use crate::scan::{OLD, stamps};
+ghost use Rattle.std.specs.Prelude.{◌≡◌, length, IfOk};
+
 use std::alloc::{AllocError, Global};
 use std::process::Abort;
 use std::test::Fail;
 use ut_scan::Place;
 use ut_stamps::{Stamp, StampTable};
+
+/// The stamp of a row that was there at the opening.
+const OLD: Stamp = Stamp {
+    begin: 0,
+    end: None,
+};
+
+// The stamps of rows that were there at the opening.
+fn stamps(alloc: Global, n: u32) -> Result<Vec<Stamp>, AllocError>
+    ensures { IfOk result (λ stamps. length stamps.items ≡ n) }
+{
+    let mut stamps = Vec::new(alloc);
+    for i in 0..n {
+        let _ = i;
+        stamps.push(OLD)?;
+    }
+    Ok(stamps)
+}
 
 // A part that has as many rows as this, of which one ends.
 fn part_of(rt: &impl Abort, alloc: Global, n: u32, ended: u32) -> Result<StampTable, AllocError> {

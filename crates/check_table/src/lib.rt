@@ -1,4 +1,4 @@
-//! Checks of a table: the parts of main, scans, the stamps of a part, and a small table with rows in each stage.
+//! Checks of a table: the stamps of a part, rows that are loaded, and a small table with rows in each stage.
 #![tactic(auto)]
 
 #[cfg(test)]
@@ -8,11 +8,11 @@ mod joint;
 #[cfg(test)]
 mod load;
 #[cfg(test)]
-mod parts;
+mod outside;
 #[cfg(test)]
 mod rows;
 #[cfg(test)]
-mod scan;
+mod shown;
 #[cfg(test)]
 mod table;
 #[cfg(test)]

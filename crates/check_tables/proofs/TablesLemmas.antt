@@ -13,7 +13,7 @@ use Rattle.ut_plain.proofs.MadeLemmas.{inserts_of-inserts}
 use Rattle.ut_stamps.specs.declared.fates.Fate.{Fate}
 use Rattle.ut_stamps.specs.declared.place.Place.{Place}
 use Rattle.ut_stamps.specs.declared.place.Place.TheVariants.{L1, L2, Closed, Main}
-use Rattle.ut_scan.specs.declared.place.ColumnPred.{ColumnPred}
+use Rattle.ut_key.specs.declared.comparison.ColumnPred.{ColumnPred}
 use Rattle.ut_exact.specs.Places.{StagedRow}
 use Rattle.ut_staged.specs.Staged.{Staged, no_rows, row_at}
 use Rattle.ut_change.specs.declared.bulk.Bulk.{Bulk}

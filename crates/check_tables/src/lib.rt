@@ -1,9 +1,7 @@
-//! Checks of the rows of all tables and of what changes them, and of merges, by worked examples.
+//! Checks of the rows of all tables and of what changes them, by worked examples.
 #![tactic(auto)]
 
 #[cfg(test)]
 mod bulk;
-#[cfg(test)]
-mod merge;
 #[cfg(test)]
 mod tables;

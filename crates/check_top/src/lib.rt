@@ -1,17 +1,9 @@
-//! Checks of the program's top call, over a disk and streams in memory.
+//! Checks of the program's top call that no row of a file can say: threads, long logs and random scripts.
 #![tactic(auto)]
 
 #[cfg(test)]
-mod bench;
-#[cfg(test)]
 mod crowds;
-#[cfg(test)]
-mod kept;
-#[cfg(test)]
-mod replies;
 #[cfg(test)]
 mod scripts;
 #[cfg(test)]
 mod sizes;
-#[cfg(test)]
-mod streams;

@@ -1,6 +1,6 @@
 use Rattle.std.proofs.Common.{List, [], ◌∷◌, None, subst}
 use Rattle.ut_value.specs.declared.value.Column.{Column}
-use Rattle.ut_names.specs.Compiled.{Compiles}
+use Rattle.ut_plain.specs.Compiled.{Compiles}
 use Rattle.ut_table.proofs.FindsLemmas.{are-there}
 use Rattle.check_table.proofs.found.find.Goals as goal
 

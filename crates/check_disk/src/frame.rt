@@ -1,0 +1,47 @@
+//! A frame by each of its calls, byte for byte; a frame that grows by inserts stands beside the inserts.
+use std::alloc::{AllocError, Global};
+use std::process::Abort;
+use std::test::Fail;
+use ut_entry::{entry_from, op_len};
+use ut_frame::Frame;
+use ut_value::{Op, same_bytes};
+
+/// A table of one column.
+const CREATE: &[u8] = b"\x01\x01T\x01\x00\x01k";
+
+/// A transaction of one delete.
+const DELETE: &[u8] = b"\x02\x01\0\0\0\x02\x03\0\x0a\0\0\0";
+
+#[test]
+fn a_frame_has_its_entry_between_a_length_and_a_gate(rt: HostRuntime) -> Result<(), Fail> {
+    let alloc = rt.alloc();
+    let Some((entry, _)) = entry_from(alloc, CREATE)? else {
+        panic!(rt; "no entry")
+    };
+    let frame = Frame::of(alloc, &entry)?;
+    assert_eq!(rt; frame.size(), 7);
+    assert!(rt; same_bytes(frame.payload(), CREATE));
+    assert!(rt; same_bytes(frame.as_slice(), b"\x07\0\0\0\x01\x01T\x01\x00\x01k\0"));
+    Ok(())
+}
+
+// The frame of a transaction that grows by a delete, in room that is made for it.
+fn grown(rt: &impl Abort, alloc: Global) -> Result<Frame, AllocError> {
+    let op = Op::Delete { table: 3, id: 10 };
+    let mut frame = Frame::txn(alloc)?;
+    assert!(rt; frame.size() == 5);
+    frame.room(op_len(&op))?;
+    frame.add(&op);
+    Ok(frame)
+}
+
+#[test]
+fn a_frame_grows_and_is_cleared(rt: HostRuntime) -> Result<(), Fail> {
+    let alloc = rt.alloc();
+    let mut frame = grown(&rt, alloc)?;
+    assert_eq!(rt; frame.size(), 12);
+    assert!(rt; same_bytes(frame.payload(), DELETE));
+    frame.clear();
+    assert!(rt; same_bytes(frame.as_slice(), b"\x05\0\0\0\x02\0\0\0\0\0"));
+    Ok(())
+}

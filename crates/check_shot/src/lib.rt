@@ -1,0 +1,5 @@
+//! Checks of a shot.
+#![tactic(auto)]
+
+#[cfg(test)]
+mod shot;

@@ -1,0 +1,59 @@
+//! The rows of a file, and what is said of them.
+use crate::{program, slow};
+use anyhow::Result;
+use check_told::Tally;
+use row_files::{Row, rows_of};
+use std::alloc::Global;
+use std::fs;
+use std::rt::Files;
+use std::sync::Wait;
+use std::thread::Threads;
+
+/// Runs the rows of a file, and says what they came to. Whether all are answered as expected.
+pub fn check_file(
+    rt: &(impl AllocGlobal + Print + Files + Threads + Wait + Sync),
+    alloc: Global,
+    name: &str,
+) -> Result<bool> {
+    let text = match fs::read_to_string(rt, name) {
+        Ok(text) => text,
+        Err(error) => {
+            println!(rt; "{name}: it can't be read: {error}")?;
+            return Ok(false);
+        }
+    };
+    match rows_of(alloc, text.as_str()) {
+        Ok(rows) => check_rows(rt, alloc, name, rows.as_slice()),
+        Err(damage) => {
+            println!(rt; "{name}: {damage}")?;
+            Ok(false)
+        }
+    }
+}
+
+fn check_rows(
+    rt: &(impl Print + Threads + Wait + Sync),
+    alloc: Global,
+    name: &str,
+    rows: &[Row<'_>],
+) -> Result<bool> {
+    let slow = slow::tally_of(rt, alloc, rows)?;
+    let program = program::tally_of(rt, alloc, rows)?;
+    say(rt, name, rows, slow, program)?;
+    Ok(slow.is_whole() && program.is_whole())
+}
+
+// Says how many rows, lines and tries a file has, and how many rows are as expected.
+fn say(rt: &impl Print, name: &str, rows: &[Row<'_>], slow: Tally, program: Tally) -> Result<()> {
+    let count = rows.len();
+    let mut lines: usize = 0;
+    let mut tries: usize = 0;
+    for row in rows {
+        lines = lines.saturating_add(row.asked.len());
+        tries = tries.saturating_add(row.tries.len());
+    }
+    println!(rt;
+        "{name}: {count} rows of {lines} lines, {tries} tries; as expected: {program} by the program, {slow} by the slow store"
+    )?;
+    Ok(())
+}

@@ -1,0 +1,207 @@
+//! The bytes of the files that a row leaves, and what is opened where they are changed.
+use crate::left::{Must, meets};
+use crate::scene::Scene;
+use crate::tries::Trouble;
+use row_files::{Change, Patch, Wanted, byte_in};
+use std::alloc::{AllocError, Global};
+use std::sync::Wait;
+use std::thread::Threads;
+use ut_outside::{MemDisk, Which};
+
+/// What is put at each place of a file.
+const BYTES: [u8; 5] = [0x00, 0x01, 0x33, 0xA7, 0xFF];
+
+/// Whether bytes are those that a text of bytes says.
+pub(crate) fn are_spelled(bytes: &[u8], hex: &str) -> bool {
+    bytes.len() == hex.len() / 2 && starts_spelled(bytes, hex)
+}
+
+fn starts_spelled(bytes: &[u8], hex: &str) -> bool {
+    bytes
+        .iter()
+        .enumerate()
+        .all(|(place, byte)| byte_in(hex, place) == Some(*byte))
+}
+
+/// Whether these bytes stand at a place.
+pub(crate) fn hold(bytes: &[u8], at: usize, hex: &str) -> bool {
+    let end = at.saturating_add(hex.len() / 2);
+    match bytes.get(at..end) {
+        Some(found) => are_spelled(found, hex),
+        None => false,
+    }
+}
+
+/// A disk with a change, if it fits what is there.
+pub(crate) fn patched(
+    alloc: Global,
+    disk: &MemDisk,
+    patch: Patch<'_>,
+) -> Result<Option<MemDisk>, AllocError> {
+    if !fits(disk.bytes(patch.file), patch.change) {
+        return Ok(None);
+    }
+    let bytes = changed(alloc, disk.bytes(patch.file), patch.change)?;
+    Ok(Some(with_file(alloc, disk, patch.file, &bytes)?))
+}
+
+// Whether the places of a change are there.
+fn fits(bytes: &[u8], change: Change<'_>) -> bool {
+    match change {
+        Change::Is(_) | Change::End(_) => true,
+        Change::At(at, hex) => at.saturating_add(hex.len() / 2) <= bytes.len(),
+        Change::Byte(at, _) => at < bytes.len(),
+        Change::Cut(len) => len <= bytes.len(),
+    }
+}
+
+fn changed(alloc: Global, bytes: &[u8], change: Change<'_>) -> Result<Vec<u8>, AllocError> {
+    let mut out = Vec::new(alloc);
+    match change {
+        Change::Is(hex) => put_hex(&mut out, hex)?,
+        Change::At(at, hex) => put_over(&mut out, bytes, at, hex)?,
+        Change::Byte(at, byte) => put_byte(&mut out, bytes, at, byte)?,
+        Change::Cut(len) => out.extend_from_slice(bytes.get(..len).unwrap_or(bytes))?,
+        Change::End(hex) => {
+            out.extend_from_slice(bytes)?;
+            put_hex(&mut out, hex)?;
+        }
+    }
+    Ok(out)
+}
+
+fn put_hex(out: &mut Vec<u8>, hex: &str) -> Result<(), AllocError> {
+    for place in 0..hex.len() / 2 {
+        out.push(byte_in(hex, place).unwrap_or(0))?;
+    }
+    Ok(())
+}
+
+fn put_over(out: &mut Vec<u8>, bytes: &[u8], at: usize, hex: &str) -> Result<(), AllocError> {
+    out.extend_from_slice(bytes.get(..at).unwrap_or(bytes))?;
+    put_hex(out, hex)?;
+    let end = at.saturating_add(hex.len() / 2);
+    out.extend_from_slice(bytes.get(end..).unwrap_or(b""))
+}
+
+fn put_byte(out: &mut Vec<u8>, bytes: &[u8], at: usize, byte: u8) -> Result<(), AllocError> {
+    out.extend_from_slice(bytes)?;
+    if let Some(old) = out.as_mut_slice().get_mut(at) {
+        *old = byte;
+    }
+    Ok(())
+}
+
+fn with_file(
+    alloc: Global,
+    disk: &MemDisk,
+    file: Which,
+    bytes: &[u8],
+) -> Result<MemDisk, AllocError> {
+    let redo = disk.bytes(Which::Redo);
+    let redo2 = disk.bytes(Which::Redo2);
+    let pages = disk.bytes(Which::Pages);
+    match file {
+        Which::Redo => MemDisk::of(alloc, bytes, redo2, pages),
+        Which::Redo2 => MemDisk::of(alloc, redo, bytes, pages),
+        Which::Pages => MemDisk::of(alloc, redo, redo2, bytes),
+    }
+}
+
+/// What is opened with a change.
+pub(crate) fn opened_with(
+    rt: &(impl Threads + Wait + Sync),
+    alloc: Global,
+    scene: Scene<'_, '_>,
+    disk: &MemDisk,
+    patch: Patch<'_>,
+    wanted: Wanted,
+) -> Result<Option<Trouble>, AllocError> {
+    let Some(mut other) = patched(alloc, disk, patch)? else {
+        return Ok(Some(Trouble::at(place_of(patch.change))));
+    };
+    let left = scene.asked_on(rt, alloc, &mut other)?;
+    if meets(scene.row, &left, Must::Be(wanted)) {
+        return Ok(None);
+    }
+    Ok(Some(Trouble::of(place_of(patch.change), &left)))
+}
+
+// Where a change is.
+fn place_of(change: Change<'_>) -> u64 {
+    match change {
+        Change::Is(_) | Change::End(_) => 0,
+        Change::At(at, _) | Change::Byte(at, _) | Change::Cut(at) => at as u64,
+    }
+}
+
+/// What is opened with two changes.
+pub(crate) fn opened_with_two(
+    rt: &(impl Threads + Wait + Sync),
+    alloc: Global,
+    scene: Scene<'_, '_>,
+    disk: &MemDisk,
+    first: Patch<'_>,
+    second: Patch<'_>,
+    wanted: Wanted,
+) -> Result<Option<Trouble>, AllocError> {
+    match patched(alloc, disk, first)? {
+        Some(other) => opened_with(rt, alloc, scene, &other, second, wanted),
+        None => Ok(Some(Trouble::at(place_of(first.change)))),
+    }
+}
+
+/// What is opened where a file is cut at each length.
+pub(crate) fn each_cut(
+    rt: &(impl Threads + Wait + Sync),
+    alloc: Global,
+    scene: Scene<'_, '_>,
+    disk: &MemDisk,
+    file: Which,
+    wanted: Wanted,
+) -> Result<Option<Trouble>, AllocError> {
+    for len in 0..disk.bytes(file).len() {
+        let change = Change::Cut(len);
+        let patch = Patch { file, change };
+        if let Some(trouble) = opened_with(rt, alloc, scene, disk, patch, wanted)? {
+            return Ok(Some(trouble));
+        }
+    }
+    Ok(None)
+}
+
+/// What is opened where each byte of a file is changed.
+pub(crate) fn each_byte(
+    rt: &(impl Threads + Wait + Sync),
+    alloc: Global,
+    scene: Scene<'_, '_>,
+    disk: &MemDisk,
+    file: Which,
+    wanted: Wanted,
+) -> Result<Option<Trouble>, AllocError> {
+    for at in 0..disk.bytes(file).len() {
+        if let Some(trouble) = changed_at(rt, alloc, scene, disk, file, at, wanted)? {
+            return Ok(Some(trouble));
+        }
+    }
+    Ok(None)
+}
+
+fn changed_at(
+    rt: &(impl Threads + Wait + Sync),
+    alloc: Global,
+    scene: Scene<'_, '_>,
+    disk: &MemDisk,
+    file: Which,
+    at: usize,
+    wanted: Wanted,
+) -> Result<Option<Trouble>, AllocError> {
+    for byte in BYTES {
+        let change = Change::Byte(at, byte);
+        let patch = Patch { file, change };
+        if let Some(trouble) = opened_with(rt, alloc, scene, disk, patch, wanted)? {
+            return Ok(Some(trouble));
+        }
+    }
+    Ok(None)
+}
