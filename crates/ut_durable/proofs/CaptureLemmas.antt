@@ -1,10 +1,10 @@
 -- What a savepoint captures may be an image's directory.
-use Rattle.std.proofs.Common.{◌≡◌, inl, inr, ℕ, zero, suc, ◌<◌, ◌≤◌, Bool, true, false, not, ◌&&◌, cond, List, [], ◌∷◌, ◌++◌, length, map, filter, Option, Some, IsTrue, refl, sym, ◌∙◌, ap, subst, arith, length-append}
+use Rattle.std.proofs.Common.{◌≡◌, inl, inr, ℕ, zero, suc, ◌<◌, ◌≤◌, Bool, true, false, not, cond, List, [], ◌∷◌, ◌++◌, length, map, filter, Option, Some, IsTrue, refl, sym, ◌∙◌, ap, subst, arith, length-append}
 use Rattle.std.specs.Prelude.{Contains, slice_get, is_some}
 use Rattle.std.specs.Option.{option_map, unwrap_or}
 use Rattle.std.specs.List.{All, AllByRecursion, AllZip, flat_map, list_all}
 use Rattle.std.specs.FinMap as finmap
-use Rattle.std.proofs.lemmas.Bool.{and_parts, and_from}
+use Rattle.std.proofs.lemmas.Bool.{and_parts, and_from, not-true}
 use Rattle.std.proofs.lemmas.List.{length-map}
 use Rattle.std.proofs.lemmas.List.Sums.{sum_by-cons}
 use Rattle.ut_value.specs.declared.value.Column.{Column}
@@ -36,14 +36,6 @@ row_rule tables next n columns p low at is =
     let spelled = and_parts (is_count 64 (length p.values)) (list_all is_value p.values) is.spelled in
     record { id = (omega (arith, given.0), omega (arith, given.1, low)); values = and_from (fits_columns columns p.values) (list_all is_value p.values) fits spelled.1 }
 
-and_first : (a b : Bool) → (a && b) ≡ true → a ≡ true
-and_first true b is = refl
-and_first false b is = is
-
-not_true : (a : Bool) → not a ≡ true → a ≡ false
-not_true true is = sym is
-not_true false is = refl
-
 module _ (rows : Rows) where
   kept_all : (P : Placed → Type 0) (places : List Placed) → ((p : Placed) → Contains places p → is_live rows p ≡ true → P p) → AllByRecursion P (captured_rows rows places)
   kept_all P [] each = tt
@@ -62,7 +54,7 @@ module _ (rows : Rows) where
       by false rest = omega (arith, rest)
 
   kept_live : (places : List Placed) → AllByRecursion (λ (p : Placed). p.dead ≡ false) (captured_rows rows places)
-  kept_live places = kept_all (λ (p : Placed). p.dead ≡ false) places (λ p has live. not_true p.dead (and_first (not p.dead) (is_some (finmap.get rows p.id)) live))
+  kept_live places = kept_all (λ (p : Placed). p.dead ≡ false) places (λ p has live. not-true p.dead (and_parts (not p.dead) (is_some (finmap.get rows p.id)) live).0)
 
   same_rows : (columns : List Column) (part : List Placed) → AllByRecursion (IsImageRow columns) part → AllByRecursion (IsImageRow columns) (map (captured_place rows) part)
   same_rows columns [] are = tt

@@ -31,7 +31,7 @@ use Rattle.ut_durable.specs.Files.{IsImageOf, LogBehind, HasSelected, Rests, IsS
 use Rattle.ut_durable.specs.Calls.{FilesHeld, IsRested, IsFollowed, IsReady}
 use Rattle.ut_durable.specs.Saving.{IsWritten, Saving, IsPlan, IsSaving, IsStored}
 use Rattle.ut_durable.specs.Moments.{Leaves}
-use Rattle.ut_durable.specs.Groups.{extended, log_held, HoldsEither, Waits, GainsGroup, MayGainGroup, WaitIsStored, WaitLeaves, GroupIsStored, GroupLeaves}
+use Rattle.ut_durable.specs.Groups.{extended, log_held, HoldsEither, LeavesEither, Waits, GainsGroup, MayGainGroup, WaitIsStored, WaitLeaves, GroupIsStored, GroupLeaves}
 use Rattle.ut_durable.proofs.PlaceLemmas.{is_log}
 use Rattle.ut_durable.proofs.RestLemmas.{rests_all, append_keeps}
 
@@ -212,7 +212,7 @@ may_group p j items is next root c of n from until =
     (may_open_part p c root.length n is (omega (arith, of.begins, ap (λ (k : Journal). k.base.length) next)) from (omega (arith, until, long)) captured (sym of.base.tables ∙ ap (λ (s : State). s.tables) same)
     (subst (λ (s : State). all_places c.stages ≤ finmap.len s.rows) same here.places))
 
-more_group : (p : Plain) (j : Journal) (items : List Entry) → IsPlain p → p.journal ≡ extended j items → (root : Root) (c : Directory) → IsImageOf j root c → IsImageOf (extended j items) root c
+pub more_group : (p : Plain) (j : Journal) (items : List Entry) → IsPlain p → p.journal ≡ extended j items → (root : Root) (c : Directory) → IsImageOf j root c → IsImageOf (extended j items) root c
 more_group p j items is next root c of = image_of_group j items root c of (may_group p j items is next root c of)
 
 same_files : (f f' : FilesHeld) → f'.log ≡ f.log → f'.slot ≡ f.slot → f'.reached ≡ f.reached → record f { group = f'.group } ≡ f'
@@ -233,12 +233,17 @@ group_is_stored {D} view j items f f' selected d saving phase v0 v1 p full is ne
     stored_on j (extended j items) f f' selected d (view v0) (view v1) (ap (λ (h : FilesHeld). h.log.file) place) (ap (λ (h : FilesHeld). h.slot) place) (ap (λ (h : FilesHeld). h.reached) place) same pages (more_group p j items is next)
     (λ root c of rests. gains.rests j root c items full of rests) (λ root within held. gains.followed j root items full within held) (λ root ps c of ready. gains.ready j root ps c items full of ready) saving phase stored
 
+-- what is left has both
+pub both : (old new : View) (P Q R : Image → Type 0) → ((c : Image) → P c → Q c → R c) → LeavesOnly old new P → LeavesOnly old new Q → LeavesOnly old new R
+both old new P Q R pair a b = record {
+  later = a.later;
+  each = λ c left. pair c (a.each c left) (b.each c left);
+  before = λ t c le left. ⊎_elim (λ was. inl was) (λ p. ⊎_elim (λ was. inl was) (λ q. inr (pair c p q)) (b.before t c le left)) (a.before t c le left);
+  keeps = a.keeps;
+}
+
 pub group_leaves : {D : Type 0} (view : D → View) → GroupLeaves view
 group_leaves {D} view j items f selected d saving phase v0 v1 p full is next may stored told =
     let a = may.journal j selected d items full stored.image (more_group p j items is next selected d stored.image) stored.rests told in
     let b = may.root j selected d items full stored.rests told in
-    record {
-      later = a.later;
-      each = λ c left. record { holds = a.each c left; root = b.each c left };
-      before = λ t c le left. ⊎_elim (λ was. inl was) (λ holds. ⊎_elim (λ was. inl was) (λ root. inr (record { holds = holds; root = root })) (b.before t c le left)) (a.before t c le left);
-    }
+    both (view v0) (view v1) (HoldsEither j (extended j items)) (HasSelected f.slot f.reached selected d) (LeavesEither j (extended j items) f selected d) (λ c holds root. record { holds = holds; root = root }) a b

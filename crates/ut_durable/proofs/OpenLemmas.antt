@@ -2,12 +2,10 @@
 use Rattle.std.proofs.Common.{◌≡◌, inl, inr, ℕ, ◌-◌, ◌≤◌, List, [], length, take, drop, refl, sym, ◌∙◌, ap, subst, arith}
 use Rattle.std.specs.Prelude.{Contains, Option, None, Some}
 use Rattle.std.specs.Ordering.{nat_cmp}
-use Rattle.ut_outside.specs.declared.disk.Which.TheVariants.{Redo, Pages}
 use Rattle.ut_plain.specs.declared.table.Stored.{Stored}
 use Rattle.ut_plain.specs.declared.stage.Placed.{Placed}
 use Rattle.std.specs.FinMap as finmap
-use Rattle.ut_outside.specs.Disk.{Image, View, content}
-use Rattle.ut_outside.specs.Run.{ComesFrom, ReadsOnly}
+use Rattle.ut_outside.specs.Disk.{Image, View}
 use Rattle.ut_value.specs.declared.entry.Entry.{Entry}
 use Rattle.ut_plain.specs.State.{State, empty_state}
 use Rattle.ut_plain.specs.Stages.{all_places, no_stages}
@@ -17,23 +15,17 @@ use Rattle.ut_plain.specs.Capture.{Directory, StandsInTable}
 use Rattle.ut_durable.specs.Bytes.{no_directory}
 use Rattle.ut_plain.specs.Plain.{Opening, Idle, opened_store}
 use Rattle.ut_plain.proofs.OpenedLaws.{IsPlain-opened}
-use Rattle.ut_redo.specs.Appends.{IsClosedAt}
-use Rattle.ut_redo.specs.Groups.{Log, no_group}
 use Rattle.ut_redo.specs.Logs.{LogHolds}
 use Rattle.ut_redo.specs.Logs.LogHolds.{Straight}
-use Rattle.ut_pages.specs.Selection.{Selection}
-use Rattle.ut_pages.specs.declared.slot.Slot.{Slot}
 use Rattle.ut_pages.specs.declared.slot.Slot.TheVariants.{First}
 use Rattle.ut_pages.specs.declared.root.Root.{Root}
-use Rattle.ut_pages.specs.Layout.{IsMade, IsSelected, IsRoot, IsRead, empty_root, made_pages}
-use Rattle.ut_pages.specs.Crash.{Stands}
-use Rattle.ut_pages.proofs.OneLemmas.{one_read}
-use Rattle.ut_pages.proofs.MadeLemmas.{made_is, made_selected, made_root, made_stands, made_is_read}
+use Rattle.ut_pages.specs.Layout.{IsMade, IsSelected, IsRoot, empty_root, made_pages}
+use Rattle.ut_pages.proofs.MadeLemmas.{made_is, made_selected, made_root}
 use Rattle.ut_durable.specs.Directories.{IsBase}
 use Rattle.ut_durable.specs.Images.{HasImage, AreThere}
 use Rattle.ut_durable.specs.Journals.{place_of}
 use Rattle.ut_durable.specs.Files.{IsImageOf, Rests}
-use Rattle.ut_durable.specs.Calls.{FilesHeld, IsSettled}
+use Rattle.ut_durable.specs.Calls.{FilesHeld}
 use Rattle.ut_durable.specs.Made.{made_held}
 use Rattle.ut_durable.specs.Laws.{OpenedIsStored, MadeIsStored}
 use Rattle.ut_durable.specs.Saving.{IsStored}
@@ -135,21 +127,3 @@ made_is_stored {D} view f v is may left_by =
           (subst (HasImage First [] empty_root no_directory) (sym here.0) made_image) made_base (Straight refl here.1);
       under_way = tt;
     })
-
--- what was just made is settled
-pub made_settled : (f : FilesHeld) (redo : Log) (pages : Selection) (root : Root) (bytes : List ℕ) (v1 v2 v3 : View) → f ≡ record { log = redo.place; group = redo.group; slot = pages.slot; reached = pages.reached } → redo ≡ record { place = place_of empty_root; group = no_group } → ((c : Image) → v1.crash_states c → IsClosedAt redo.place.end (content redo.place.file c))
-    → v2.seen.pages ≡ made_pages → ((c : Image) → v2.crash_states c → ComesFrom v1 Pages (λ _ x. x ≡ made_pages) c) → ReadsOnly v2 v3 → IsRead pages.slot pages.reached root bytes v2.seen.pages → (f ≡ made_held) × IsSettled f v3
-made_settled f redo pages root bytes v1 v2 v3 is begins gate seen left_by reads read = (same, λ told c left. subst (λ (h : FilesHeld). IsClosedAt h.log.end (content h.log.file c) × Stands h.slot h.reached c.pages) (sym same) (settled c left))
-  where
-    one : (First ≡ pages.slot) × (empty_root ≡ root) × ([] ≡ pages.reached) × ([] ≡ bytes)
-    one = one_read First pages.slot [] pages.reached empty_root root [] bytes made_pages made_is_read (subst (IsRead pages.slot pages.reached root bytes) seen read)
-
-    same : f ≡ made_held
-    same = is ∙ ap (λ (l : Log). record { log = l.place; group = l.group; slot = pages.slot; reached = pages.reached }) begins ∙ ap (λ (s : Slot). record { log = place_of empty_root; group = no_group; slot = s; reached = pages.reached }) (sym one.0)
-        ∙ ap (λ (l : List ℕ). record { log = place_of empty_root; group = no_group; slot = First; reached = l }) (sym one.2)
-
-    settled : (c : Image) → v3.crash_states c → IsClosedAt 0 c.redo × Stands First [] c.pages
-    settled c left =
-        let from = left_by c (reads.no_more c left) in
-        let there = subst (λ (l : Log). IsClosedAt l.place.end (content l.place.file from.0)) begins (gate from.0 from.1) in
-        (subst (IsClosedAt 0) (sym (from.2 Redo (λ e. cc))) there, subst (Stands First []) (sym from.3) made_stands)

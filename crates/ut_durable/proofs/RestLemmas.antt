@@ -4,9 +4,9 @@ use Rattle.ut_value.specs.declared.entry.Entry.{Entry}
 use Rattle.ut_outside.specs.declared.disk.Which.TheVariants.{Pages}
 use Rattle.ut_outside.specs.Disk.{Image, View, Others, content}
 use Rattle.ut_outside.specs.Run.{Always, ComesFrom, ComesBy}
-use Rattle.ut_plain.specs.Journal.{Journal, journal_len, entries_after, appended, since, part}
+use Rattle.ut_plain.specs.Journal.{Journal, journal_len, entries_after, appended, since}
 use Rattle.ut_plain.specs.Reached.{MayOpen}
-use Rattle.ut_plain.proofs.JournalLaws.{state_at-appended, journal_len-appended}
+use Rattle.ut_plain.proofs.JournalLaws.{journal_len-appended}
 use Rattle.ut_redo.specs.Appends.{LogPlace, IsClosedAt, BeforeOrAfter, After}
 use Rattle.ut_redo.specs.Logs.{LogHolds, MaySwitch, IsSwitched, switched_place}
 use Rattle.ut_redo.proofs.LogLemmas.{log_same, log_more, log_more_or_same, log_empty, log_switched, log_may_switch, end_is_log, not_pages}
@@ -15,7 +15,6 @@ use Rattle.ut_pages.specs.declared.root.Root.{Root}
 use Rattle.ut_pages.specs.Layout.{other}
 use Rattle.ut_pages.specs.Crash.{Stands, Keeps, Selects, Seals}
 use Rattle.ut_plain.specs.Capture.{Directory}
-use Rattle.ut_durable.specs.Directories.{IsBase}
 use Rattle.ut_durable.specs.Images.{HasImage, AreThere}
 use Rattle.ut_durable.specs.Journals.{place_of, HoldsJournal, HoldsPrefix}
 use Rattle.ut_durable.specs.Files.{IsImageOf, LogBehind, HasSelected, Rests, IsSealed, IsStaged}
@@ -69,17 +68,6 @@ prefix_more j e least c has = record {
 
 pub prefix_fewer : (j : Journal) (least fewer : ℕ) (c : Image) → fewer ≤ least → HoldsPrefix j least c → HoldsPrefix j fewer c
 prefix_fewer j least fewer c le has = record { from = has.from; count = has.count; begins = has.begins; within = has.within; no_fewer = omega (arith, le, has.no_fewer); no_more = has.no_more; holds = has.holds }
-
--- ---- the image of a longer journal
-
-pub image_of_more : (j : Journal) (e : Entry) (root : Root) (d : Directory) → IsImageOf j root d → ((n : ℕ) → root.length ≤ n → n ≤ journal_len (appended j e) → MayOpen d.stages (part (appended j e) root.length n)) → IsImageOf (appended j e) root d
-image_of_more j e root d of may = record {
-  rules = of.rules;
-  begins = of.begins;
-  within = omega (arith, of.within, journal_len-appended j e);
-  base = subst (IsBase root d) (sym (state_at-appended j e root.length of.within)) of.base;
-  may = may;
-}
 
 -- ---- an append
 

@@ -1,23 +1,16 @@
 -- What each call does to all that a store knows of its files.
-use Rattle.std.proofs.Common.{◌≡◌, ◌≢◌, ℕ, zero, suc, ◌+◌, ◌≤◌, ◌<◌, true, false, List, [], ◌∷◌, ◌++◌, length, take, Option, None, Some, refl, sym, ◌∙◌, ap, subst, arith}
+use Rattle.std.proofs.Common.{◌≡◌, ◌≢◌, ℕ, zero, suc, ◌+◌, ◌<◌, true, false, List, [], ◌∷◌, ◌++◌, length, take, Option, None, Some, refl, sym, ◌∙◌, ap, subst, arith}
 use Rattle.std.specs.Prelude.{IsTrue, slice_get}
 use Rattle.std.specs.List.{AllByRecursion}
 use Rattle.std.specs.FinMap as finmap
 use Rattle.std.proofs.lemmas.List.{take_all}
-use Rattle.ut_value.specs.declared.entry.Entry.{Entry}
 use Rattle.ut_outside.specs.declared.disk.Which.TheVariants.{Pages}
-use Rattle.ut_outside.specs.Disk.{View, IsTold, OnFile, content}
-use Rattle.ut_plain.specs.State.{State}
-use Rattle.ut_plain.specs.Stages.{all_places}
-use Rattle.ut_plain.specs.Journal.{Journal, journal_len, state_at, appended, part}
-use Rattle.ut_plain.specs.Reached.{IsPlain, IsCaptured, MayOpen}
-use Rattle.ut_plain.proofs.JournalLaws.{state_at-appended}
-use Rattle.ut_plain.proofs.PartLaws.{may_open_part}
+use Rattle.ut_outside.specs.Disk.{View, IsTold, OnFile}
+use Rattle.ut_plain.specs.Journal.{Journal, journal_len, appended}
 use Rattle.ut_plain.specs.Capture.{Directory}
-use Rattle.ut_plain.specs.Plain.{Plain, Phase, Idle, Writing, Sealed}
+use Rattle.ut_plain.specs.Plain.{Phase, Idle, Writing, Sealed}
 use Rattle.ut_redo.specs.Logs.{IsLogFile, other_log}
 use Rattle.ut_redo.proofs.LogLemmas.{other_differs}
-use Rattle.ut_pages.specs.declared.slot.Slot.{Slot}
 use Rattle.ut_pages.specs.declared.root.Root.{Root}
 use Rattle.ut_pages.specs.Layout.{HasPage, other}
 use Rattle.ut_pages.specs.Crash.{ChangesOnly}
@@ -28,55 +21,14 @@ use Rattle.ut_durable.specs.Saving.{Planned, IsWritten, MayWrite, Saving, IsPlan
 use Rattle.ut_durable.proofs.PlaceLemmas.{is_log}
 use Rattle.ut_durable.specs.Laws.{AppendIsStored, SwitchIsStored, BeginIsStored, NextMayBeWritten, PageIsStored, SealIsStored, FlipIsStored, DropIsStored, StoredHoldsAll}
 use Rattle.ut_durable.proofs.CallLemmas.{settled}
-use Rattle.ut_durable.proofs.RestLemmas.{image_of_more, captured_now, rests_all}
+use Rattle.ut_durable.proofs.GroupLemmas.{more_group, stored_on}
+use Rattle.ut_durable.proofs.RestLemmas.{captured_now, rests_all}
 use Rattle.ut_durable.proofs.PlanLemmas.{still_written, earlier_apart, taken_more, all_push}
 
--- the other files are as they were, and so what was written of pages
-written_still : (s : Saving) (v0 v1 : View) → v1.told ≡ v0.told → (IsTold v0 → content Pages v1.seen ≡ content Pages v0.seen) → (IsTold v0 → AllByRecursion (IsWritten v0.seen.pages) (take s.done s.planned)) → IsTold v1 → AllByRecursion (IsWritten v1.seen.pages) (take s.done s.planned)
-written_still s v0 v1 same pages written later =
-    let told : IsTold v0 = subst IsTrue same later in
-    subst (λ (file : List ℕ). AllByRecursion (IsWritten file) (take s.done s.planned)) (sym (pages told)) (written told)
-
--- ---- an append
-
-module _ (j : Journal) (e : Entry) (f f' : FilesHeld) (selected : Root) (d : Directory) (v0 v1 : View) (file : f'.log.file ≡ f.log.file) (slot : f'.slot ≡ f.slot) (reached : f'.reached ≡ f.reached)
-    (same : v1.told ≡ v0.told) (pages : IsTold v0 → content Pages v1.seen ≡ content Pages v0.seen)
-    (may : (root : Root) (c : Directory) → IsImageOf j root c → (n : ℕ) → root.length ≤ n → n ≤ journal_len (appended j e) → MayOpen c.stages (part (appended j e) root.length n))
-    (rests : (root : Root) (c : Directory) → IsImageOf j root c → IsRested j root c f v0 → IsRested (appended j e) root c f' v1)
-    (captured : (root : Root) → root.length ≤ journal_len j → IsFollowed j root f v0 → IsFollowed (appended j e) root f' v1)
-    (ready : (root : Root) (pages : List ℕ) (c : Directory) → IsImageOf j root c → IsReady j (other f.slot) pages root c f v0 → IsReady (appended j e) (other f.slot) pages root c f' v1) where
-  more : (root : Root) (c : Directory) → IsImageOf j root c → IsImageOf (appended j e) root c
-  more root c of = image_of_more j e root c of (may root c of)
-
-  saving_appended : (saving : Option Saving) (phase : Phase) → IsSaving j f selected v0 saving phase → IsSaving (appended j e) f' selected v1 saving phase
-  saving_appended None Idle is = tt
-  saving_appended None (Writing b p q c) is = is
-  saving_appended None (Sealed b q c) is = is
-  saving_appended (Some s) Idle is = is
-  saving_appended (Some s) (Writing b p q c) is = record {
-    captured = is.captured;
-    done = is.done;
-    pages = is.pages;
-    unsealed = is.unsealed;
-    few = is.few;
-    version = is.version;
-    image = more s.root c is.image;
-    apart = λ same_file. is.apart (sym file ∙ same_file);
-    log = captured s.root is.image.within is.log;
-    plan = subst (λ (l : List ℕ). IsPlan s.planned l s.reached s.root c) (sym reached) is.plan;
-    written = written_still s v0 v1 same pages is.written;
-  }
-  saving_appended (Some s) (Sealed b q c) is = record {
-    captured = is.captured;
-    pages = is.pages;
-    sealed = is.sealed;
-    image = more s.root c is.image;
-    apart = λ same_file. is.apart (sym file ∙ same_file);
-    ready = subst (λ (k : Slot). IsReady (appended j e) (other k) s.reached s.root c f' v1) (sym slot) (ready s.root s.reached c is.image is.ready);
-  }
-
-  stored_appended : (saving : Option Saving) (phase : Phase) → IsStored j f selected d saving phase v0 → IsStored (appended j e) f' selected d saving phase v1
-  stored_appended saving phase stored = record { image = more selected d stored.image; rests = rests selected d stored.image stored.rests; under_way = saving_appended saving phase stored.under_way }
+-- the image stays, and the savepoint goes on
+stored_still : (j : Journal) (f : FilesHeld) (selected : Root) (d : Directory) (saving saving' : Option Saving) (phase phase' : Phase) (v0 v1 : View) → (IsRested j selected d f v0 → IsRested j selected d f v1) → IsSaving j f selected v1 saving' phase'
+    → IsStored j f selected d saving phase v0 → IsStored j f selected d saving' phase' v1
+stored_still j f selected d saving saving' phase phase' v0 v1 rests under_way stored = record { image = stored.image; rests = rests stored.rests; under_way = under_way }
 
 -- ---- a savepoint begins
 
@@ -114,29 +66,27 @@ stored_step : (j : Journal) (f : FilesHeld) (selected : Root) (d : Directory) (s
     → IsStored j f selected d (Some s) (Writing b n q c) v0 → IsStored j f selected d (Some (record s { done = s.done + 1 })) (Writing b (n + 1) q c) v1
 stored_step j f selected d s b n q c p v0 v1 next more same rests captured here others stored =
     let w = stored.under_way in
-    record {
-      image = stored.image;
-      rests = rests stored.rests;
-      under_way = record {
-        captured = w.captured;
-        done = omega (arith, w.done);
-        pages = w.pages;
-        unsealed = w.unsealed;
-        few = omega (arith, more);
-        version = w.version;
-        image = w.image;
-        apart = w.apart;
-        log = captured w.log;
-        plan = w.plan;
-        written = λ later.
-            let told : IsTold v0 = subst IsTrue same later in
-            let before = still_written (take s.done s.planned) p.n v0.seen.pages v1.seen.pages (earlier_apart s.planned s.done p next w.plan.apart) (others told).0 (w.written told) in
-            let both = all_push (IsWritten v1.seen.pages) (take s.done s.planned) p before (here told) in
-            let next_is : s.done + 1 ≡ suc s.done = omega arith in
-            let is : take (s.done + 1) s.planned ≡ take s.done s.planned ++ p ∷ [] = ap (λ (k : ℕ). take k s.planned) next_is ∙ taken_more s.planned s.done p next in
-            subst (AllByRecursion (IsWritten v1.seen.pages)) (sym is) both;
-      };
-    }
+    stored_still j f selected d (Some s) (Some (record s { done = s.done + 1 })) (Writing b n q c) (Writing b (n + 1) q c) v0 v1 rests
+    (record {
+      captured = w.captured;
+      done = omega (arith, w.done);
+      pages = w.pages;
+      unsealed = w.unsealed;
+      few = omega (arith, more);
+      version = w.version;
+      image = w.image;
+      apart = w.apart;
+      log = captured w.log;
+      plan = w.plan;
+      written = λ later.
+          let told : IsTold v0 = subst IsTrue same later in
+          let before = still_written (take s.done s.planned) p.n v0.seen.pages v1.seen.pages (earlier_apart s.planned s.done p next w.plan.apart) (others told).0 (w.written told) in
+          let both = all_push (IsWritten v1.seen.pages) (take s.done s.planned) p before (here told) in
+          let next_is : s.done + 1 ≡ suc s.done = omega arith in
+          let is : take (s.done + 1) s.planned ≡ take s.done s.planned ++ p ∷ [] = ap (λ (k : ℕ). take k s.planned) next_is ∙ taken_more s.planned s.done p next in
+          subst (AllByRecursion (IsWritten v1.seen.pages)) (sym is) both;
+    })
+    stored
 
 -- ---- the root
 
@@ -146,18 +96,16 @@ stored_sealed : (j : Journal) (f : FilesHeld) (selected : Root) (d : Directory) 
     → IsStored j f selected d (Some s) (Writing b n q c) v0 → IsStored j f selected d (Some (record s { sealed = true })) (Sealed b q c) v1
 stored_sealed j f selected d s b n q c v0 v1 all rests ready stored =
     let w = stored.under_way in
-    record {
-      image = stored.image;
-      rests = rests stored.rests;
-      under_way = record {
-        captured = w.captured;
-        pages = w.pages;
-        sealed = refl;
-        image = w.image;
-        apart = w.apart;
-        ready = ready (λ told. w.plan.staged v0.seen.pages (subst (AllByRecursion (IsWritten v0.seen.pages)) (take_all s.done s.planned (omega (arith, all))) (w.written told))) w.log;
-      };
-    }
+    stored_still j f selected d (Some s) (Some (record s { sealed = true })) (Writing b n q c) (Sealed b q c) v0 v1 rests
+    (record {
+      captured = w.captured;
+      pages = w.pages;
+      sealed = refl;
+      image = w.image;
+      apart = w.apart;
+      ready = ready (λ told. w.plan.staged v0.seen.pages (subst (AllByRecursion (IsWritten v0.seen.pages)) (take_all s.done s.planned (omega (arith, all))) (w.written told))) w.log;
+    })
+    stored
 
 -- ---- the flip
 
@@ -170,25 +118,15 @@ stored_flipped j f f' selected d s b q c v0 v1 flip stored =
 -- ---- it is dropped
 
 stored_dropped : (j : Journal) (f : FilesHeld) (selected : Root) (d : Directory) (saving : Option Saving) (phase : Phase) (v : View) → IsStored j f selected d saving phase v → IsStored j f selected d None Idle v
-stored_dropped j f selected d saving phase v stored = record { image = stored.image; rests = stored.rests; under_way = tt }
+stored_dropped j f selected d saving phase v stored = stored_still j f selected d saving None phase Idle v v (λ rests. rests) tt stored
 
 -- ---- the laws
 
--- behind a root each part of the longer journal can be opened
-pub may_more : (p : Plain) (j : Journal) (e : Entry) → IsPlain p → p.journal ≡ appended j e → (root : Root) (c : Directory) → IsImageOf j root c → (n : ℕ) → root.length ≤ n → n ≤ journal_len (appended j e) → MayOpen c.stages (part (appended j e) root.length n)
-may_more p j e is next root c of n from until =
-    let here = of.may root.length (omega arith) of.within in
-    let same : state_at j root.length ≡ state_at p.journal root.length = sym (state_at-appended j e root.length of.within) ∙ ap (λ (k : Journal). state_at k root.length) (sym next) in
-    let captured : IsCaptured c = record { staged = here.staged ∙ ap length of.base.tables; mains = here.mains; rest = here.rest } in
-    let long : journal_len p.journal ≡ journal_len (appended j e) = ap journal_len next in
-    subst (λ (k : Journal). MayOpen c.stages (part k root.length n)) next
-    (may_open_part p c root.length n is (omega (arith, of.begins, ap (λ (k : Journal). k.base.length) next)) from (omega (arith, until, long)) captured (sym of.base.tables ∙ ap (λ (s : State). s.tables) same)
-    (subst (λ (s : State). all_places c.stages ≤ finmap.len s.rows) same here.places))
-
 pub append_is_stored : {D : Type 0} (view : D → View) → AppendIsStored view
 append_is_stored {D} view j e payload f f' selected d saving phase v0 v1 p spells is next place same pages gains stored =
-    stored_appended j e f f' selected d (view v0) (view v1) (ap (λ (h : FilesHeld). h.log.file) place) (ap (λ (h : FilesHeld). h.slot) place) (ap (λ (h : FilesHeld). h.reached) place) same pages (may_more p j e is next)
-    (λ root c of rests. gains.rests j root c e spells of rests) (λ root within followed. gains.followed j root e spells within followed) (λ root ps c of ready. gains.ready j root ps c e spells of ready) saving phase stored
+    stored_on j (appended j e) f f' selected d (view v0) (view v1) (ap (λ (h : FilesHeld). h.log.file) place) (ap (λ (h : FilesHeld). h.slot) place) (ap (λ (h : FilesHeld). h.reached) place) same pages
+    (more_group p j (e ∷ []) is next) (λ root c of rests. gains.rests j root c e spells of rests) (λ root within followed. gains.followed j root e spells within followed)
+    (λ root ps c of ready. gains.ready j root ps c e spells of ready) saving phase stored
 
 pub switch_is_stored : {D : Type 0} (view : D → View) → SwitchIsStored view
 switch_is_stored {D} view j f f' selected d v0 v1 straight place moves stored = (
@@ -197,8 +135,7 @@ switch_is_stored {D} view j f f' selected d v0 v1 straight place moves stored = 
 )
 
 pub begin_is_stored : {D : Type 0} (view : D → View) → BeginIsStored view
-begin_is_stored {D} view j f selected d s c v of whole here version apart unsealed none plan stored =
-    stored_begun j f selected d s c (view v) stored.image stored.rests (settled j selected d f (view v) stored.rests) of whole here version apart unsealed none plan
+begin_is_stored {D} view j f selected d s c v of whole here version apart unsealed none plan stored = stored_begun j f selected d s c (view v) stored.image stored.rests (settled j selected d f (view v) stored.rests) of whole here version apart unsealed none plan
 
 planned_at : (P : Planned → Type 0) (ps : List Planned) (k : ℕ) (p : Planned) → AllByRecursion P ps → slice_get ps k ≡ Some p → P p
 planned_at P [] k p all is = absurd cc
@@ -209,12 +146,10 @@ pub next_may_be_written : {D : Type 0} (view : D → View) → NextMayBeWritten 
 next_may_be_written {D} view j f selected d s b n q c p v stored is = planned_at (MayWrite f.reached) s.planned s.done p stored.under_way.plan.may is
 
 pub page_is_stored : {D : Type 0} (view : D → View) → PageIsStored view
-page_is_stored {D} view j f selected d s b n q c p v0 v1 is more same stays here others stored =
-    stored_step j f selected d s b n q c p (view v0) (view v1) is more same (λ rests. stays.rests j selected d rests) (λ followed. stays.followed j s.root followed) here others stored
+page_is_stored {D} view j f selected d s b n q c p v0 v1 is more same stays here others stored = stored_step j f selected d s b n q c p (view v0) (view v1) is more same (λ rests. stays.rests j selected d rests) (λ followed. stays.followed j s.root followed) here others stored
 
 pub seal_is_stored : {D : Type 0} (view : D → View) → SealIsStored view
-seal_is_stored {D} view j f selected d s b n q c v0 v1 all stays becomes stored =
-    stored_sealed j f selected d s b n q c (view v0) (view v1) all (λ rests. stays.rests j selected d rests) (λ staged followed. becomes j s.reached c followed staged) stored
+seal_is_stored {D} view j f selected d s b n q c v0 v1 all stays becomes stored = stored_sealed j f selected d s b n q c (view v0) (view v1) all (λ rests. stays.rests j selected d rests) (λ staged followed. becomes j s.reached c followed staged) stored
 
 pub flip_is_stored : {D : Type 0} (view : D → View) → FlipIsStored view
 flip_is_stored {D} view j f f' selected d s b q c v0 v1 flips stored = stored_flipped j f f' selected d s b q c (view v0) (view v1) (λ rests ready. flips j selected s.root d c rests ready) stored

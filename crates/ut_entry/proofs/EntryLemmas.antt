@@ -91,5 +91,4 @@ none_spelled bytes m at none n entry within spells =
 pub no_entry : (bytes : List ℕ) (m : ℕ) → m ≡ min (length bytes) (2 ^ 30) → BeginsNone spelling has_spelling (take m bytes) → BeginsNone spelling has_spelling bytes
 no_entry bytes m at none entry rest begins =
     let n = length (spelling entry) in
-    let within : n ≤ length bytes = omega (arith, ap length begins.1, length-append (spelling entry) rest) in
-    none_spelled bytes m at none n entry within (begins.0, ap (take n) begins.1 ∙ take_at (spelling entry) rest n refl)
+    let within : n ≤ length bytes = omega (arith, ap length begins.1, length-append (spelling entry) rest) in none_spelled bytes m at none n entry within (begins.0, ap (take n) begins.1 ∙ take_at (spelling entry) rest n refl)

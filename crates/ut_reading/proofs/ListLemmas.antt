@@ -28,11 +28,6 @@ pub all_both : {X : Type 0} (P : X → Type 0) (xs ys : List X) → AllByRecursi
 all_both P [] ys a b = b
 all_both P (x ∷ xs) ys a b = (a.0, all_both P xs ys a.1 b)
 
--- of a test
-pub test_all : {X : Type 0} (p : X → Bool) (xs : List X) → AllByRecursion (λ x. IsTrue (p x)) xs → IsTrue (list_all p xs)
-test_all p [] all = refl
-test_all p (x ∷ xs) all = λ i. all.0 i && test_all p xs all.1 i
-
 pub all_test : {X : Type 0} (p : X → Bool) (xs : List X) → IsTrue (list_all p xs) → AllByRecursion (λ x. IsTrue (p x)) xs
 all_test p [] is = tt
 all_test p (x ∷ xs) is = by (p x) (list_all p xs) refl is (λ (rest : IsTrue (list_all p xs)). all_test p xs rest)

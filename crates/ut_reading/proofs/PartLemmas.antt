@@ -85,8 +85,9 @@ parts_stand columns earlier [] (part ∷ parts) reached file hold are few stand 
 parts_stand columns earlier (chain ∷ chains) [] reached file hold are few stand within = absurd hold
 parts_stand columns earlier (chain ∷ chains) (part ∷ parts) reached file hold are few stand within =
     let some : sum_by length earlier + length part ≤ 2147483647 = omega (arith, few, sum_by-cons length part parts) in
-    let more : sum_by length (earlier ++ part ∷ []) + sum_by length parts ≤ 2147483647 = omega (arith, few, one_more earlier part parts) in (
-      part_stands columns earlier chain part reached file hold.0 are.0 some stand.0 within.0,
+    let more : sum_by length (earlier ++ part ∷ []) + sum_by length parts ≤ 2147483647 = omega (arith, few, one_more earlier part parts) in
+    let here = part_stands columns earlier chain part reached file hold.0 are.0 some stand.0 within.0 in (
+      here,
       subst (λ (m : MainValue). StandParts columns m (part_refs chains parts) (map key_rows parts) reached file) (same_main (length columns) earlier part)
           (parts_stand columns (earlier ++ part ∷ []) chains parts reached file hold.1 are.1 more stand.1 within.1),
     )

@@ -88,11 +88,10 @@ same_table : (t t' : Table) (c c' : List Chain) (s s' : TableStages) → IsImage
 same_table t t' c c' s s' is is' hold hold' same keys =
     let table : t ≡ t' = ap (λ (d : Drawn). d.table) same in
     let is2 : IsImageTable t.columns s' = subst (λ (u : Table). IsImageTable u.columns s') (sym table) is' in
-    let hold2 : HoldParts (length t.columns) [] c' s'.parts = subst (λ (u : Table). HoldParts (length u.columns) [] c' s'.parts) (sym table) hold' in (
-      table,
-      same_stages t.columns s s' is is2 (same_delta s.l1 s'.l1 is.l1.live is2.l1.live (ap (λ (d : Drawn). d.l1) same)) (same_delta s.l2 s'.l2 is.l2.live is2.l2.live (ap (λ (d : Drawn). d.l2) same))
-          (same_parts t.columns (length t.columns) [] [] c c' s.parts s'.parts is.parts is2.parts hold hold2 keys (ap (λ (d : Drawn). d.parts) same)),
-    )
+    let hold2 : HoldParts (length t.columns) [] c' s'.parts = subst (λ (u : Table). HoldParts (length u.columns) [] c' s'.parts) (sym table) hold' in
+    let stages = same_stages t.columns s s' is is2 (same_delta s.l1 s'.l1 is.l1.live is2.l1.live (ap (λ (d : Drawn). d.l1) same)) (same_delta s.l2 s'.l2 is.l2.live is2.l2.live (ap (λ (d : Drawn). d.l2) same))
+    (same_parts t.columns (length t.columns) [] [] c c' s.parts s'.parts is.parts is2.parts hold hold2 keys (ap (λ (d : Drawn). d.parts) same)) in
+    (table, stages)
 
 same_tables : (ts ts' : List Table) (cs cs' : List (List Chain)) (ss ss' : Stages) → AllZip (λ (t : Table) (s : TableStages). IsImageTable t.columns s) ts ss → AllZip (λ (t : Table) (s : TableStages). IsImageTable t.columns s) ts' ss'
     → HoldTables ts cs ss → HoldTables ts' cs' ss' → drawn_all ts cs ss ≡ drawn_all ts' cs' ss' → mains_of ts ss ≡ mains_of ts' ss' → (ts ≡ ts') × (ss ≡ ss')

@@ -11,10 +11,10 @@ use Rattle.ut_outside.specs.HistoryLaws.{length-overlaid}
 use Rattle.ut_outside.specs.Run.{Always, ComesFrom, LeavesOnly}
 use Rattle.ut_outside.proofs.RunLemmas.{started, goes_on, weaker, others_same, drop-overlaid}
 use Rattle.ut_value.specs.declared.entry.Entry.{Entry}
-use Rattle.ut_redo.specs.Frames.{open_gate, frame, payload_of, IsFrame}
+use Rattle.ut_redo.specs.Frames.{open_gate, payload_of, IsFrame}
 use Rattle.ut_frame.specs.Framed.{body}
 use Rattle.ut_redo.specs.Appends.{LogPlace, IsClosedAt, HasClosedGate, Extends, Extended, BeforeOrAfter, After}
-use Rattle.ut_redo.specs.Groups.{Group, Log, behind_group, IsUnderWay, Unmoved}
+use Rattle.ut_redo.specs.Groups.{Log, behind_group, IsUnderWay, Unmoved}
 use Rattle.ut_redo.proofs.AppendLemmas.{Behind, still_closed, shorter_front, gate_within, torn_behind, body_leaves, body_reached, gate_leaves, gate_opened, next_closed, length-body}
 use Rattle.ut_redo.proofs.HoldsLemmas.{still_holds, closed_at_end, by_entries, after}
 
@@ -104,6 +104,19 @@ added log payload more at v0 v1 a begun stays there w =
     }
 
 -- ---- the end
+
+-- the write of the next gate, and that of the group's own
+abbrev pub ClosesNext : {T : Type 0} → Log → View → View → Result T Failed → Type 0
+ClosesNext log old new result = Settles log.place.file (TornWrite (length (content log.place.file old.seen)) (log.place.end + 5 + log.group.room) 1) (overlaid (log.place.end + 5 + log.group.room) (0 ∷ [])) old new result
+
+abbrev pub OpensGate : {T : Type 0} → Log → View → View → Result T Failed → Type 0
+OpensGate log old new result = Settles log.place.file (TornWrite (length (content log.place.file old.seen)) log.place.end 1) (overlaid log.place.end (open_gate ∷ [])) old new result
+
+pub closes_as : {T : Type 0} (log now : Log) (old new : View) (result : Result T Failed) → log ≡ now → ClosesNext log old new result → ClosesNext now old new result
+closes_as log now old new result is w = subst (λ (h : Log). ClosesNext h old new result) is w
+
+pub opens_as : {T : Type 0} (log now : Log) (old new : View) (result : Result T Failed) → log ≡ now → OpensGate log old new result → OpensGate now old new result
+opens_as log now old new result is w = subst (λ (h : Log). OpensGate h old new result) is w
 
 module _ (log : Log) (payload : List ℕ) (v0 : View) (begun : IsUnderWay log payload v0) (full : log.group.added ≡ log.group.room) (told : IsTold v0) (stays : v0.crash_states v0.seen) where
   abbrev file : Which

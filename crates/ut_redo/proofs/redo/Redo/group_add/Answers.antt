@@ -1,36 +1,30 @@
-use Rattle.std.proofs.Common.{◌≡◌, ℕ, ◌+◌, List, [], ◌∷◌, ◌++◌, length, Ok, sym, ◌∙◌, ap, subst, arith}
-use Rattle.std.specs.Prelude.{IsTrue}
-use Rattle.std.specs.Int.{w32, to_le_bytes}
-use Rattle.ut_outside.specs.Chains.{Settles}
-use Rattle.ut_outside.specs.Disk.{View, IsTold, TornWrite, content, overlaid}
-use Rattle.ut_outside.specs.Run.{Always, ComesFrom, LeavesOnly}
-use Rattle.ut_outside.proofs.RunLemmas.{written_as, others_then}
-use Rattle.ut_outside.proofs.ChainLemmas.{settled_as}
-use Rattle.ut_redo.specs.Appends.{HasClosedGate, IsClosedAt, Extends, BeforeOrAfter, After}
-use Rattle.ut_redo.specs.Frames.{open_gate, payload_of, IsFrame}
-use Rattle.ut_redo.specs.Groups.{Log, IsUnderWay, Unmoved, behind_group}
+use Rattle.std.proofs.Common.{ℕ, ◌+◌, List, ◌++◌, length, Result, sym, subst, arith}
+use Rattle.ut_outside.specs.declared.faults.Failed.{Failed}
+use Rattle.ut_outside.specs.Disk.{View, IsTold, Changes, TornWrite, content}
+use Rattle.ut_outside.specs.Run.{ComesFrom, LeavesOnly}
+use Rattle.ut_outside.proofs.RunLemmas.{written_as}
+use Rattle.ut_redo.specs.Appends.{LogPlace, HasClosedGate}
+use Rattle.ut_redo.specs.Groups.{Log, IsUnderWay, Unmoved}
 use Rattle.ut_redo.proofs.GroupLemmas as group
+use Rattle.ut_redo.proofs.redo.Redo.group_add.Goals.{After-payload-payload}
 use Rattle.ut_redo.proofs.redo.Redo.group_add.Goals as goal
 
-pub returns-in_err-write_at-clause-any_moment : goal.returns-in_err-write_at-clause-any_moment
-returns-in_err-write_at-clause-any_moment g c told =
+-- while the payload is written
+leaves : (g : _) (c : After-payload-payload g) {T : Type 0} (Done : List ℕ → List ℕ → Type 0) (v1 : View) (r : Result T Failed) → IsTold (g.D.Disk.view c.args.disk.now)
+    → Changes c.self.inside.file (TornWrite (length (content c.self.inside.file (g.D.Disk.view c.args.disk.now).seen)) (c.self.inside.end + 5 + c.self.inside.added) (length c.payload-payload.result.now)) Done (g.D.Disk.view c.args.disk.now) v1 r
+    → LeavesOnly (g.D.Disk.view c.args.disk.now) v1 (ComesFrom (g.D.Disk.view c.args.disk.now) c.args.self.now.place.file (Unmoved c.args.self.now.place.end))
+leaves g c Done v1 r told w =
     let v0 : View = g.D.Disk.view c.args.disk.now in
-    let log : Log = record { place = record { file = c.self.inside.file; end = c.self.inside.end }; group = record { room = c.self.inside.room; added = c.self.inside.added } } in
-    let v1 : View = g.D.Disk.view c.write_at.new.self in
-    let was = subst (λ (h : Log). (payload : List ℕ) × IsUnderWay h payload v0) (sym c.self.view_is) c.requires.under_way in
-    let gate : HasClosedGate log.place v0 = was.1.gate in
+    let place : LogPlace = record { file = c.self.inside.file; end = c.self.inside.end } in
+    let gate : HasClosedGate place v0 = subst (λ (h : Log). HasClosedGate h.place v0) (sym c.self.view_is) c.requires.under_way.1.gate in
     subst (λ (h : Log). LeavesOnly v0 v1 (ComesFrom v0 h.place.file (Unmoved h.place.end))) c.self.view_is
-    (group.write_leaves v0 log.place.file log.place.end (log.place.end + 5 + log.group.added) _ (omega arith) (gate told) (g.met.D.Disk.seen_stays c.args.disk.now told) _ v1 _ c.write_at.ensures (g.met.D.Disk.only_now c.args.disk.now))
+    (group.write_leaves v0 place.file place.end (place.end + 5 + c.self.inside.added) _ (omega arith) (gate told) (g.met.D.Disk.seen_stays c.args.disk.now told) Done v1 r w (g.met.D.Disk.only_now c.args.disk.now))
+
+pub returns-in_err-write_at-clause-any_moment : goal.returns-in_err-write_at-clause-any_moment
+returns-in_err-write_at-clause-any_moment g c told = leaves g (goal.at.returns-in_err-write_at-clause-any_moment g c).After-payload-payload _ _ _ told c.write_at.ensures
 
 pub returns-clause-any_moment : goal.returns-clause-any_moment
-returns-clause-any_moment g c told =
-    let v0 : View = g.D.Disk.view c.args.disk.now in
-    let log : Log = record { place = record { file = c.self.inside.file; end = c.self.inside.end }; group = record { room = c.self.inside.room; added = c.self.inside.added } } in
-    let v1 : View = g.D.Disk.view c.write_at.new.self in
-    let was = subst (λ (h : Log). (payload : List ℕ) × IsUnderWay h payload v0) (sym c.self.view_is) c.requires.under_way in
-    let gate : HasClosedGate log.place v0 = was.1.gate in
-    subst (λ (h : Log). LeavesOnly v0 v1 (ComesFrom v0 h.place.file (Unmoved h.place.end))) c.self.view_is
-    (group.write_leaves v0 log.place.file log.place.end (log.place.end + 5 + log.group.added) _ (omega arith) (gate told) (g.met.D.Disk.seen_stays c.args.disk.now told) _ v1 _ c.in_ok-write_at.ensures (g.met.D.Disk.only_now c.args.disk.now))
+returns-clause-any_moment g c told = leaves g (goal.at.returns-clause-any_moment g c).After-payload-payload _ _ _ told c.in_ok-write_at.ensures
 
 pub returns-clause-added : goal.returns-clause-added
 returns-clause-added g c payload under_way =
