@@ -366,8 +366,7 @@ pub zero-unused : (bits : ℕ) (xs : List ℕ) → byte_count bits ≤ length xs
     → number_of (take (byte_count bits) xs) < 2 ^ bits → get_or xs (bits / 8) 0 / 2 ^ (bits % 8) ≡ 0
 zero-unused bits xs le used below =
     let last = number_of-last bits xs le used in
-    let parts : number_of (take (bits / 8) xs) + 256 ^ (bits / 8) * get_or xs (bits / 8) 0 < 256 ^ (bits / 8) * 2 ^ (bits % 8) = omega (arith, last.0, last.1, below) in
-    zero-div_below (get_or xs (bits / 8) 0) (2 ^ (bits % 8)) (top_digit (number_of (take (bits / 8) xs)) (256 ^ (bits / 8)) (get_or xs (bits / 8) 0) (2 ^ (bits % 8)) parts)
+    let parts : number_of (take (bits / 8) xs) + 256 ^ (bits / 8) * get_or xs (bits / 8) 0 < 256 ^ (bits / 8) * 2 ^ (bits % 8) = omega (arith, last.0, last.1, below) in zero-div_below (get_or xs (bits / 8) 0) (2 ^ (bits % 8)) (top_digit (number_of (take (bits / 8) xs)) (256 ^ (bits / 8)) (get_or xs (bits / 8) 0) (2 ^ (bits % 8)) parts)
 
 -- the first bytes of a text with eight zero bytes behind
 pub kept-length : (k : ℕ) (xs ys : List ℕ) → k ≤ length xs → ys ≡ take k xs ++ (0 ∷ 0 ∷ 0 ∷ 0 ∷ 0 ∷ 0 ∷ 0 ∷ 0 ∷ []) → length ys ≡ k + 8

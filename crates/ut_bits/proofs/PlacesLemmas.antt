@@ -13,8 +13,7 @@ pub places_from-append : {X : Type 0} (test : X → Bool) (i : ℕ) (xs : List X
     → places_from test i (xs ++ c ∷ []) ≡ places_from test i xs ++ places_from test (i + length xs) (c ∷ [])
 places_from-append test i [] c = let e : i ≡ i + 0 = omega arith in ap (λ (n : ℕ). places_from test n (c ∷ [])) e
 places_from-append test i (x ∷ xs) c =
-    let e : i + 1 + length xs ≡ i + suc (length xs) = omega arith in
-    if-append (test x) i (places_from test (i + 1) (xs ++ c ∷ [])) (places_from test (i + 1) xs) (places_from test (i + suc (length xs)) (c ∷ []))
+    let e : i + 1 + length xs ≡ i + suc (length xs) = omega arith in if-append (test x) i (places_from test (i + 1) (xs ++ c ∷ [])) (places_from test (i + 1) xs) (places_from test (i + suc (length xs)) (c ∷ []))
     (places_from-append test (i + 1) xs c ∙ ap (λ (n : ℕ). places_from test (i + 1) xs ++ places_from test n (c ∷ [])) e)
 
 -- one more code

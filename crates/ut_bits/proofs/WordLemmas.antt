@@ -42,8 +42,7 @@ drop-word_bytes x rest = drop-front 4 (word_bytes x) rest (length-word_bytes x)
 -- the bytes of the word that is read
 pub word_bytes-word_in : (bytes : List ℕ) → AllBelow 256 bytes → 4 ≤ length bytes → word_bytes (word_in bytes) ≡ take 4 bytes
 unfolding word_bytes word_in
-word_bytes-word_in bytes h le =
-    respelled (take 4 bytes) 4 (length-take-le 4 bytes le) (AllBelow-take 256 4 bytes h)
+word_bytes-word_in bytes h le = respelled (take 4 bytes) 4 (length-take-le 4 bytes le) (AllBelow-take 256 4 bytes h)
   where
     respelled : (xs : List ℕ) (n : ℕ) → length xs ≡ n → AllBelow 256 xs → bytes_of n (number_of xs) ≡ xs
     respelled xs n e h = ap (λ (k : ℕ). bytes_of k (number_of xs)) (sym e) ∙ bytes_of-number_of xs h

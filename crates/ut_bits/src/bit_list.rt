@@ -1,5 +1,6 @@
 ghost use Rattle.std.specs.Prelude.{◌≡◌, ◌+◌, ◌*◌, ◌/◌, ◌%◌, ◌^◌, ◌<◌, ◌≤◌, length, slice_index, IsTrue, ◌↔◌, IfOk, IfSome, IfNone, OnOk, OnErr, ◌++◌, ◌∷◌, [], ◌≢◌, List, ℕ, take};
 ghost use Rattle.ut_bits.specs.Bits.{AllBelow, packed_bytes, number_of, byte_count, joined};
+ghost use Rattle.ut_bits.specs.Coded.{HasCodes, IsRead};
 
 use crate::bit_writer::BitWriter;
 use byteorder::{ByteOrder, LittleEndian};
@@ -65,8 +66,7 @@ impl BitList {
         requires width { width ≤ 32 }
         requires below { AllBelow (2 ^ width) codes.now }
         requires count { length codes.now ≤ 2 ^ 31 }
-        ensures width { IfOk result (λ p. p.width ≡ width) }
-        ensures codes { IfOk result (λ p. p.codes ≡ codes.now) }
+        ensures { IfOk result (λ p. HasCodes width codes.now p) }
     {
         let mut writer = BitListWriter::with_capacity(alloc, codes.len() as u32, width)?;
         for code in codes {
@@ -127,10 +127,7 @@ impl BitList {
     ) -> Result<Option<(BitList, usize)>, AllocError>
         requires width { width ≤ 32 }
         requires rows { rows ≤ 2 ^ 31 }
-        ensures within { IfOk result (λ found. IfSome found (λ r. r.1 ≤ length bytes.now)) }
-        ensures width { IfOk result (λ found. IfSome found (λ r. r.0.width ≡ width)) }
-        ensures rows { IfOk result (λ found. IfSome found (λ r. length r.0.codes ≡ rows)) }
-        ensures below { IfOk result (λ found. IfSome found (λ r. AllBelow (2 ^ width) r.0.codes)) }
+        ensures read { IfOk result (λ found. IfSome found (λ r. IsRead width rows bytes.now r.0 r.1)) }
         ensures spelled { IfOk result (λ found. IfSome found (λ r. take r.1 bytes.now ≡ packed_bytes width r.0.codes)) }
         ensures none { IfOk result (λ found. IfNone found ((codes rest : List ℕ) → length codes ≡ rows → AllBelow (2 ^ width) codes → bytes.now ≢ packed_bytes width codes ++ rest)) }
     {

@@ -2,6 +2,7 @@ ghost use Rattle.std.specs.Prelude.{◌≡◌, ◌-◌, ◌≤◌, ◌++◌, OnO
 ghost use Rattle.std.specs.List.{range_with_len};
 ghost use Rattle.ut_bits.specs.Places.{is_in};
 
+use crate::cut::push_or_cut;
 use std::alloc::AllocError;
 
 /// Whether a code stands in one of the ranges, each without its end.
@@ -19,13 +20,7 @@ pub fn append_range(from: u32, to: u32, out: &mut Vec<u32>) -> Result<(), AllocE
 {
     let before = out.len();
     for i in from..to {
-        match out.push(i) {
-            Ok(()) => {}
-            Err(failed) => {
-                out.truncate(before);
-                return Err(AllocError::from(failed));
-            }
-        }
+        push_or_cut(i, before, out)?;
     }
     Ok(())
 }

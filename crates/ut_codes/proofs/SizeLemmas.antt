@@ -48,18 +48,8 @@ length-with_code c (r ∷ rs) = elim (eqb_tells r.0 c) [ inl e ↦ rw e.0 (omega
 
 pub length-runs_of : (c : ℕ) (cs : List ℕ) → length (runs_of (c ∷ cs)) ≡ 1 + changes (c ∷ cs)
 length-runs_of c [] = refl
-length-runs_of c (d ∷ cs) =
-    length-with_code c (runs_of (d ∷ cs)) ∙ ap (λ (b : Bool). length (runs_of (d ∷ cs)) + (if b then 0 else 1)) (first-code d c cs)
+length-runs_of c (d ∷ cs) = length-with_code c (runs_of (d ∷ cs)) ∙ ap (λ (b : Bool). length (runs_of (d ∷ cs)) + (if b then 0 else 1)) (first-code d c cs)
     ∙ ap (λ (k : ℕ). k + (if eqb d c then 0 else 1)) (length-runs_of d cs) ∙ omega arith
-
--- one more code
-pub changes-drop : (codes : List ℕ) (i : ℕ) → i + 1 < length codes → changes (drop i codes) ≡ (if eqb (get_or codes (i + 1) 0) (get_or codes i 0) then 0 else 1) + changes (drop (i + 1) codes)
-changes-drop [] i h = absurd (omega arith)
-changes-drop (c ∷ []) i h = absurd (omega arith)
-changes-drop (c ∷ d ∷ cs) zero h = refl
-changes-drop (c ∷ d ∷ cs) (suc i) h =
-    let e : suc i + 1 ≡ suc (i + 1) = omega arith in
-    rw e (changes-drop (d ∷ cs) i (omega arith))
 
 pub changes-end : (codes : List ℕ) (i : ℕ) → length codes ≤ i + 1 → changes (drop i codes) ≡ 0
 changes-end [] zero h = refl
@@ -67,10 +57,6 @@ changes-end [] (suc i) h = refl
 changes-end (c ∷ []) zero h = refl
 changes-end (c ∷ d ∷ cs) zero h = absurd (omega arith)
 changes-end (c ∷ cs) (suc i) h = changes-end cs i (omega arith)
-
-pub changes-le : (c : ℕ) (cs : List ℕ) → changes (c ∷ cs) ≤ length cs
-changes-le c [] = omega arith
-changes-le c (d ∷ cs) = elim (eqb_tells d c) [ inl e ↦ rw e.0 (omega (arith, changes-le d cs)) | inr e ↦ rw e.0 (omega (arith, changes-le d cs)) ]
 
 pub AllBelow-width : (reach width : ℕ) (codes : List ℕ) → AllBelow reach codes → reach ≤ 2 ^ width → AllBelow (2 ^ width) codes
 AllBelow-width reach width [] h le = tt

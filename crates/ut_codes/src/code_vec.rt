@@ -11,6 +11,7 @@ use crate::form::{Form, width_of};
 use crate::reading::{is_least, shape_from};
 use std::alloc::{AllocError, Global};
 use std::marker::Model;
+use ut_bits::cut_at_error;
 use ut_mask::Mask;
 use ut_packed::Packed;
 use ut_rle::Runs;
@@ -182,13 +183,8 @@ impl CodeVec {
     {
         let before = out.len();
         out.push(form_byte(&self.shape))?;
-        match append_form(&self.shape, out) {
-            Ok(()) => Ok(()),
-            Err(failed) => {
-                out.truncate(before);
-                Err(failed)
-            }
-        }
+        cut_at_error(append_form(&self.shape, out), before, out)?;
+        Ok(())
     }
 
     /// The vector that begins the bytes, and how many bytes it takes.

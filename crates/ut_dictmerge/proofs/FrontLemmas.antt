@@ -69,8 +69,7 @@ borders_at a b pieces cuts k c lt = record {
 pub next_front : (a : List (List ℕ)) (ua : List Bool) (b : List (List ℕ)) (ub : List Bool) (pieces : ℕ) (cuts : List Cut) (k : ℕ) → AreReady a ua b ub pieces cuts → k < pieces
     → front a ua b ub (cut_at cuts (k + 1)) ≡ front a ua b ub (cut_at cuts k) ++ between a ua b ub (cut_at cuts k) (cut_at cuts (k + 1))
 next_front a ua b ub pieces cuts k r lt =
-    let o = r.cuts_are.rising k lt in
-    front-more a ua b ub (cut_at cuts k) (cut_at cuts (k + 1)) r.lists.ascending_a r.lists.ascending_b r.lists.flags_a r.lists.flags_b (r.cuts_are.each k (omega arith)).cut (r.cuts_are.each (k + 1) (omega arith)).cut o.0 o.1
+    let o = r.cuts_are.rising k lt in front-more a ua b ub (cut_at cuts k) (cut_at cuts (k + 1)) r.lists.ascending_a r.lists.ascending_b r.lists.flags_a r.lists.flags_b (r.cuts_are.each k (omega arith)).cut (r.cuts_are.each (k + 1) (omega arith)).cut o.0 o.1
 
 -- sums of counts
 total-append : (xs ys : List ℕ) → total (xs ++ ys) ≡ total xs + total ys

@@ -89,13 +89,11 @@ inserted : (seed r n : ℕ) → length (inserts seed r n) ≡ n
 inserted seed r n = length-map-range_with_len (λ k. insert_line (advanced seed (6 * (r + k))) (r + k)) 0 n
 
 at_moved : (seed size i j : ℕ) → i ≡ 9 + 11 * size + j → slice_get (script seed size) i ≡ slice_get (from_moved seed size) j
-at_moved seed size i j e =
-    at_inserts seed size i (10 * size + j) (omega arith)
+at_moved seed size i j e = at_inserts seed size i (10 * size + j) (omega arith)
     ∙ past (inserts seed (200 * size) (10 * size)) (from_moved seed size) (10 * size) (10 * size + j) j (inserted seed (200 * size) (10 * size)) refl
 
 at_more : (seed size i j : ℕ) → i ≡ 10 + 11 * size + j → slice_get (script seed size) i ≡ slice_get (from_more seed size) j
-at_more seed size i j e =
-    at_moved seed size i (1 + j) (omega arith) ∙ past moves (from_more seed size) 1 (1 + j) j refl refl
+at_more seed size i j e = at_moved seed size i (1 + j) (omega arith) ∙ past moves (from_more seed size) 1 (1 + j) j refl refl
 
 at_partial : (seed size i j : ℕ) → i ≡ 10 + 21 * size + j → slice_get (script seed size) i ≡ slice_get (from_partial seed size) j
 at_partial seed size i j e =

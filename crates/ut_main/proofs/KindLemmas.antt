@@ -33,8 +33,7 @@ in-either key (x ∷ xs) ys (inr there) = elim (in-either key xs ys there) [ inl
 dict-kinds : (kind : Kind) (j : ℕ) (dicts : List Chain) (parts : List (List KeyRow)) → j < length dicts → ((key : List ℕ) → In key (end_to_end (get_or dicts j [])) → IsTrue (is_key kind key))
     → All (λ rows. AreKeys kind (cells_at j rows)) parts → (key : List ℕ) → In key (end_to_end (get_or (dicts_of dicts parts) j [])) → IsTrue (is_key kind key)
 dict-kinds kind j dicts [] lt h all key there = h key there
-dict-kinds kind j dicts (rows ∷ parts) lt h all key there =
-    dict-kinds kind j (with_own 0 dicts rows) parts (omega (arith, lt, length-with_own 0 dicts rows)) now (λ i d l. all (suc i) d (omega (arith, l))) key there
+dict-kinds kind j dicts (rows ∷ parts) lt h all key there = dict-kinds kind j (with_own 0 dicts rows) parts (omega (arith, lt, length-with_own 0 dicts rows)) now (λ i d l. all (suc i) d (omega (arith, l))) key there
   where
     now : (key : List ℕ) → In key (end_to_end (get_or (with_own 0 dicts rows) j [])) → IsTrue (is_key kind key)
     now key there =

@@ -165,6 +165,21 @@ shared-at arcs i item part lt at is = is ∙ ap (λ a. arc_value a) at ∙ sym (
 pub length-shared : {Z : Type 0} (arcs : List (Arc PartValue Z)) (width : ℕ) (main : MainValue) → main_value width (shared_parts arcs) ≡ main → length main.parts ≡ length arcs
 length-shared arcs width main view = sym (ap (λ (m : MainValue). length m.parts) view) ∙ length-map (shared_parts arcs) (λ (x : PartValue). x.rows) ∙ length-map arcs (λ a. arc_value a)
 
+-- a part of main stands at a place among the parts
+pub record IsPart (main : MainValue) (parts : List PartValue) (n : ℕ) (part : PartValue) : Type 0 where
+  pub within : n < length main.parts
+  pub at : part ≡ get_or parts n no_part
+
+-- the part that a walk over shared parts has come to
+pub part-met : {Z : Type 0} (arcs slice : List (Arc PartValue Z)) (width n : ℕ) (main : MainValue) (item : Arc PartValue Z) (part : PartValue) → slice ≡ arcs → main_value width (shared_parts arcs) ≡ main → n < length slice
+    → item ≡ get_or slice n item → part ≡ arc_value item → IsPart main (shared_parts arcs) n part
+part-met arcs slice width n main item part same view lt stands is =
+    let within : n < length arcs = omega (arith, lt, ap length same) in
+    record {
+      within = omega (arith, within, length-shared arcs width main view);
+      at = shared-at arcs n item part within (stands ∙ ap (λ l. get_or l n item) same) is;
+    }
+
 -- the first of shared parts, copied one by one
 pub first-copied : {Z : Type 0} (arcs slice : List (Arc PartValue Z)) (n i : ℕ) (new : List PartValue) → slice ≡ arcs → new ≡ take i (shared_parts (take n slice)) → length (take n slice) ≤ i → new ≡ take n (shared_parts arcs)
 first-copied arcs slice n i new same e le =

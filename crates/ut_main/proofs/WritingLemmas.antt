@@ -31,8 +31,7 @@ get-columns_from : (k j : ℕ) (dicts : List Chain) (rows : List KeyRow) → j <
 get-columns_from k j [] rows lt = absurd (omega (arith, lt))
 get-columns_from k zero (chain ∷ dicts) rows lt = let e : k ≡ 0 + k = omega arith in ap (λ n. (let c : ColumnValue = record { before = chain; cells = cells_at n rows } in c)) e
 get-columns_from k (suc j) (chain ∷ dicts) rows lt =
-    let e : j + suc k ≡ suc j + k = omega arith in
-    get-columns_from (suc k) j dicts rows (omega (arith, lt)) ∙ ap (λ n. (let c : ColumnValue = record { before = get_or dicts j []; cells = cells_at n rows } in c)) e
+    let e : j + suc k ≡ suc j + k = omega arith in get-columns_from (suc k) j dicts rows (omega (arith, lt)) ∙ ap (λ n. (let c : ColumnValue = record { before = get_or dicts j []; cells = cells_at n rows } in c)) e
 
 pub column-at : (part : PartValue) (j : ℕ) → j < length part.before → get_or (columns_of part) j no_column ≡ record { before = get_or part.before j []; cells = cells_at j part.rows }
 column-at part j lt =

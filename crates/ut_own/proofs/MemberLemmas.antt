@@ -98,11 +98,6 @@ same_members (x ∷ xs) (y ∷ ys) a b to from =
 
 -- ---- the own dictionary
 
-in-append : (k : List ℕ) (xs ys : List (List ℕ)) → In k xs → In k (xs ++ ys)
-in-append k [] ys h = absurd h
-in-append k (x ∷ xs) ys (inl h) = inl h
-in-append k (x ∷ xs) ys (inr h) = inr (in-append k xs ys h)
-
 -- Whatever ascends and holds just the new keys of the cells is the own dictionary of these cells.
 pub own_dict-is : (dict earlier cells : List (List ℕ)) → Ascends dict → ((k : List ℕ) → In k dict → In k (news earlier cells)) → ((k : List ℕ) → In k (news earlier cells) → In k dict) → dict ≡ own_dict earlier cells
 own_dict-is dict earlier cells up to from =

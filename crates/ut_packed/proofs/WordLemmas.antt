@@ -15,15 +15,34 @@ doubled : (b : Bool) (bits m : ℕ) → bits ≡ m → bits + bits + from_bool b
 doubled true bits m e = omega (arith, e)
 doubled false bits m e = omega (arith, e)
 
--- one more answer in front
-pub answers-more : (test : ℕ → Bool) (j at end bits bit : ℕ) (codes : List ℕ) → at ≡ j + 1 → at ≤ end → end ≤ length codes → bits ≡ mask_l (answers test at end codes) → bit ≡ from_bool (test (get_or codes j 0))
+-- the answers from a place that is not before the start, gathered in a word
+pub record AreGathered (test : ℕ → Bool) (start at end word : ℕ) (codes : List ℕ) : Type 0 where
+  pub behind : start ≤ at
+  pub within : at ≤ end
+  pub bits : word ≡ mask_l (answers test at end codes)
+
+-- an answer is one bit
+pub answer-one : (b : Bool) (n : ℕ) → n ≡ from_bool b → n ≤ 1
+answer-one true n e = omega (arith, e)
+answer-one false n e = omega (arith, e)
+
+word-more : (test : ℕ → Bool) (j at end bits bit : ℕ) (codes : List ℕ) → at ≡ j + 1 → at ≤ end → end ≤ length codes → bits ≡ mask_l (answers test at end codes) → bit ≡ from_bool (test (get_or codes j 0))
     → bits + bits + bit ≡ mask_l (answers test j end codes)
-answers-more test j at end bits bit codes e le within is same =
+word-more test j at end bits bit codes e le within is same =
     let more : end - j ≡ suc (end - at) = omega (arith, e, le) in
     let front : drop j codes ≡ get_or codes j 0 ∷ drop at codes = drop_more codes j 0 (omega (arith, e, le, within)) ∙ ap (λ (k : ℕ). get_or codes j 0 ∷ drop k codes) (sym e) in
     ap (λ (b : ℕ). bits + bits + b) same
     ∙ doubled (test (get_or codes j 0)) bits (mask_l (answers test at end codes)) is
     ∙ sym (ap (λ (k : ℕ). mask_l (map test (take k (drop j codes)))) more ∙ ap (λ (l : List ℕ). mask_l (map test (take (suc (end - at)) l))) front)
+
+-- one more answer in front
+pub answers-more : (test : ℕ → Bool) (start at end bits bit : ℕ) (codes : List ℕ) → start < at → AreGathered test start at end bits codes → end ≤ length codes → bit ≡ from_bool (test (get_or codes (at - 1) 0))
+    → AreGathered test start (at - 1) end (bits + bits + bit) codes
+answers-more test start at end bits bit codes lt so_far within same = record {
+  behind = omega (arith, lt);
+  within = omega (arith, lt, so_far.within);
+  bits = word-more test (at - 1) at end bits bit codes (omega (arith, lt)) so_far.within within so_far.bits same;
+}
 
 -- a word of fewer than 64 answers has room for one more
 pub answers-room : (test : ℕ → Bool) (at end bits : ℕ) (codes : List ℕ) → end < at + 64 → bits ≡ mask_l (answers test at end codes) → bits < 2 ^ 63
@@ -34,5 +53,9 @@ answers-room test at end bits codes few is =
     omega (arith, is, small, power)
 
 -- no answer is there yet
-pub answers-none : (test : ℕ → Bool) (end : ℕ) (codes : List ℕ) → 0 ≡ mask_l (answers test end end codes)
-answers-none test end codes = let none : end - end ≡ 0 = omega arith in sym (ap (λ (k : ℕ). mask_l (map test (take k (drop end codes)))) none)
+pub answers-none : (test : ℕ → Bool) (start end : ℕ) (codes : List ℕ) → start ≤ end → AreGathered test start end end 0 codes
+answers-none test start end codes order = record {
+  behind = order;
+  within = omega arith;
+  bits = let none : end - end ≡ 0 = omega arith in sym (ap (λ (k : ℕ). mask_l (map test (take k (drop end codes)))) none);
+}

@@ -1,5 +1,6 @@
 ghost use Rattle.std.specs.Prelude.{◌≡◌, ◌^◌, ◌<◌, ◌≤◌, length, slice_index, IfOk, IfSome, IfNone, OnOk, OnErr, ◌++◌, ◌+◌, ◌∷◌, [], ◌≢◌, List, ℕ, take, drop, map};
 ghost use Rattle.ut_bits.specs.Bits.{AllBelow, packed_bytes};
+ghost use Rattle.ut_bits.specs.Coded.{HasCodes, IsRead};
 ghost use Rattle.ut_bits.specs.Places.{is_in, places_where};
 ghost use Rattle.ut_mask.specs.Mask.{both};
 
@@ -7,7 +8,7 @@ use crate::bounds::{Bounds, bounds_of};
 use crate::masks::keep_words;
 use std::alloc::{AllocError, Global};
 use std::marker::Model;
-use ut_bits::{BitList, is_in};
+use ut_bits::{BitList, is_in, push_or_cut};
 use ut_mask::Mask;
 
 /// A vector of codes of `width` bits each, one behind the other. The bounds of its blocks are made
@@ -35,8 +36,7 @@ impl Packed {
         requires width { width ≤ 32 }
         requires below { AllBelow (2 ^ width) codes.now }
         requires count { length codes.now ≤ 2 ^ 31 }
-        ensures width { IfOk result (λ p. p.width ≡ width) }
-        ensures codes { IfOk result (λ p. p.codes ≡ codes.now) }
+        ensures { IfOk result (λ p. HasCodes width codes.now p) }
     {
         Packed::of(alloc, BitList::from_codes(alloc, codes, width)?)
     }
@@ -117,13 +117,7 @@ impl Packed {
         out.reserve(self.list.len() as usize)?;
         let start = out.len();
         for i in 0..self.list.len() {
-            match out.push(self.list.get(i)) {
-                Ok(()) => {}
-                Err(failed) => {
-                    out.truncate(start);
-                    return Err(AllocError::from(failed));
-                }
-            }
+            push_or_cut(self.list.get(i), start, out)?;
         }
         Ok(())
     }
@@ -145,10 +139,7 @@ impl Packed {
     ) -> Result<Option<(Packed, usize)>, AllocError>
         requires width { width ≤ 32 }
         requires rows { rows ≤ 2 ^ 31 }
-        ensures within { IfOk result (λ found. IfSome found (λ r. r.1 ≤ length bytes.now)) }
-        ensures width { IfOk result (λ found. IfSome found (λ r. r.0.width ≡ width)) }
-        ensures rows { IfOk result (λ found. IfSome found (λ r. length r.0.codes ≡ rows)) }
-        ensures below { IfOk result (λ found. IfSome found (λ r. AllBelow (2 ^ width) r.0.codes)) }
+        ensures read { IfOk result (λ found. IfSome found (λ r. IsRead width rows bytes.now r.0 r.1)) }
         ensures spelled { IfOk result (λ found. IfSome found (λ r. take r.1 bytes.now ≡ packed_bytes width r.0.codes)) }
         ensures none { IfOk result (λ found. IfNone found ((codes rest : List ℕ) → length codes ≡ rows → AllBelow (2 ^ width) codes → bytes.now ≢ packed_bytes width codes ++ rest)) }
     {
@@ -174,13 +165,7 @@ fn places_between(list: &BitList, range: (u32, u32), out: &mut Vec<u32>) -> Resu
     let start = out.len();
     for i in 0..list.len() {
         if is_between(list.get(i), range) {
-            match out.push(i) {
-                Ok(()) => {}
-                Err(failed) => {
-                    out.truncate(start);
-                    return Err(AllocError::from(failed));
-                }
-            }
+            push_or_cut(i, start, out)?;
         }
     }
     Ok(())
@@ -194,13 +179,7 @@ fn places_among(list: &BitList, ranges: &[(u32, u32)], out: &mut Vec<u32>) -> Re
     let start = out.len();
     for i in 0..list.len() {
         if is_in(list.get(i), ranges) {
-            match out.push(i) {
-                Ok(()) => {}
-                Err(failed) => {
-                    out.truncate(start);
-                    return Err(AllocError::from(failed));
-                }
-            }
+            push_or_cut(i, start, out)?;
         }
     }
     Ok(())

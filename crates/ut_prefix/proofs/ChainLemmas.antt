@@ -131,11 +131,9 @@ meets-past op key keys place le = ap (λ (b : Bool). b && meets op key (get_or k
 -- the ranges of one dictionary hold exactly its codes whose key meets the comparison
 between_exact : (op : Cmp) (key : List ℕ) (keys : List (List ℕ)) (start below above end code : ℕ) → IsSplit keys key below above → end ≡ start + length keys
     → is_in (ranges_between op start (start + below) (start + above) end) code ≡ (nat_le start code && code_meets op key keys (code - start))
-between_exact op key keys start below above end code h e =
-    is_in-between op start (start + below) (start + above) end code
+between_exact op key keys start below above end code h e = is_in-between op start (start + below) (start + above) end code
     ∙ elim (cases_lt code start) [
-      | inl front ↦
-          any_of-same op _ _ _ _ _ _ false true false true false true (lt-leb start code front) (lt-ltb code (start + below) (omega (arith, front))) (lt-leb (start + below) code (omega (arith, front))) (lt-ltb code (start + above) (omega (arith, front))) (lt-leb (start + above) code (omega (arith, front))) (lt-ltb code end (omega (arith, front, e)))
+      | inl front ↦ any_of-same op _ _ _ _ _ _ false true false true false true (lt-leb start code front) (lt-ltb code (start + below) (omega (arith, front))) (lt-leb (start + below) code (omega (arith, front))) (lt-ltb code (start + above) (omega (arith, front))) (lt-leb (start + above) code (omega (arith, front))) (lt-ltb code end (omega (arith, front, e)))
           ∙ outside_front op ∙ sym (ap (λ (b : Bool). b && code_meets op key keys (code - start)) (lt-leb start code front))
       | inr on ↦
           inside (le-leb start code on) on ∙ sym (ap (λ (b : Bool). b && code_meets op key keys (code - start)) (le-leb start code on))

@@ -140,8 +140,7 @@ entries-start i before other (key ∷ keys) h = ap (λ (l : List ℕ). l ++ entr
 -- the keys up to the end of a block, and those of the blocks behind it
 entries-inside : (r i : ℕ) (before : List ℕ) (keys : List (List ℕ)) → r < 16 → (i + r) % 16 ≡ 0 → entries i before keys ≡ rest_bytes before (take r keys) ++ entries (i + r) [] (drop r keys)
 entries-inside zero i before keys lt h =
-    let e : i + 0 ≡ i = omega arith in
-    entries-start i before [] keys (omega (arith, h)) ∙ ap (λ (k : ℕ). entries k [] keys) (sym e)
+    let e : i + 0 ≡ i = omega arith in entries-start i before [] keys (omega (arith, h)) ∙ ap (λ (k : ℕ). entries k [] keys) (sym e)
 entries-inside (suc r) i before [] lt h = refl
 entries-inside (suc r) i before (key ∷ keys) lt h =
     let e : suc i + r ≡ i + suc r = omega arith in

@@ -67,8 +67,7 @@ CanDecode-rest_bytes (next ∷ keys) key more h =
 
 pub decoded-rest_bytes : (keys : List (List ℕ)) (key more : List ℕ) → decoded (length keys) key (rest_bytes key keys ++ more) ≡ key ∷ keys
 decoded-rest_bytes [] key more = refl
-decoded-rest_bytes (next ∷ keys) key more =
-    decoded-key_bytes (length keys) key next _ (rest_bytes next keys ++ more) (append_assoc (key_bytes key next) (rest_bytes next keys) more)
+decoded-rest_bytes (next ∷ keys) key more = decoded-key_bytes (length keys) key next _ (rest_bytes next keys ++ more) (append_assoc (key_bytes key next) (rest_bytes next keys) more)
     ∙ ap (λ (l : List (List ℕ)). key ∷ l) (decoded-rest_bytes keys next more)
 
 pub first_key-block_bytes : (key : List ℕ) (keys : List (List ℕ)) (more : List ℕ) → first_key (block_bytes (key ∷ keys) ++ more) ≡ key

@@ -44,5 +44,4 @@ pub read_show : (columns rows : List (List Value)) (first : List Value) → firs
     → Show (led_columns (first ∷ take (length columns - 1) (drop 1 columns))) rows
 read_show columns rows first read some are each =
     let more = take (length columns - 1) (drop 1 columns) in
-    let whole : columns ≡ first ∷ more = drop_more columns 0 first some ∙ ap (λ it. it ∷ drop 1 columns) (sym read) ∙ ap (λ rest. first ∷ rest) (sym (take_rest columns 1)) in
-    led_show first more rows (subst (λ (them : List (List Value)). rows ≡ rows_of (length rows) them) whole are) (subst (λ (them : List (List Value)). All (λ column. length column ≡ length rows) them) whole each)
+    let whole : columns ≡ first ∷ more = drop_more columns 0 first some ∙ ap (λ it. it ∷ drop 1 columns) (sym read) ∙ ap (λ rest. first ∷ rest) (sym (take_rest columns 1)) in led_show first more rows (subst (λ (them : List (List Value)). rows ≡ rows_of (length rows) them) whole are) (subst (λ (them : List (List Value)). All (λ column. length column ≡ length rows) them) whole each)

@@ -193,8 +193,7 @@ places-take test rs k d h below =
 -- the places of one more run
 pub places-hit : (test : ℕ → Bool) (rs : List Run) (k : ℕ) (d : Run) → Ascend 0 rs → k < length rs → test (get_or rs k d).code ≡ true
     → places_from test 0 (expanded (lengths_from 0 (take (k + 1) rs))) ≡ places_from test 0 (expanded (lengths_from 0 (take k rs))) ++ range_with_len (end_from 0 (take k rs)) ((get_or rs k d).end - end_from 0 (take k rs))
-places-hit test rs k d h below hit =
-    places-take test rs k d h below ∙ ap (λ (l : List ℕ). places_from test 0 (expanded (lengths_from 0 (take k rs))) ++ l) (places_from-copies test _ _ _ hit)
+places-hit test rs k d h below hit = places-take test rs k d h below ∙ ap (λ (l : List ℕ). places_from test 0 (expanded (lengths_from 0 (take k rs))) ++ l) (places_from-copies test _ _ _ hit)
 
 pub places-miss : (test : ℕ → Bool) (rs : List Run) (k : ℕ) (d : Run) → Ascend 0 rs → k < length rs → test (get_or rs k d).code ≡ false
     → places_from test 0 (expanded (lengths_from 0 (take (k + 1) rs))) ≡ places_from test 0 (expanded (lengths_from 0 (take k rs)))

@@ -1,7 +1,7 @@
 -- Laws on runs as bytes.
 use Rattle.std.proofs.Common.{◌≡◌, ℕ, zero, suc, ◌+◌, ◌*◌, ◌-◌, ◌^◌, ◌<◌, ◌≤◌, List, [], ◌∷◌, ◌++◌, length, take, drop, get_or, refl, sym, ◌∙◌, ap, arith, append_assoc, add-one, length-append, false}
 use Rattle.std.proofs.lemmas.List.{length-drop}
-use Rattle.std.proofs.Math.Seq.{take-suc}
+use Rattle.std.proofs.Math.Seq.{take-add, take-suc}
 use Rattle.std.proofs.Math.Nat.{pow-le-pow_right}
 use Rattle.ut_bits.specs.Bits.{AllBelow}
 use Rattle.ut_bits.specs.Words.{word_bytes, word_in}
@@ -119,15 +119,6 @@ entries_in-entries_of (r ∷ rs) rest h =
     ∙ ap (λ (l : List ℕ). (r.0, r.1) ∷ entries_in (length rs) l) tail
     ∙ ap (λ ss. (r.0, r.1) ∷ ss) (entries_in-entries_of rs rest h.2)
 
-take-both : (m n : ℕ) (xs : List ℕ) → take (m + n) xs ≡ take m xs ++ take n (drop m xs)
-take-both zero n xs = let e : 0 + n ≡ n = omega arith in rw e refl
-take-both (suc m) n [] = take-none (suc m + n) ∙ sym (take-none n)
-  where
-    take-none : (n : ℕ) → take {A = ℕ} n [] ≡ []
-    take-none zero = refl
-    take-none (suc n) = refl
-take-both (suc m) n (x ∷ xs) = let e : suc m + n ≡ suc (m + n) = omega arith in rw e (ap (λ (l : List ℕ). x ∷ l) (take-both m n xs))
-
 -- the bytes of the entries that are read
 entries_of-entries_in : (n : ℕ) (bytes : List ℕ) → AllBelow 256 bytes → 8 * n ≤ length bytes → entries_of (entries_in n bytes) ≡ take (8 * n) bytes
 entries_of-entries_in zero bytes h le = refl
@@ -136,13 +127,13 @@ entries_of-entries_in (suc n) bytes h le =
     let first : word_bytes (word_in bytes) ≡ take 4 bytes = word_bytes-word_in bytes h (omega arith) in
     let second : word_bytes (word_in (drop 4 bytes)) ≡ take 4 (drop 4 bytes) = word_bytes-word_in (drop 4 bytes) (AllBelow-drop 256 4 bytes h) (omega arith) in
     let rest : entries_of (entries_in n (drop 8 bytes)) ≡ take (8 * n) (drop 8 bytes) = entries_of-entries_in n (drop 8 bytes) (AllBelow-drop 256 8 bytes h) (omega (arith, length-drop 8 bytes)) in
-    let eight : take 8 bytes ≡ take 4 bytes ++ take 4 (drop 4 bytes) = take-both 4 4 bytes in
+    let eight : take 8 bytes ≡ take 4 bytes ++ take 4 (drop 4 bytes) = take-add 4 4 bytes in
     let all : 8 * suc n ≡ 8 + 8 * n = omega arith in
     ap (λ (l : List ℕ). (l ++ word_bytes (word_in (drop 4 bytes))) ++ entries_of (entries_in n (drop 8 bytes))) first
     ∙ ap (λ (l : List ℕ). (take 4 bytes ++ l) ++ entries_of (entries_in n (drop 8 bytes))) second
     ∙ ap (λ (l : List ℕ). (take 4 bytes ++ take 4 (drop 4 bytes)) ++ l) rest
     ∙ ap (λ (l : List ℕ). l ++ take (8 * n) (drop 8 bytes)) (sym eight)
-    ∙ sym (ap (λ (k : ℕ). take k bytes) all ∙ take-both 8 (8 * n) bytes)
+    ∙ sym (ap (λ (k : ℕ). take k bytes) all ∙ take-add 8 (8 * n) bytes)
 
 pub power-fits : (width : ℕ) → width ≤ 32 → 2 ^ width ≤ 2 ^ 32
 power-fits width h = let two : 0 < 2 = omega arith in pow-le-pow_right two h
@@ -172,6 +163,6 @@ pub run_bytes-read : (n : ℕ) (codes bytes : List ℕ) → AllBelow 256 bytes �
     → take (4 + 8 * n) bytes ≡ run_bytes codes
 run_bytes-read n codes bytes h four le count is =
     let size : length (runs_of codes) ≡ word_in bytes = ap (λ l. length l) is ∙ length-entries_in n (drop 4 bytes) ∙ count in
-    take-both 4 (8 * n) bytes
+    take-add 4 (8 * n) bytes
     ∙ ap (λ (l : List ℕ). take 4 bytes ++ l) (sym (entries_of-entries_in n (drop 4 bytes) (AllBelow-drop 256 4 bytes h) le) ∙ ap (λ l. entries_of l) (sym is))
     ∙ ap (λ (l : List ℕ). l ++ entries_of (runs_of codes)) (sym (word_bytes-word_in bytes h four) ∙ ap (λ (k : ℕ). word_bytes k) (sym size))

@@ -80,8 +80,7 @@ runs_of-copies_pos (suc n) c xs pos h = runs_of-copies n c xs h
 pub runs_of-expanded : (limit : ℕ) (rs : List (ℕ × ℕ)) → AreRuns limit rs → runs_of (expanded rs) ≡ rs
 runs_of-expanded limit [] h = refl
 runs_of-expanded limit (r ∷ rs) h =
-    let rest : runs_of (expanded rs) ≡ rs = runs_of-expanded limit rs h.3 in
-    runs_of-copies_pos r.1 r.0 (expanded rs) h.1 (rw rest h.2) ∙ ap (λ ss. (r.0, r.1) ∷ ss) rest
+    let rest : runs_of (expanded rs) ≡ rs = runs_of-expanded limit rs h.3 in runs_of-copies_pos r.1 r.0 (expanded rs) h.1 (rw rest h.2) ∙ ap (λ ss. (r.0, r.1) ∷ ss) rest
 
 expanded-with_code : (c : ℕ) (rs : List (ℕ × ℕ)) → expanded (with_code c rs) ≡ c ∷ expanded rs
 expanded-with_code c [] = refl

@@ -1,5 +1,6 @@
 ghost use Rattle.std.specs.Prelude.{◌≡◌, ◌^◌, ◌<◌, ◌≤◌, ◌↔◌, IsTrue, length, slice_index, IfOk, IfSome, IfNone, OnOk, OnErr, ◌++◌, ◌∷◌, [], ◌≢◌, List, ℕ, take, map};
 ghost use Rattle.ut_bits.specs.Bits.{AllBelow};
+ghost use Rattle.ut_bits.specs.Coded.{HasCodes, IsRead};
 ghost use Rattle.ut_bits.specs.Places.{is_in, places_where};
 ghost use Rattle.ut_rle.specs.Runs.{runs_of, run_bytes};
 ghost use Rattle.ut_mask.specs.Mask.{both};
@@ -11,7 +12,7 @@ use crate::scan::{
 };
 use std::alloc::{AllocError, Global};
 use std::marker::Model;
-use ut_bits::{append_word, read_word};
+use ut_bits::{append_word, cut_at_error, read_word};
 use ut_mask::Mask;
 
 /// A vector of codes by its runs, in order.
@@ -40,8 +41,7 @@ impl Runs {
         requires width { width ≤ 32 }
         requires below { AllBelow (2 ^ width) codes.now }
         requires count { length codes.now ≤ 2 ^ 31 }
-        ensures width { IfOk result (λ p. p.width ≡ width) }
-        ensures codes { IfOk result (λ p. p.codes ≡ codes.now) }
+        ensures { IfOk result (λ p. HasCodes width codes.now p) }
     {
         let mut runs = Vec::new(alloc);
         if codes.is_empty() {
@@ -138,13 +138,8 @@ impl Runs {
     {
         let before = out.len();
         append_word(self.run_count(), out)?;
-        match append_entries(self.runs.as_slice(), out) {
-            Ok(()) => Ok(()),
-            Err(failed) => {
-                out.truncate(before);
-                Err(failed)
-            }
-        }
+        cut_at_error(append_entries(self.runs.as_slice(), out), before, out)?;
+        Ok(())
     }
 
     /// The vector that begins the bytes, and how many bytes it takes.
@@ -156,10 +151,7 @@ impl Runs {
     ) -> Result<Option<(Runs, usize)>, AllocError>
         requires width { width ≤ 32 }
         requires rows { rows ≤ 2 ^ 31 }
-        ensures within { IfOk result (λ found. IfSome found (λ r. r.1 ≤ length bytes.now)) }
-        ensures width { IfOk result (λ found. IfSome found (λ r. r.0.width ≡ width)) }
-        ensures rows { IfOk result (λ found. IfSome found (λ r. length r.0.codes ≡ rows)) }
-        ensures below { IfOk result (λ found. IfSome found (λ r. AllBelow (2 ^ width) r.0.codes)) }
+        ensures read { IfOk result (λ found. IfSome found (λ r. IsRead width rows bytes.now r.0 r.1)) }
         ensures spelled { IfOk result (λ found. IfSome found (λ r. take r.1 bytes.now ≡ run_bytes r.0.codes)) }
         ensures none { IfOk result (λ found. IfNone found ((codes rest : List ℕ) → length codes ≡ rows → AllBelow (2 ^ width) codes → bytes.now ≢ run_bytes codes ++ rest)) }
     {

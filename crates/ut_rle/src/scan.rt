@@ -7,7 +7,7 @@ ghost use Rattle.ut_mask.specs.Mask.{both};
 
 use crate::run::Run;
 use std::alloc::AllocError;
-use ut_bits::{append_range, append_words, is_in};
+use ut_bits::{append_range, append_words, cut_at_error, is_in};
 use ut_mask::Mask;
 
 /// The place of the run that holds a row.
@@ -51,13 +51,7 @@ pub(crate) fn append_places_in(
     let mut from = 0;
     for run in runs {
         if is_in(run.code, ranges) {
-            match append_range(from, run.end, out) {
-                Ok(()) => {}
-                Err(failed) => {
-                    out.truncate(before);
-                    return Err(failed);
-                }
-            }
+            cut_at_error(append_range(from, run.end, out), before, out)?;
         }
         from = run.end;
     }
@@ -87,13 +81,7 @@ pub(crate) fn append_codes(runs: &[Run], out: &mut Vec<u32>) -> Result<(), Alloc
     let mut from = 0;
     for run in runs {
         let count = out.as_slice().len() + (run.end - from) as usize;
-        match out.resize(count, run.code) {
-            Ok(()) => {}
-            Err(failed) => {
-                out.truncate(before);
-                return Err(failed);
-            }
-        }
+        cut_at_error(out.resize(count, run.code), before, out)?;
         from = run.end;
     }
     Ok(())
@@ -108,13 +96,7 @@ pub(crate) fn append_entries(runs: &[Run], out: &mut Vec<u8>) -> Result<(), Allo
     let before = out.len();
     let mut from = 0;
     for run in runs {
-        match append_words(run.code, run.end - from, out) {
-            Ok(()) => {}
-            Err(failed) => {
-                out.truncate(before);
-                return Err(failed);
-            }
-        }
+        cut_at_error(append_words(run.code, run.end - from, out), before, out)?;
         from = run.end;
     }
     Ok(())

@@ -1,11 +1,12 @@
 -- What was read of the bytes of a sparse vector.
 use Rattle.std.proofs.Common.{◌≡◌, ℕ, ◌+◌, ◌-◌, ◌^◌, ◌≤◌, List, ◌++◌, length, take, drop, sym, ◌∙◌, ap, subst, arith}
+use Rattle.std.proofs.Math.Seq.{take-add}
 use Rattle.ut_bits.specs.Bits.{AllBelow, packed_bytes}
 use Rattle.ut_bits.specs.Words.{word_in}
 use Rattle.ut_bits.proofs.BitLemmas.{take-rest}
 use Rattle.ut_sparse.specs.Frequent.{count_of, most_frequent, IsMostFrequent}
 use Rattle.ut_sparse.specs.Sparse.{marks_of, others_of, merged, marked, AreSparse, sparse_bytes}
-use Rattle.ut_sparse.proofs.SparseLemmas.{sparse-front, read-back, take-both, merged-of, count_of-merged, length-marks_of, length-others_of, marked-marks_of, marked-le, AllBelow-marks_of, AllBelow-others_of}
+use Rattle.ut_sparse.proofs.SparseLemmas.{sparse-front, read-back, merged-of, count_of-merged, length-marks_of, length-others_of, marked-marks_of, marked-le, AllBelow-marks_of, AllBelow-others_of}
 
 -- the marks that were read
 pub marks-read : (width : ℕ) (codes rest bytes marks behind : List ℕ) (n : ℕ) → width ≤ 32 → AllBelow (2 ^ width) codes → bytes ≡ sparse_bytes width codes ++ rest → behind ≡ drop 4 bytes
@@ -34,7 +35,7 @@ codes-read width left codes rest bytes marks others last n narrow h e first is e
 pub parts-read : (m n : ℕ) (bytes first second third : List ℕ) → take 4 bytes ≡ first → take m (drop 4 bytes) ≡ second → take n (drop m (drop 4 bytes)) ≡ third → take (4 + m + n) bytes ≡ first ++ (second ++ third)
 parts-read m n bytes first second third e f g =
     let sum : 4 + m + n ≡ 4 + (m + n) = omega arith in
-    ap (λ (k : ℕ). take k bytes) sum ∙ take-both 4 (m + n) bytes ∙ ap (λ (l : List ℕ). take 4 bytes ++ l) (take-both m n (drop 4 bytes))
+    ap (λ (k : ℕ). take k bytes) sum ∙ take-add 4 (m + n) bytes ∙ ap (λ (l : List ℕ). take 4 bytes ++ l) (take-add m n (drop 4 bytes))
     ∙ ap (λ (l : List ℕ). l ++ (take m (drop 4 bytes) ++ take n (drop m (drop 4 bytes)))) e ∙ ap (λ (l : List ℕ). first ++ (l ++ take n (drop m (drop 4 bytes)))) f ∙ ap (λ (l : List ℕ). first ++ (second ++ l)) g
 
 -- none of the others that were read is the code that is left out

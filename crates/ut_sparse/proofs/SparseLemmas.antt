@@ -1,6 +1,6 @@
 -- Laws on the sparse form.
 use Rattle.std.proofs.Common.{◌≡◌, ℕ, zero, suc, ◌+◌, ◌-◌, ◌*◌, ◌/◌, ◌%◌, ◌^◌, ◌<◌, ◌≤◌, eqb, Bool, true, false, cond, inl, inr, if◌then◌else◌, List, [], ◌∷◌, ◌++◌, length, take, drop, get_or, refl, sym, ◌∙◌, ap, subst, arith, add-one, length-append, append_assoc}
-use Rattle.std.proofs.Math.Seq.{take-suc, get_or-append_seam}
+use Rattle.std.proofs.Math.Seq.{take-add, take-suc, get_or-append_seam}
 use Rattle.std.proofs.lemmas.List.{length-take-le, get_or_append_left}
 use Rattle.std.proofs.lemmas.List.Sums.{sum_by-append}
 use Rattle.std.proofs.lemmas.Bool.{cases_lt, ne_eqb}
@@ -100,17 +100,8 @@ take-next xs i h = ap (λ (k : ℕ). take k xs) (add-one i) ∙ take-suc xs i 0 
 pub marked-next : (ms : List ℕ) (i : ℕ) → i < length ms → marked (take (i + 1) ms) ≡ marked (take i ms) + get_or ms i 0
 marked-next ms i h = ap (λ l. marked l) (take-next ms i h) ∙ marked-append (take i ms) (get_or ms i 0 ∷ []) ∙ omega arith
 
-pub take-both : (m n : ℕ) (xs : List ℕ) → take (m + n) xs ≡ take m xs ++ take n (drop m xs)
-take-both zero n xs = let e : 0 + n ≡ n = omega arith in rw e refl
-take-both (suc m) n [] = take-none (suc m + n) ∙ sym (take-none n)
-  where
-    take-none : (n : ℕ) → take {A = ℕ} n [] ≡ []
-    take-none zero = refl
-    take-none (suc n) = refl
-take-both (suc m) n (x ∷ xs) = let e : suc m + n ≡ suc (m + n) = omega arith in rw e (ap (λ (l : List ℕ). x ∷ l) (take-both m n xs))
-
 pub marked-parts : (m n k : ℕ) (ms : List ℕ) → m + n ≡ k → marked (take k ms) ≡ marked (take m ms) + marked (take n (drop m ms))
-marked-parts m n k ms e = ap (λ (j : ℕ). marked (take j ms)) (sym e) ∙ ap (λ l. marked l) (take-both m n ms) ∙ marked-append (take m ms) (take n (drop m ms))
+marked-parts m n k ms e = ap (λ (j : ℕ). marked (take j ms)) (sym e) ∙ ap (λ l. marked l) (take-add m n ms) ∙ marked-append (take m ms) (take n (drop m ms))
 
 pub marked-le : (ms : List ℕ) → AllBelow 2 ms → marked ms ≤ length ms
 marked-le [] b = omega arith

@@ -1,5 +1,6 @@
 ghost use Rattle.std.specs.Prelude.{◌≡◌, ◌+◌, ◌^◌, ◌<◌, ◌≤◌, length, slice_index, IfOk, IfSome, IfNone, OnOk, OnErr, ◌++◌, ◌≢◌, List, ℕ, take, map};
 ghost use Rattle.ut_bits.specs.Bits.{AllBelow};
+ghost use Rattle.ut_bits.specs.Coded.{HasCodes, IsRead};
 ghost use Rattle.ut_bits.specs.Places.{is_in, places_where};
 ghost use Rattle.ut_mask.specs.Mask.{both};
 ghost use Rattle.ut_sparse.specs.Frequent.{count_of, most_frequent, IsMostFrequent};
@@ -10,7 +11,7 @@ use crate::marks::{code_here, marked_rows, merged_codes, rank_at, ranks_of};
 use crate::scan::{append_all_in, append_others_in, keep_marked};
 use std::alloc::{AllocError, Global};
 use std::marker::Model;
-use ut_bits::{BitList, BitListWriter, append_word, is_in, read_word};
+use ut_bits::{BitList, BitListWriter, append_word, cut_at_error, is_in, read_word};
 use ut_mask::Mask;
 
 /// A vector of codes without the most frequent one: a bit for each row marks where another code
@@ -42,8 +43,7 @@ impl Sparse {
         requires width { width ≤ 32 }
         requires below { AllBelow (2 ^ width) codes.now }
         requires count { length codes.now ≤ 2 ^ 31 }
-        ensures width { IfOk result (λ p. p.width ≡ width) }
-        ensures codes { IfOk result (λ p. p.codes ≡ codes.now) }
+        ensures { IfOk result (λ p. HasCodes width codes.now p) }
     {
         let left_out = most_frequent(alloc, codes)?;
         Sparse::leaving_out(alloc, codes, width, left_out)
@@ -61,8 +61,7 @@ impl Sparse {
         requires count { length codes.now ≤ 2 ^ 31 }
         requires counted { left_out.count ≡ count_of left_out.code codes.now }
         requires most { IsMostFrequent codes.now left_out.code }
-        ensures width { IfOk result (λ p. p.width ≡ width) }
-        ensures codes { IfOk result (λ p. p.codes ≡ codes.now) }
+        ensures { IfOk result (λ p. HasCodes width codes.now p) }
     {
         let len = codes.len() as u32;
         let mut marks = BitListWriter::with_capacity(alloc, len, 1)?;
@@ -154,20 +153,9 @@ impl Sparse {
     {
         let before = out.len();
         append_word(self.left_out, out)?;
-        match self.marks.bytes_of(out) {
-            Ok(()) => {}
-            Err(failed) => {
-                out.truncate(before);
-                return Err(failed);
-            }
-        }
-        match self.others.bytes_of(out) {
-            Ok(()) => Ok(()),
-            Err(failed) => {
-                out.truncate(before);
-                Err(failed)
-            }
-        }
+        cut_at_error(self.marks.bytes_of(out), before, out)?;
+        cut_at_error(self.others.bytes_of(out), before, out)?;
+        Ok(())
     }
 
     /// The vector that begins the bytes, and how many bytes it takes.
@@ -179,10 +167,7 @@ impl Sparse {
     ) -> Result<Option<(Sparse, usize)>, AllocError>
         requires width { width ≤ 32 }
         requires rows { rows ≤ 2 ^ 31 }
-        ensures within { IfOk result (λ found. IfSome found (λ r. r.1 ≤ length bytes.now)) }
-        ensures width { IfOk result (λ found. IfSome found (λ r. r.0.width ≡ width)) }
-        ensures rows { IfOk result (λ found. IfSome found (λ r. length r.0.codes ≡ rows)) }
-        ensures below { IfOk result (λ found. IfSome found (λ r. AllBelow (2 ^ width) r.0.codes)) }
+        ensures read { IfOk result (λ found. IfSome found (λ r. IsRead width rows bytes.now r.0 r.1)) }
         ensures spelled { IfOk result (λ found. IfSome found (λ r. take r.1 bytes.now ≡ sparse_bytes width r.0.codes)) }
         ensures none { IfOk result (λ found. IfNone found ((codes rest : List ℕ) → length codes ≡ rows → AllBelow (2 ^ width) codes → bytes.now ≢ sparse_bytes width codes ++ rest)) }
     {

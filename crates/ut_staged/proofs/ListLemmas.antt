@@ -106,10 +106,6 @@ in_pushed (z ∷ xs) x (suc i) y h = by (in_pushed xs x i y h)
     by (Last at is) = Last (ap suc at) is
     by (Before is) = Before is
 
-pub get-pushed_last : {X : Type 0} (xs : List X) (x : X) → slice_get (xs ++ x ∷ []) (length xs) ≡ Some x
-get-pushed_last [] x = refl
-get-pushed_last (y ∷ xs) x = get-pushed_last xs x
-
 pub get-appended : {X : Type 0} (xs ys : List X) (i : ℕ) (x : X) → slice_get xs i ≡ Some x → slice_get (xs ++ ys) i ≡ Some x
 get-appended [] ys i x h = absurd (none_some x h)
 get-appended (y ∷ xs) ys zero x h = h

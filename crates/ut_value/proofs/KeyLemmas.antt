@@ -54,8 +54,7 @@ one_flipped (negsuc m) (negsuc n) hx hy is = ap negsuc (let e : m ≡ n = omega 
 
 -- a number is told by its key
 pub one_number : (x y : ℤ) → IsTrue (is_int x) → IsTrue (is_int y) → int_key x ≡ int_key y → x ≡ y
-one_number x y hx hy is =
-    one_flipped x y hx hy
+one_number x y hx hy is = one_flipped x y hx hy
     (sym (from_be_bytes-to_be_bytes_8 (sign_flipped x) (flipped_below x hx)) ∙ ap (from_be_bytes w64) is ∙ from_be_bytes-to_be_bytes_8 (sign_flipped y) (flipped_below y hy))
 
 pub one_value_each : OneValueEach

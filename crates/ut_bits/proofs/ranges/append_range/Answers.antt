@@ -11,4 +11,4 @@ range-next a i h =
 
 pub loop-i-preserved : goal.loop-i-preserved
 loop-i-preserved c =
-    c.in-Ok.ensures.items ∙ ap (λ l. l ++ c.loop-i.i ∷ []) c.loop-i.invariant ∙ append_assoc c.args.out.now.items _ _ ∙ ap (λ l. c.args.out.now.items ++ l) (range-next c.args.from c.loop-i.i (omega arith))
+    c.in_ok-push_or_cut.ensures.ok ∙ ap (λ l. l ++ c.loop-i.i ∷ []) c.loop-i.invariant ∙ append_assoc c.args.out.now.items _ _ ∙ ap (λ l. c.args.out.now.items ++ l) (range-next c.args.from c.loop-i.i (omega arith))

@@ -1,34 +1,20 @@
-use Rattle.std.proofs.Common.{◌≡◌, ◌-◌, ◌≤◌, ℕ, Bool, true, false, ap, ◌∙◌, arith}
+use Rattle.std.proofs.Common.{◌-◌, ℕ, ap, ◌∙◌, arith}
 use Rattle.std.specs.Int.{from_bool}
 use Rattle.ut_bits.specs.Places.{is_in}
-use Rattle.ut_packed.proofs.WordLemmas.{answers-more, answers-room, answers-none}
+use Rattle.ut_packed.proofs.WordLemmas.{answer-one, answers-more, answers-room, answers-none}
 use Rattle.ut_packed.proofs.masks.bits_among.Goals as goal
 
-bit : (b : Bool) (n : ℕ) → n ≡ from_bool b → n ≤ 1
-bit true n e = omega (arith, e)
-bit false n e = omega (arith, e)
-
 pub loop-at-init : goal.loop-at-init
-loop-at-init c = record {
-  behind = c.requires.order;
-  within = omega arith;
-  bits = answers-none (is_in c.args.ranges.now) c.args.end c.args.list.now.codes;
-}
+loop-at-init c = answers-none (is_in c.args.ranges.now) c.args.start c.args.end c.args.list.now.codes c.requires.order
 
 pub loop-at-preserved : goal.loop-at-preserved
 loop-at-preserved c =
-    let inv = c.loop-at.invariant in
-    record {
-      behind = omega arith;
-      within = omega (arith, inv.within);
-      bits =
-          answers-more (is_in c.args.ranges.now) (c.loop-at.at - 1) c.loop-at.at c.args.end c.loop-at.bits c.from.result c.args.list.now.codes (omega arith) inv.within c.requires.within inv.bits
-          (c.from.ensures ∙ ap from_bool (c.is_in.ensures ∙ ap (λ (n : ℕ). is_in c.args.ranges.now n) c.get.ensures));
-    }
+    answers-more (is_in c.args.ranges.now) c.args.start c.loop-at.at c.args.end c.loop-at.bits c.from.result c.args.list.now.codes (omega arith) c.loop-at.invariant c.requires.within
+    (c.from.ensures ∙ ap from_bool (c.is_in.ensures ∙ ap (λ (n : ℕ). is_in c.args.ranges.now n) c.get.ensures))
 
 pub overflow_add-bits : goal.overflow_add-bits
 overflow_add-bits c = omega (arith, answers-room (is_in c.args.ranges.now) c.loop-at.at c.args.end c.loop-at.bits c.args.list.now.codes (omega (arith, c.requires.few)) c.loop-at.invariant.bits)
 
 pub overflow_add-bits-in-loop-at : goal.overflow_add-bits-in-loop-at
 overflow_add-bits-in-loop-at c =
-    omega (arith, answers-room (is_in c.args.ranges.now) c.loop-at.at c.args.end c.loop-at.bits c.args.list.now.codes (omega (arith, c.requires.few)) c.loop-at.invariant.bits, bit c.is_in.result c.from.result c.from.ensures)
+    omega (arith, answers-room (is_in c.args.ranges.now) c.loop-at.at c.args.end c.loop-at.bits c.args.list.now.codes (omega (arith, c.requires.few)) c.loop-at.invariant.bits, answer-one c.is_in.result c.from.result c.from.ensures)

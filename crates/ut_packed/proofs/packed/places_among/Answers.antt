@@ -3,7 +3,7 @@ use Rattle.std.proofs.lemmas.List.{take_all}
 use Rattle.ut_bits.specs.Places.{places_from, is_in}
 use Rattle.ut_bits.proofs.PlacesLemmas.{places_from-take, places_from-one, places_from-none}
 use Rattle.ut_packed.proofs.packed.places_among.Goals as goal
-use Rattle.ut_packed.proofs.packed.places_among.Goals.{then-is_in+in-Ok, else-is_in}
+use Rattle.ut_packed.proofs.packed.places_among.Goals.{then-is_in+in_ok-push_or_cut, else-is_in}
 
 pub loop-i-preserved : goal.loop-i-preserved
 loop-i-preserved c =
@@ -13,7 +13,7 @@ loop-i-preserved c =
     let joined : (tail : List ℕ) → places_from (is_in c.args.ranges.now) c.loop-i.i (get_or c.args.list.now.codes c.loop-i.i 0 ∷ []) ≡ tail → c.loop-i.out.items ++ tail ≡ c.args.out.now.items ++ places_from (is_in c.args.ranges.now) 0 (take (c.loop-i.i + 1) c.args.list.now.codes) =
     λ tail e. ap (λ (l : List ℕ). l ++ tail) c.loop-i.invariant ∙ append_assoc c.args.out.now.items _ tail ∙ ap (λ (l : List ℕ). c.args.out.now.items ++ l) (ap (λ (l : List ℕ). places_from (is_in c.args.ranges.now) 0 (take c.loop-i.i c.args.list.now.codes) ++ l) (sym e) ∙ sym more) in
     elim c.if-is_in.branch [
-      | then-is_in+in-Ok w ↦ ap (λ v. v.items) w.out-is ∙ w.in-Ok.ensures.items ∙ joined (c.loop-i.i ∷ []) (places_from-one (is_in c.args.ranges.now) c.loop-i.i _ (sym test ∙ w.if-is_in.true))
+      | then-is_in+in_ok-push_or_cut w ↦ ap (λ v. v.items) w.out-is ∙ w.in_ok-push_or_cut.ensures.ok ∙ joined (c.loop-i.i ∷ []) (places_from-one (is_in c.args.ranges.now) c.loop-i.i _ (sym test ∙ w.if-is_in.true))
       | else-is_in w ↦ ap (λ v. v.items) w.out-is ∙ sym (append-nil c.loop-i.out.items) ∙ joined [] (places_from-none (is_in c.args.ranges.now) c.loop-i.i _ (sym test ∙ w.if-is_in.false))
     ]
 

@@ -39,9 +39,6 @@ invariant_of-list c =
     let within : byte_count (c.args.rows * c.args.width) ≤ length c.args.bytes.now = subst (λ (k : ℕ). byte_count k ≤ length c.args.bytes.now) (bits c) c.if-bytes-count.false in
     (c.requires.width, c.requires.rows, kept-length _ _ _ within (kept c), subst (λ (k : ℕ). k < 2 ^ (c.args.rows * c.args.width)) (sym (kept-number _ _ _ (kept c))) (fits c), kept-below _ _ _ bytes (kept c))
 
-pub returns-clause-rows : goal.returns-clause-rows
-returns-clause-rows c = length-fields _ _ _
-
 pub returns-clause-spelled : goal.returns-clause-spelled
 returns-clause-spelled c =
     let bytes : AllBelow 256 c.args.bytes.now = AllBelow-from_places 256 c.args.bytes.now (λ i. omega (arith, c.type_inv.bytes i)) in
@@ -50,5 +47,5 @@ returns-clause-spelled c =
     ∙ sym (kept-take _ _ _ within (kept c))
     ∙ sym (packed_bytes-fields c.args.width c.args.rows c.extend_from_slice-2.new.self.items (kept-below _ _ _ bytes (kept c)) (omega (arith, kept-length _ _ _ within (kept c))) (subst (λ (k : ℕ). k < 2 ^ (c.args.rows * c.args.width)) (sym (kept-number _ _ _ (kept c))) (fits c)))
 
-pub returns-clause-below : goal.returns-clause-below
-returns-clause-below c = AllBelow-fields _ _ _
+pub returns-clause-read : goal.returns-clause-read
+returns-clause-read c = record { within = c.if-bytes-count.false; width = refl; rows = length-fields _ _ _; below = AllBelow-fields _ _ _ }

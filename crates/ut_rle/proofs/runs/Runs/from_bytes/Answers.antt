@@ -1,4 +1,5 @@
-use Rattle.std.proofs.Common.{◌≡◌, ℕ, ◌-◌, ◌^◌, List, length, take, drop, sym, ap, subst, ◌∙◌, arith}
+use Rattle.std.proofs.Common.{◌≡◌, ℕ, ◌-◌, ◌^◌, List, length, take, drop, refl, sym, ap, subst, ◌∙◌, arith}
+use Rattle.std.proofs.lemmas.List.{length-drop}
 use Rattle.ut_bits.specs.Bits.{AllBelow}
 use Rattle.ut_bits.proofs.BitLemmas.{AllBelow-from_places, take-rest}
 use Rattle.ut_rle.specs.Runs.{expanded, runs_of, entries_in, rows_of, AreRuns}
@@ -27,16 +28,17 @@ returns-in_default-clause-none c = λ codes rest rows below is.
     ap (λ (l : List ℕ). entries_in c.read_word-count.result l) (take-rest 4 c.args.bytes.now) ∙ ap (λ (n : ℕ). entries_in n (drop 4 c.args.bytes.now)) (c.read_word-count.ensures ∙ front.1) ∙ front.3 in
     none (subst (λ l. AreRuns (2 ^ c.args.width) l) (sym listed) front.4) (ap (λ l. rows_of l) listed ∙ front.5 ∙ rows)
 
-pub returns-clause-rows : goal.returns-clause-rows
-returns-clause-rows c =
+pub returns-clause-read : goal.returns-clause-read
+returns-clause-read c =
     let proper = rw c.in-Some.is at c.in_ok-runs.ensures.proper in
     let rows = rw c.in-Some.is at c.in_ok-runs.ensures.rows in
-    omega (arith, length-expanded _ 0 c.in-Some.runs.items proper, rows)
-
-pub returns-clause-below : goal.returns-clause-below
-returns-clause-below c =
-    let proper = rw c.in-Some.is at c.in_ok-runs.ensures.proper in
-    AllBelow-expanded _ _ proper
+    let size = ap (λ (l : List ℕ). length l) (take-rest 4 c.args.bytes.now) in
+    record {
+      within = omega (arith, size, length-drop 4 c.args.bytes.now, c.if-bytes-lt4.false, c.if-entries-count.false);
+      width = refl;
+      rows = omega (arith, length-expanded _ 0 c.in-Some.runs.items proper, rows);
+      below = AllBelow-expanded _ _ proper;
+    }
 
 pub returns-clause-spelled : goal.returns-clause-spelled
 returns-clause-spelled c =

@@ -1,4 +1,4 @@
-use Rattle.std.proofs.Common.{◌≡◌, ℕ, ◌-◌, ◌^◌, ◌++◌, length, take, sym, subst, ◌∙◌, arith}
+use Rattle.std.proofs.Common.{◌≡◌, ℕ, ◌-◌, ◌^◌, ◌++◌, length, take, refl, sym, subst, ◌∙◌, arith}
 use Rattle.std.proofs.lemmas.Bool.{ne_eqb}
 use Rattle.std.proofs.lemmas.List.{take_all}
 use Rattle.ut_bits.proofs.BitLemmas.{AllBelow-at}
@@ -44,11 +44,11 @@ invariant_of-result-2 c =
     let done = write-run (2 ^ c.args.width) c.loop-i.runs.items c.push-2.new.self.items _ _ c.in_ok-push-2.ensures.items (omega (arith, inv.begun)) whole inv.runs inv.other inv.below in
     (c.requires.width, c.requires.count, sym done.0, done.2)
 
-pub returns-clause-codes : goal.returns-clause-codes
-returns-clause-codes c =
+pub returns : goal.returns
+returns c =
     let inv = c.loop-i.invariant in
     let at : c.loop-i.i ≡ length c.args.codes.now = omega (arith, inv.within) in
     let whole : expanded (lengths_from 0 c.loop-i.runs.items) ++ copies (length c.args.codes.now - end_from 0 c.loop-i.runs.items) c.loop-i.current ≡ c.args.codes.now =
     subst (λ (n : ℕ). expanded (lengths_from 0 c.loop-i.runs.items) ++ copies (n - end_from 0 c.loop-i.runs.items) c.loop-i.current ≡ take n c.args.codes.now) at inv.codes ∙ take_all _ c.args.codes.now (omega arith) in
     let done = write-run (2 ^ c.args.width) c.loop-i.runs.items c.push-2.new.self.items _ _ c.in_ok-push-2.ensures.items (omega (arith, inv.begun)) whole inv.runs inv.other inv.below in
-    done.1
+    record { width = refl; codes = done.1 }

@@ -1,5 +1,6 @@
 use Rattle.std.proofs.Common.{◌≡◌, ℕ, ◌-◌, ◌^◌, ◌<◌, ◌++◌, List, length, take, drop, ap, refl, sym, subst, ◌∙◌, arith}
 use Rattle.std.proofs.Math.Nat.{div-eq_of_lt}
+use Rattle.std.proofs.lemmas.List.{length-drop}
 use Rattle.std.proofs.lemmas.Nat.{pow_pos}
 use Rattle.ut_bits.specs.Bits.{AllBelow, packed_bytes}
 use Rattle.ut_bits.specs.Words.{word_bytes}
@@ -30,24 +31,24 @@ returns-in_default-clause-none c = λ codes rest rows below is.
 
 pub ranks_of-requires-clause-width : goal.ranks_of-requires-clause-width
 ranks_of-requires-clause-width c =
-    rw c.in-Some.is at c.in_ok-marks.ensures.width
+    (rw c.in-Some.is at c.in_ok-marks.ensures.read).width
 
 pub ranks_of-requires-clause-bits : goal.ranks_of-requires-clause-bits
 ranks_of-requires-clause-bits c =
-    rw c.in-Some.is at c.in_ok-marks.ensures.below
+    (rw c.in-Some.is at c.in_ok-marks.ensures.read).below
 
 pub from_bytes-requires-2-clause-rows : goal.from_bytes-requires-2-clause-rows
 from_bytes-requires-2-clause-rows c =
-    let size = rw c.in-Some.is at c.in_ok-marks.ensures.rows in
-    let bits = rw c.in-Some.is at c.in_ok-marks.ensures.below in
+    let size = (rw c.in-Some.is at c.in_ok-marks.ensures.read).rows in
+    let bits = (rw c.in-Some.is at c.in_ok-marks.ensures.read).below in
     omega (arith, c.marked_rows-marked.ensures, marked-le c.in-Some.marks.codes bits, size, c.requires.rows)
 
 pub returns-in_default-2-clause-none : goal.returns-in_default-2-clause-none
 returns-in_default-2-clause-none c = λ codes rest rows below is.
     let behind = take-rest 4 c.args.bytes.now in
-    let size = rw c.in-Some.is at c.in_ok-marks.ensures.rows in
-    let bits = rw c.in-Some.is at c.in_ok-marks.ensures.below in
-    let within = rw c.in-Some.is at c.in_ok-marks.ensures.within in
+    let size = (rw c.in-Some.is at c.in_ok-marks.ensures.read).rows in
+    let bits = (rw c.in-Some.is at c.in_ok-marks.ensures.read).below in
+    let within = (rw c.in-Some.is at c.in_ok-marks.ensures.read).within in
     let spelled = rw c.in-Some.is at c.in_ok-marks.ensures.spelled in
     let read = marks-read c.args.width codes rest c.args.bytes.now c.in-Some.marks.codes _ c.in-Some.marks_len c.requires.width below is behind (size ∙ sym rows) bits within spelled in
     let none = rw c.in_default-2.is at c.in_ok-others.ensures.none in
@@ -55,41 +56,41 @@ returns-in_default-2-clause-none c = λ codes rest rows below is.
 
 pub merged_codes-requires-clause-few : goal.merged_codes-requires-clause-few
 merged_codes-requires-clause-few c =
-    let size = rw c.in-Some.is at c.in_ok-marks.ensures.rows in
+    let size = (rw c.in-Some.is at c.in_ok-marks.ensures.read).rows in
     omega (arith, size, c.requires.rows)
 
 pub merged_codes-requires-clause-width : goal.merged_codes-requires-clause-width
-merged_codes-requires-clause-width c = rw c.in-Some.is at c.in_ok-marks.ensures.width
+merged_codes-requires-clause-width c = (rw c.in-Some.is at c.in_ok-marks.ensures.read).width
 
 pub merged_codes-requires-clause-paired : goal.merged_codes-requires-clause-paired
 merged_codes-requires-clause-paired c =
-    let size2 = rw c.in-Some-2.is at c.in_ok-others.ensures.rows in
+    let size2 = (rw c.in-Some-2.is at c.in_ok-others.ensures.read).rows in
     let count = c.marked_rows-marked.ensures in
     sym (size2 ∙ count)
 
 pub most_frequent-requires : goal.most_frequent-requires
 most_frequent-requires c =
-    let size = rw c.in-Some.is at c.in_ok-marks.ensures.rows in
+    let size = (rw c.in-Some.is at c.in_ok-marks.ensures.read).rows in
     let listed : c.as_slice-2.result.now ≡ merged c.read_word-left_out.result c.in-Some.marks.codes c.in-Some-2.others.codes = c.as_slice-2.ensures.value ∙ c.in_ok-codes.ensures in
     record { count = omega (arith, ap (λ l. length l) listed, length-merged c.read_word-left_out.result c.in-Some.marks.codes c.in-Some-2.others.codes, size, c.requires.rows) }
 
 pub returns-then-top-left_out-clause-none : goal.returns-then-top-left_out-clause-none
 returns-then-top-left_out-clause-none c = λ codes rest rows below is.
-    let marks : IsListRead 1 c.args.rows c.in-Some.marks_len _ c.in-Some.marks.codes = record { rows = rw c.in-Some.is at c.in_ok-marks.ensures.rows; below = rw c.in-Some.is at c.in_ok-marks.ensures.below; within = rw c.in-Some.is at c.in_ok-marks.ensures.within; spelled = rw c.in-Some.is at c.in_ok-marks.ensures.spelled } in
-    let others : IsListRead c.args.width (marked c.in-Some.marks.codes) c.in-Some-2.others_len _ c.in-Some-2.others.codes = record { rows = rw c.in-Some-2.is at c.in_ok-others.ensures.rows ∙ c.marked_rows-marked.ensures; below = rw c.in-Some-2.is at c.in_ok-others.ensures.below; within = rw c.in-Some-2.is at c.in_ok-others.ensures.within; spelled = rw c.in-Some-2.is at c.in_ok-others.ensures.spelled } in
+    let marks : IsListRead 1 c.args.rows c.in-Some.marks_len _ c.in-Some.marks.codes = record { rows = (rw c.in-Some.is at c.in_ok-marks.ensures.read).rows; below = (rw c.in-Some.is at c.in_ok-marks.ensures.read).below; within = (rw c.in-Some.is at c.in_ok-marks.ensures.read).within; spelled = rw c.in-Some.is at c.in_ok-marks.ensures.spelled } in
+    let others : IsListRead c.args.width (marked c.in-Some.marks.codes) c.in-Some-2.others_len _ c.in-Some-2.others.codes = record { rows = (rw c.in-Some-2.is at c.in_ok-others.ensures.read).rows ∙ c.marked_rows-marked.ensures; below = (rw c.in-Some-2.is at c.in_ok-others.ensures.read).below; within = (rw c.in-Some-2.is at c.in_ok-others.ensures.read).within; spelled = rw c.in-Some-2.is at c.in_ok-others.ensures.spelled } in
     let read = all-read c.args.width c.read_word-left_out.result codes rest c.args.bytes.now c.in-Some.marks.codes c.in-Some-2.others.codes _ _ c.args.rows c.in-Some.marks_len c.in-Some-2.others_len c.requires.width below is rows c.read_word-left_out.ensures (take-rest 4 c.args.bytes.now) refl marks others in
     c.if-top-left_out.true (c.in_ok-top.ensures.code ∙ ap (λ l. most_frequent l) (c.as_slice-2.ensures.value ∙ c.in_ok-codes.ensures ∙ read.whole) ∙ sym read.word)
 
 pub overflow_sub-rows : goal.overflow_sub-rows
 overflow_sub-rows c =
-    let size = rw c.in-Some.is at c.in_ok-marks.ensures.rows in
-    let bits = rw c.in-Some.is at c.in_ok-marks.ensures.below in
+    let size = (rw c.in-Some.is at c.in_ok-marks.ensures.read).rows in
+    let bits = (rw c.in-Some.is at c.in_ok-marks.ensures.read).below in
     omega (arith, c.marked_rows-marked.ensures, marked-le c.in-Some.marks.codes bits, size)
 
 pub returns-then-top-rows-clause-none : goal.returns-then-top-rows-clause-none
 returns-then-top-rows-clause-none c = λ codes rest rows below is.
-    let marks : IsListRead 1 c.args.rows c.in-Some.marks_len _ c.in-Some.marks.codes = record { rows = rw c.in-Some.is at c.in_ok-marks.ensures.rows; below = rw c.in-Some.is at c.in_ok-marks.ensures.below; within = rw c.in-Some.is at c.in_ok-marks.ensures.within; spelled = rw c.in-Some.is at c.in_ok-marks.ensures.spelled } in
-    let others : IsListRead c.args.width (marked c.in-Some.marks.codes) c.in-Some-2.others_len _ c.in-Some-2.others.codes = record { rows = rw c.in-Some-2.is at c.in_ok-others.ensures.rows ∙ c.marked_rows-marked.ensures; below = rw c.in-Some-2.is at c.in_ok-others.ensures.below; within = rw c.in-Some-2.is at c.in_ok-others.ensures.within; spelled = rw c.in-Some-2.is at c.in_ok-others.ensures.spelled } in
+    let marks : IsListRead 1 c.args.rows c.in-Some.marks_len _ c.in-Some.marks.codes = record { rows = (rw c.in-Some.is at c.in_ok-marks.ensures.read).rows; below = (rw c.in-Some.is at c.in_ok-marks.ensures.read).below; within = (rw c.in-Some.is at c.in_ok-marks.ensures.read).within; spelled = rw c.in-Some.is at c.in_ok-marks.ensures.spelled } in
+    let others : IsListRead c.args.width (marked c.in-Some.marks.codes) c.in-Some-2.others_len _ c.in-Some-2.others.codes = record { rows = (rw c.in-Some-2.is at c.in_ok-others.ensures.read).rows ∙ c.marked_rows-marked.ensures; below = (rw c.in-Some-2.is at c.in_ok-others.ensures.read).below; within = (rw c.in-Some-2.is at c.in_ok-others.ensures.read).within; spelled = rw c.in-Some-2.is at c.in_ok-others.ensures.spelled } in
     let read = all-read c.args.width c.read_word-left_out.result codes rest c.args.bytes.now c.in-Some.marks.codes c.in-Some-2.others.codes _ _ c.args.rows c.in-Some.marks_len c.in-Some-2.others_len c.requires.width below is rows c.read_word-left_out.ensures (take-rest 4 c.args.bytes.now) refl marks others in
     let left = c.read_word-left_out.result in
     let all = count_of-merged left c.in-Some.marks.codes c.in-Some-2.others.codes marks.below (sym others.rows) in
@@ -98,33 +99,36 @@ returns-then-top-rows-clause-none c = λ codes rest rows below is.
 
 pub invariant_of-sparse : goal.invariant_of-sparse
 invariant_of-sparse c =
-    let size = rw c.in-Some.is at c.in_ok-marks.ensures.rows in
-    let bits = rw c.in-Some.is at c.in_ok-marks.ensures.below in
-    let paired = sym (rw c.in-Some-2.is at c.in_ok-others.ensures.rows ∙ c.marked_rows-marked.ensures) in
+    let size = (rw c.in-Some.is at c.in_ok-marks.ensures.read).rows in
+    let bits = (rw c.in-Some.is at c.in_ok-marks.ensures.read).below in
+    let paired = sym ((rw c.in-Some-2.is at c.in_ok-others.ensures.read).rows ∙ c.marked_rows-marked.ensures) in
     let left = c.read_word-left_out.result in
     let sparse = sparse-by left c.in_ok-top.top.code c.in_ok-top.top.count c.args.rows c.in-Some.marks.codes c.in-Some-2.others.codes c.as_slice-2.result.now (c.as_slice-2.ensures.value ∙ c.in_ok-codes.ensures) bits paired size c.if-top-left_out.false c.in_ok-top.ensures.count c.in_ok-top.ensures.most (omega (arith, c.if-top-rows.false, c.marked_rows-marked.ensures)) in
-    (rw c.in-Some.is at c.in_ok-marks.ensures.width, omega (arith, size, c.requires.rows), sparse.0, c.in_ok-ranks.ensures, sparse.1)
+    ((rw c.in-Some.is at c.in_ok-marks.ensures.read).width, omega (arith, size, c.requires.rows), sparse.0, c.in_ok-ranks.ensures, sparse.1)
 
-pub returns-clause-rows : goal.returns-clause-rows
-returns-clause-rows c =
-    let size = rw c.in-Some.is at c.in_ok-marks.ensures.rows in
-    length-merged c.read_word-left_out.result c.in-Some.marks.codes _ ∙ size
-
-pub returns-clause-below : goal.returns-clause-below
-returns-clause-below c =
-    let bits = rw c.in-Some.is at c.in_ok-marks.ensures.below in
-    let size2 = rw c.in-Some-2.is at c.in_ok-others.ensures.rows in
-    let small2 = rw c.in-Some-2.is at c.in_ok-others.ensures.below in
+pub returns-clause-read : goal.returns-clause-read
+returns-clause-read c =
+    let marks = rw c.in-Some.is at c.in_ok-marks.ensures.read in
+    let others = rw c.in-Some-2.is at c.in_ok-others.ensures.read in
     let count = c.marked_rows-marked.ensures in
     let small : c.read_word-left_out.result < 2 ^ c.args.width = subst (λ (n : ℕ). n < 2 ^ c.args.width) c.from.ensures (div-zero c.from.result (2 ^ c.args.width) (pow_pos c.args.width) c.if-from-width-ne0.false) in
-    AllBelow-merged (2 ^ c.args.width) c.read_word-left_out.result c.in-Some.marks.codes c.in-Some-2.others.codes bits (sym (size2 ∙ count)) small small2
+    let behind = take-rest 4 c.args.bytes.now in
+    let behind2 = take-rest c.in-Some.marks_len (take (length c.args.bytes.now - 4) (drop 4 c.args.bytes.now)) in
+    let size = ap (λ (l : List ℕ). length l) behind in
+    let size2 = ap (λ (l : List ℕ). length l) behind2 in
+    record {
+      within = omega (arith, marks.within, others.within, size, size2, length-drop 4 c.args.bytes.now, length-drop c.in-Some.marks_len (take (length c.args.bytes.now - 4) (drop 4 c.args.bytes.now)), c.if-bytes-lt4.false);
+      width = others.width;
+      rows = length-merged c.read_word-left_out.result c.in-Some.marks.codes _ ∙ marks.rows;
+      below = AllBelow-merged (2 ^ c.args.width) c.read_word-left_out.result c.in-Some.marks.codes c.in-Some-2.others.codes marks.below (sym (others.rows ∙ count)) small others.below;
+    }
 
 pub returns-clause-spelled : goal.returns-clause-spelled
 returns-clause-spelled c =
     let behind = take-rest 4 c.args.bytes.now in
-    let size = rw c.in-Some.is at c.in_ok-marks.ensures.rows in
-    let bits = rw c.in-Some.is at c.in_ok-marks.ensures.below in
-    let paired = sym (rw c.in-Some-2.is at c.in_ok-others.ensures.rows ∙ c.marked_rows-marked.ensures) in
+    let size = (rw c.in-Some.is at c.in_ok-marks.ensures.read).rows in
+    let bits = (rw c.in-Some.is at c.in_ok-marks.ensures.read).below in
+    let paired = sym ((rw c.in-Some-2.is at c.in_ok-others.ensures.read).rows ∙ c.marked_rows-marked.ensures) in
     let left = c.read_word-left_out.result in
     let sparse = sparse-by left c.in_ok-top.top.code c.in_ok-top.top.count c.args.rows c.in-Some.marks.codes c.in-Some-2.others.codes c.as_slice-2.result.now (c.as_slice-2.ensures.value ∙ c.in_ok-codes.ensures) bits paired size c.if-top-left_out.false c.in_ok-top.ensures.count c.in_ok-top.ensures.most (omega (arith, c.if-top-rows.false, c.marked_rows-marked.ensures)) in
     let spelled = rw c.in-Some.is at c.in_ok-marks.ensures.spelled in

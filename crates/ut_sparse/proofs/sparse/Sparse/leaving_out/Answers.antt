@@ -68,10 +68,13 @@ invariant_of-result c =
       subst (λ l. IsMostFrequent l left) (sym whole) c.requires.most,
     )
 
-pub returns-clause-codes : goal.returns-clause-codes
-returns-clause-codes c =
+pub returns : goal.returns
+returns c =
     let left = c.args.left_out.code in
     let all : take c.loop-code.code-index c.args.codes.now ≡ c.args.codes.now = take_all c.loop-code.code-index c.args.codes.now (omega arith) in
     let marks : c.in_ok-marks-2.marks.codes ≡ marks_of left c.args.codes.now = c.in_ok-marks-2.ensures.codes ∙ c.loop-code.invariant.marks ∙ ap (λ l. marks_of left l) all in
     let others : c.in_ok-others-2.others.codes ≡ others_of left c.args.codes.now = c.in_ok-others-2.ensures.codes ∙ c.loop-code.invariant.others ∙ ap (λ l. others_of left l) all in
-    ap (λ l. merged left l c.in_ok-others-2.others.codes) marks ∙ ap (λ l. merged left (marks_of left c.args.codes.now) l) others ∙ merged-of left c.args.codes.now
+    record {
+      width = c.in_ok-others-2.ensures.width ∙ c.loop-code.invariant.width;
+      codes = ap (λ l. merged left l c.in_ok-others-2.others.codes) marks ∙ ap (λ l. merged left (marks_of left c.args.codes.now) l) others ∙ merged-of left c.args.codes.now;
+    }
