@@ -111,12 +111,10 @@ module _ (head : Table) (row : Row) where
 
 -- the same, as a test has it
 pub can-look-there : (head : Table) (s : Staged) (columns : List Column) (l : Sight) → columns ≡ head.columns → length head.columns ≡ 1 → HasOneRow columns s → l ≡ record { tables = head ∷ []; staged = s ∷ []; fates = Committed 0 ∷ []; snapshot = 0; own = None } → CanLook l
-can-look-there head s columns l same one h is = let few : length head.columns ≤ 64 = omega (arith, one) in
-    can-look head h.row few (subst (λ (cs : List Column). IsTrue (fits_columns cs h.row.values)) same h.fits) h.kept l
+can-look-there head s columns l same one h is = let few : length head.columns ≤ 64 = omega (arith, one) in can-look head h.row few (subst (λ (cs : List Column). IsTrue (fits_columns cs h.row.values)) same h.fits) h.kept l
     (is ∙ (λ i. record { tables = head ∷ []; staged = (h.is ∙ ap (λ (cs : List Column). one_table cs h.row) same) i ∷ []; fates = Committed 0 ∷ []; snapshot = 0; own = None }))
 
 pub shot-there : (head : Table) (s : Staged) (columns : List Column) (l : Sight) (query : Query) (shot : ShotValue) → columns ≡ head.columns → length head.columns ≡ 1 → HasOneRow columns s → l ≡ record { tables = head ∷ []; staged = s ∷ []; fates = Committed 0 ∷ []; snapshot = 0; own = None }
     → ((seen : List (ℕ × Stored)) → Sees l seen → IsShot query l.tables seen shot) → (state : State) × IsShotOf query state shot
-shot-there head s columns l query shot same one h is taken = let few : length head.columns ≤ 64 = omega (arith, one) in
-    shot-of head h.row few (subst (λ (cs : List Column). IsTrue (fits_columns cs h.row.values)) same h.fits) h.kept query l shot
+shot-there head s columns l query shot same one h is taken = let few : length head.columns ≤ 64 = omega (arith, one) in shot-of head h.row few (subst (λ (cs : List Column). IsTrue (fits_columns cs h.row.values)) same h.fits) h.kept query l shot
     (is ∙ (λ i. record { tables = head ∷ []; staged = (h.is ∙ ap (λ (cs : List Column). one_table cs h.row) same) i ∷ []; fates = Committed 0 ∷ []; snapshot = 0; own = None })) taken

@@ -19,11 +19,6 @@ there_behind s [] i lt h = absurd (omega arith)
 there_behind s (f ∷ fs) zero lt h = h.1
 there_behind s (f ∷ fs) (suc i) lt h = there_behind s fs i (omega arith) h
 
-pub there_first : (s : Staged) (found : List Found) (i : ℕ) (d : Found) → i < length found → AreThere s (hits_of (drop i found)) → IsSome (row_at s (get_or found i d).place)
-there_first s [] i d lt h = absurd (omega arith)
-there_first s (f ∷ fs) zero d lt h = h.0
-there_first s (f ∷ fs) (suc i) d lt h = there_first s fs i d (omega arith) h
-
 stamp-is : (o : Option StagedRow) (stamp : Stamp) → IsSome o → ((row : StagedRow) → o ≡ Some row → stamp ≡ row.stamp) → stamp ≡ stamp_in o
 stamp-is None stamp h k = cc
 stamp-is (Some row) stamp h k = k row refl

@@ -187,8 +187,7 @@ module _ (job : JobValue) (old new : NewRows) (counts places : List ℕ) (e : jo
   permuted = moved-there kept job.width old.ids.items (shared_dicts old.dicts.items) (codes_in old.codes.items) counts places h.wide h.ids_are size-dicts size-codes soles counts_are there sorted
 
   same-rows : after ≡ new_rows job
-  same-rows =
-      moved-resorted kept job.width old.ids.items (shared_dicts old.dicts.items) (codes_in old.codes.items) counts places h.wide h.ids_are size-dicts size-codes soles counts_are there sorted (is.differ e)
+  same-rows = moved-resorted kept job.width old.ids.items (shared_dicts old.dicts.items) (codes_in old.codes.items) counts places h.wide h.ids_are size-dicts size-codes soles counts_are there sorted (is.differ e)
       ∙ sym (ap (λ kind. arranged kind (kept_rows job)) e)
 
   size-olds : length old.olds.items ≡ length (kept_rows job)

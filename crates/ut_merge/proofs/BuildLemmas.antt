@@ -1,5 +1,6 @@
 -- The new part is of the new rows, and main with it is main behind the merge.
 use Rattle.std.proofs.Common.{◌≡◌, inl, inr, ℕ, ◌+◌, ◌<◌, ◌≤◌, List, [], ◌∷◌, ◌++◌, length, map, get_or, sym, ◌∙◌, ap, subst, arith}
+use Rattle.std.specs.Arc.{arc_value}
 use Rattle.std.specs.Global.{Vec}
 use Rattle.std.proofs.lemmas.Bool.{cases_lt}
 use Rattle.std.proofs.lemmas.List.{get_or-map, get_or_append_left, get_or_at, get_or_default, ext_get_or, same_lists, length-append, length-map}
@@ -8,7 +9,7 @@ use Rattle.ut_bits.specs.Bits.{AllBelow}
 use Rattle.ut_codes.specs.Reached.{Reached}
 use Rattle.ut_own.specs.Own.{own_dict, cells_of}
 use Rattle.ut_prefix.specs.Chain.{end_to_end, shared_dicts}
-use Rattle.ut_prefix.proofs.ChainLemmas.{end_to_end-push}
+use Rattle.ut_prefix.proofs.ChainLemmas.{dict_at, end_to_end-push}
 use Rattle.ut_l2.specs.KeyRows.{KeyRow, cells_at, key_at, no_row}
 use Rattle.ut_l2.specs.Delta.{row_at, rows_of}
 use Rattle.ut_l2.proofs.DeltaLemmas.{rows-length, row-get}
@@ -114,8 +115,7 @@ module _ (job : JobValue) (rows : List KeyRow) (staying : MainValue) (ids : List
       ∙ get_or_default (dicts_behind staying) j [] d (omega (arith, low, length-dicts_behind staying, ap (λ (m : MainValue). m.width) at)))
 
   pub part-rows : (part_value ids columns).rows ≡ rows
-  part-rows =
-      rows-made rows ids (map (λ (c : ColumnValue). c.cells) columns) job.width wide ids_are (length-map columns (λ (c : ColumnValue). c.cells) ∙ h.count)
+  part-rows = rows-made rows ids (map (λ (c : ColumnValue). c.cells) columns) job.width wide ids_are (length-map columns (λ (c : ColumnValue). c.cells) ∙ h.count)
       (λ j low. let count = h.count in get_or-map (λ (c : ColumnValue). c.cells) columns j no_column [] (omega (arith, low, count)) ∙ h.cells j low)
 
 -- ---- how many rows there are
@@ -141,16 +141,33 @@ main-built job staying main rows at same e = e ∙ (λ i. record { width = (at i
 
 -- ---- a column, as its dictionary and its codes are read
 
-module _ (job : JobValue) (n : ℕ) (new : NewRows) (staying : MainValue) (is_job : IsJob job) (at : staying ≡ first_parts (stay_of job) (main_before job)) (h : AreNewRows job (new_rows job) new) (lt : n < job.width)
-    (dict : List (List ℕ)) (own : dict ≡ get_or (shared_dicts new.dicts.items) n []) where
+-- a column of the new rows, and its dictionary
+pub record IsRead (job : JobValue) (n : ℕ) (new : NewRows) (staying : MainValue) (dict : List (List ℕ)) : Type 0 where
+  pub is_job : IsJob job
+  pub at : staying ≡ first_parts (stay_of job) (main_before job)
+  pub rows : AreNewRows job (new_rows job) new
+  pub lt : n < job.width
+  pub own : dict ≡ get_or (shared_dicts new.dicts.items) n []
+
+pub column-read : (job : JobValue) (n : ℕ) (new : NewRows) (staying : MainValue) (item : _) (dict : List (List ℕ)) → IsJob job → staying ≡ first_parts (stay_of job) (main_before job) → AreNewRows job (new_rows job) new → n < job.width
+    → item ≡ get_or new.dicts.items n item → dict ≡ arc_value item → IsRead job n new staying dict
+column-read job n new staying item dict is_job at rows lt item_is dict_is = record {
+  is_job = is_job;
+  at = at;
+  rows = rows;
+  lt = lt;
+  own = let count = rows.dicts_count in (dict_at new.dicts.items n item dict (omega (arith, lt, count)) item_is dict_is).1;
+}
+
+module _ (job : JobValue) (n : ℕ) (new : NewRows) (staying : MainValue) (dict : List (List ℕ)) (read : IsRead job n new staying dict) where
   stays : stay_of job ≤ length job.parts
   stays = staying-le job.head.kind (length job.parts)
 
   chain : get_or (dicts_behind staying) n [] ≡ staying_chain job n
-  chain = ap (λ (m : MainValue). get_or (dicts_behind m) n []) at
+  chain = ap (λ (m : MainValue). get_or (dicts_behind m) n []) read.at
 
   few : rows_in staying + length (new_rows job) ≤ 2147483647
-  few = new-few job new staying is_job stays at h
+  few = new-few job new staying read.is_job stays read.at read.rows
 
   -- how far its codes may reach
   module _ (first more : ℕ) (starts : first ≡ length (end_to_end (get_or (dicts_behind staying) n []))) (counts : more ≡ length dict) where
@@ -159,15 +176,15 @@ module _ (job : JobValue) (n : ℕ) (new : NewRows) (staying : MainValue) (is_jo
 
     pub reach-few : first + more ≤ 2147483647
     reach-few =
-        let keys = staying-few job n lt stays in
+        let keys = staying-few job n read.lt stays in
         let short = own-length (staying_keys job n) (cells_at n (new_rows job)) in
-        omega (arith, start, counts, keys, short, few, ap (λ (l : List (List ℕ)). length l) (own ∙ (h.columns n lt).own), length-map (new_rows job) (key_at n), ap (λ (m : MainValue). rows_in m) at)
+        omega (arith, start, counts, keys, short, few, ap (λ (l : List (List ℕ)). length l) (read.own ∙ (read.rows.columns n read.lt).own), length-map (new_rows job) (key_at n), ap (λ (m : MainValue). rows_in m) read.at)
 
   module _ (list : Vec ℕ) (codes : List ℕ) (listed : list ≡ get_or new.codes.items n list) (codes_are : codes ≡ list.items) where
     here : IsColumn job n (new_rows job) dict codes
     here =
-        let is : codes ≡ get_or (codes_in new.codes.items) n [] = codes_are ∙ ap (λ (v : Vec ℕ). v.items) listed ∙ sym (get_or-map (λ (v : Vec ℕ). v.items) new.codes.items n list [] (omega (arith, lt, h.codes_count))) in
-        subst (λ (d : List (List ℕ)). IsColumn job n (new_rows job) d codes) (sym own) (subst (λ (l : List ℕ). IsColumn job n (new_rows job) (get_or (shared_dicts new.dicts.items) n []) l) (sym is) (h.columns n lt))
+        let is : codes ≡ get_or (codes_in new.codes.items) n [] = codes_are ∙ ap (λ (v : Vec ℕ). v.items) listed ∙ sym (get_or-map (λ (v : Vec ℕ). v.items) new.codes.items n list [] (omega (arith, read.lt, read.rows.codes_count))) in
+        subst (λ (d : List (List ℕ)). IsColumn job n (new_rows job) d codes) (sym read.own) (subst (λ (l : List ℕ). IsColumn job n (new_rows job) (get_or (shared_dicts new.dicts.items) n []) l) (sym is) (read.rows.columns n read.lt))
 
     pub codes-few : rows_in staying + length codes ≤ 2147483647
     codes-few =

@@ -18,9 +18,10 @@ use Rattle.ut_key.specs.Keys.{key_cmp}
 use Rattle.ut_merge.specs.declared.uniting.United.{United}
 use Rattle.ut_merge.specs.Jobs.{JobValue, stay_of, IsJob}
 use Rattle.ut_main.specs.Columns.{Chain}
-use Rattle.ut_main.specs.Parts.{MainValue, dicts_behind}
+use Rattle.ut_main.specs.Parts.{MainValue, PartValue, dicts_behind, first_parts}
 use Rattle.ut_merge.specs.Columns.{chain_in, closed_keys, laid_keys, main_before, rebuilt_keys, staying_chain, staying_keys, AreCoded, IsColumn, IsRecoding}
 use Rattle.ut_merge.specs.Uniting.{chosen, chosen_all, new_flags, entries_of, AddsDict, AreFound, IsUnited, IsUpTo}
+use Rattle.ut_merge.proofs.GatherLemmas.{part-dict}
 use Rattle.ut_merge.proofs.LayoutLemmas.{keys-few, laid-parts, parts-distinct, rebuilt-next}
 use Rattle.ut_merge.proofs.OwnLemmas.{united-leads, united-own}
 
@@ -30,6 +31,20 @@ use Rattle.ut_merge.proofs.OwnLemmas.{united-leads, united-own}
 pub record IsUnitedTo (job : JobValue) (column p at : ℕ) (flags new : List Bool) (united : United) : Type 0 where
   pub reached : at ≡ length (rebuilt_keys job column p)
   pub united_is : IsUnited (rebuilt_keys job column p) (take at flags) (closed_keys job column) new united.keys united.parts.items united.closed.items
+
+-- the dictionary of a part that is rebuilt
+pub record IsPartDict (job : JobValue) (column p : ℕ) (dict : List (List ℕ)) : Type 0 where
+  pub stays : stay_of job ≤ p
+  pub within : p < length job.parts
+  pub is : dict ≡ own_dict (end_to_end (chain_in job column p)) (cells_at column (get_or job.parts p []))
+
+pub part-read : (job : JobValue) (column p : ℕ) (main : MainValue) (arc part : PartValue) (dict keys : List (List ℕ)) → stay_of job ≤ p → p < length job.parts → main ≡ main_before job → part ≡ arc → arc.rows ≡ get_or main.parts p []
+    → arc.before ≡ dicts_behind (first_parts p main) → keys ≡ own_dict (end_to_end (get_or part.before column [])) (cells_at column part.rows) → dict ≡ keys → IsPartDict job column p dict
+part-read job column p main arc part dict keys le lt at same rows before is e = record {
+  stays = le;
+  within = lt;
+  is = e ∙ is ∙ part-dict job column p main part at (ap (λ (x : PartValue). x.before) same ∙ before) (ap (λ (x : PartValue). x.rows) same ∙ rows);
+}
 
 module _ (job : JobValue) (column : ℕ) (wide : column < job.width) (stays : stay_of job ≤ length job.parts) where
   pub rebuilt-le : (p : ℕ) → stay_of job ≤ p → p < length job.parts → length (rebuilt_keys job column (p + 1)) ≤ length (rebuilt_keys job column (length job.parts))
@@ -44,17 +59,16 @@ module _ (job : JobValue) (column : ℕ) (wide : column < job.width) (stays : st
           let more = from k (q + 1) (omega arith) (omega arith) in
           omega (arith, size, both, more)
 
-  module _ (p at : ℕ) (flags new : List Bool) (old : United) (dict : List (List ℕ)) (le : stay_of job ≤ p) (lt : p < length job.parts) (h : IsUnitedTo job column p at flags new old)
-      (is : dict ≡ own_dict (end_to_end (chain_in job column p)) (cells_at column (get_or job.parts p []))) (sizes : length flags ≡ length (rebuilt_keys job column (length job.parts))) where
+  module _ (p at : ℕ) (flags new : List Bool) (old : United) (dict : List (List ℕ)) (read : IsPartDict job column p dict) (h : IsUnitedTo job column p at flags new old) (sizes : length flags ≡ length (rebuilt_keys job column (length job.parts))) where
     next : rebuilt_keys job column (p + 1) ≡ rebuilt_keys job column p ++ dict
-    next = rebuilt-next job column wide stays p le lt ∙ ap (λ (d : List (List ℕ)). rebuilt_keys job column p ++ d) (sym is)
+    next = rebuilt-next job column wide stays p read.stays read.within ∙ ap (λ (d : List (List ℕ)). rebuilt_keys job column p ++ d) (sym read.is)
 
     length-next : length (rebuilt_keys job column (p + 1)) ≡ at + length dict
     length-next = ap (λ (l : List (List ℕ)). length l) next ∙ length-append (rebuilt_keys job column p) dict ∙ ap (λ n. n + length dict) (sym h.reached)
 
     -- there are flags for the part's dictionary
     pub flags-there : at + length dict ≤ length flags
-    flags-there = omega (arith, sizes, length-next, rebuilt-le p le lt)
+    flags-there = omega (arith, sizes, length-next, rebuilt-le p read.stays read.within)
 
     -- and room for all keys
     pub keys-room : IsJob job → length old.keys + length dict < 2147483648
@@ -127,8 +141,10 @@ module _ (job : JobValue) (column : ℕ) (wide : column < job.width) (stays : st
 
 -- ---- how many keys there are
 
--- of the keys that stay, of all in main, and of the closed stage there are so many
-pub record AreCounted (job : JobValue) (column first total last : ℕ) : Type 0 where
+-- the dictionaries that stay and the closed stage's keys; of the keys that stay, of all in main, and of the closed stage there are so many
+pub record AreCounted (job : JobValue) (column : ℕ) (chain : Chain) (keys : List (List ℕ)) (first total last : ℕ) : Type 0 where
+  pub chain_is : chain ≡ staying_chain job column
+  pub keys_are : keys ≡ closed_keys job column
   pub stay : first ≡ length (staying_keys job column)
   pub all : total ≡ length (staying_keys job column) + length (rebuilt_keys job column (length job.parts))
   pub others : total - first ≡ length (rebuilt_keys job column (length job.parts))
@@ -136,12 +152,20 @@ pub record AreCounted (job : JobValue) (column first total last : ℕ) : Type 0 
   pub laid : length (laid_keys job column) ≡ first + (total - first + last)
 
 pub keys-counted : (job : JobValue) (column : ℕ) → column < job.width → stay_of job ≤ length job.parts → (chain : Chain) (main : MainValue) (keys : List (List ℕ)) (first total last : ℕ) → chain ≡ staying_chain job column → main ≡ main_before job → keys ≡ closed_keys job column
-    → first ≡ length (end_to_end chain) → total ≡ length (end_to_end (get_or (dicts_behind main) column [])) → last ≡ length keys → AreCounted job column first total last
+    → first ≡ length (end_to_end chain) → total ≡ length (end_to_end (get_or (dicts_behind main) column [])) → last ≡ length keys → AreCounted job column chain keys first total last
 keys-counted job column wide stays chain main keys first total last chain_is main_is keys_are first_is total_is last_is =
     let stay : first ≡ length (staying_keys job column) = first_is ∙ ap (λ (l : Chain). length (end_to_end l)) chain_is in
     let all : total ≡ length (staying_keys job column) + length (rebuilt_keys job column (length job.parts)) = total_is ∙ ap (λ (m : MainValue). length (end_to_end (get_or (dicts_behind m) column []))) main_is ∙ main-size job column wide stays in
     let closed : last ≡ length (closed_keys job column) = last_is ∙ ap (λ (l : List (List ℕ)). length l) keys_are in
-    record { stay = stay; all = all; others = omega (arith, stay, all); closed = closed; laid = omega (arith, laid-size job column wide stays, stay, all, closed) }
+    record {
+      chain_is = chain_is;
+      keys_are = keys_are;
+      stay = stay;
+      all = all;
+      others = omega (arith, stay, all);
+      closed = closed;
+      laid = omega (arith, laid-size job column wide stays, stay, all, closed);
+    }
 
 -- ---- marks
 

@@ -41,8 +41,7 @@ same_bool false true to from = absurd (true≢false (sym (from refl)))
 same_bool false false to from = refl
 
 holds-union : (key : List ℕ) (keys : List (List ℕ)) → holds (union keys []) key ≡ holds keys key
-holds-union key keys =
-    same_bool (holds (union keys []) key) (holds keys key)
+holds-union key keys = same_bool (holds (union keys []) key) (holds keys key)
     (λ h. in-holds keys key (elim (in-union key keys [] (holds-in (union keys []) key h)) [ inl a ↦ a | inr b ↦ absurd b ]))
     (λ h. in-holds (union keys []) key (union-in key keys [] (inl (holds-in keys key h))))
 

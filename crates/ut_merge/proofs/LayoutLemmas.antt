@@ -103,8 +103,7 @@ module _ (job : JobValue) (column : ℕ) (wide : column < job.width) where
       let rest = all-split (p + 1) (omega arith) in
       let next : end_to_end (chain_in job column (p + 1)) ≡ end_to_end (chain_in job column p ++ own_dict (end_to_end (chain_in job column p)) (cells_at column (get_or job.parts p [])) ∷ []) =
       ap (λ (c : Chain). end_to_end c) (dicts-next (main_before job) p column lt wide) in
-      let whole : laid_keys job column ≡ end_to_end (chain_in job column p ++ own_dict (end_to_end (chain_in job column p)) (cells_at column (get_or job.parts p [])) ∷ []) ++ (rest.0 ++ closed_keys job column) =
-      laid-all ∙ ap (λ l. l ++ closed_keys job column) (rest.1 ∙ ap (λ l. l ++ rest.0) next) ∙ append_assoc mine rest.0 (closed_keys job column) in
+      let whole : laid_keys job column ≡ end_to_end (chain_in job column p ++ own_dict (end_to_end (chain_in job column p)) (cells_at column (get_or job.parts p [])) ∷ []) ++ (rest.0 ++ closed_keys job column) = laid-all ∙ ap (λ l. l ++ closed_keys job column) (rest.1 ∙ ap (λ l. l ++ rest.0) next) ∙ append_assoc mine rest.0 (closed_keys job column) in
       subst (λ (l : List (List ℕ)). AreCoded l cells (vector_of (chain_in job column p) cells).codes) (sym whole)
       (coded-more mine (rest.0 ++ closed_keys job column) cells (vector_of (chain_in job column p) cells).codes
       record { below = places-below mine cells known; cells_are = cells-places mine cells known })

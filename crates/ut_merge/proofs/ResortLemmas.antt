@@ -69,8 +69,7 @@ then-test a b c d = by (nat_cmp a b) (ranked a b (nat_cmp a b) refl)
   where
     by : (o : Ordering) → MatchOrdering o (a < b) (a ≡ b) (b < a) → is_lt (ordering_then o (nat_cmp c d)) ≡ (nat_lt a b || (nat_eq a b && nat_lt c d))
     by Less h = sym (ap (λ t. t || (nat_eq a b && nat_lt c d)) (lt-ltb a b h))
-    by Equal h =
-        cmp-test c d (nat_cmp c d) (ranked c d (nat_cmp c d) refl)
+    by Equal h = cmp-test c d (nat_cmp c d) (ranked c d (nat_cmp c d) refl)
         ∙ sym (λ i. le-ltb a b (omega (arith, h)) i || (eq-eqb a b h i && nat_lt c d))
     by Greater h = sym (λ i. le-ltb a b (omega (arith, h)) i || (not-eqb a b (λ e. omega (arith, e, h)) i && nat_lt c d))
 

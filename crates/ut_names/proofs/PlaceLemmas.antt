@@ -1,11 +1,11 @@
 -- Tables and columns that are there: their places, and what stands there.
-use Rattle.std.proofs.Common.{◌≡◌, ℕ, zero, suc, ◌+◌, ◌<◌, Bool, true, false, ◌&&◌, ◌||◌, cond, not, List, [], ◌∷◌, ◌++◌, length, take, get_or, All, Option, None, Some, nat_lt, refl, sym, ◌∙◌, ap, arith, true≢false, lt-ltb}
+use Rattle.std.proofs.Common.{◌≡◌, ℕ, zero, suc, ◌+◌, ◌<◌, Bool, true, false, ◌&&◌, ◌||◌, cond, not, List, [], ◌∷◌, ◌++◌, length, take, get_or, Option, None, Some, nat_lt, refl, sym, ◌∙◌, ap, arith, true≢false, lt-ltb}
 use Rattle.std.specs.Prelude.{slice_get}
 use Rattle.std.specs.Option.{option_map, option_and_then, unwrap_or}
 use Rattle.std.specs.List.{list_all, list_any, position, position_or_len, filter_map, cons_option}
 use Rattle.std.proofs.lemmas.List.{take_more}
 use Rattle.std.proofs.lemmas.List.Folds.{find_at, list_all-append}
-use Rattle.std.proofs.lemmas.List.Elements.{All-nil, All-cons, filter_map-append}
+use Rattle.std.proofs.lemmas.List.Elements.{filter_map-append}
 use Rattle.ut_value.specs.declared.value.Column.{Column}
 use Rattle.ut_value.specs.declared.value.Kind.{Kind}
 use Rattle.ut_value.specs.declared.value.Kind.TheVariants as kinds
@@ -104,16 +104,6 @@ int_is (Some kinds.Text) is = cc
 -- a column that is summed has numbers
 pub number_kind : (columns : List Column) (name : List ℕ) (place : ℕ) → column_of columns name ≡ Some place → is_int (kind_in columns name) ≡ true → option_map (λ (c : Column). c.kind) (slice_get columns place) ≡ Some kinds.Int
 number_kind columns name place is int = column_kind columns name place is ∙ int_is (kind_in columns name) int
-
--- each place of columns that are named is one of their table's
-pub columns_below : (columns : List Column) (names : List (List ℕ)) → All (λ (place : ℕ). place < length columns) (filter_map (column_of columns) names)
-columns_below columns [] = All-nil (λ (place : ℕ). place < length columns)
-columns_below columns (name ∷ names) = by (column_of columns name) refl (columns_below columns names)
-  where
-    by : (o : Option ℕ) → column_of columns name ≡ o → All (λ (place : ℕ). place < length columns) (filter_map (column_of columns) names)
-        → All (λ (place : ℕ). place < length columns) (cons_option o (filter_map (column_of columns) names))
-    by None is rest = rest
-    by (Some place) is rest = All-cons (λ (place : ℕ). place < length columns) place (filter_map (column_of columns) names) (column_below columns name place is) rest
 
 -- the places of the names so far, and of one more
 pub places_more : (columns : List Column) (names : List (List ℕ)) (i : ℕ) (name item : List ℕ) (place : ℕ) (list more : List ℕ) → i < length names → item ≡ get_or names i item → name ≡ item → column_of columns name ≡ Some place → has_column columns name ≡ true

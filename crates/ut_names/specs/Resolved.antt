@@ -13,6 +13,8 @@ use Rattle.ut_plain.specs.declared.reply.Refusal.TheVariants as refusals
 use Rattle.ut_plain.specs.Tables.{place_of, column_of, columns_of, columns_in}
 use Rattle.ut_plain.specs.Names.{known, preds_known, query_known}
 use Rattle.ut_plain.specs.Kinds.{kind_in, has_kind, preds_fit, query_fits}
+use Rattle.ut_names.specs.declared.asking.End.{End}
+use Rattle.ut_names.specs.declared.asking.End.TheVariants.{Least, Greatest}
 use Rattle.ut_names.specs.declared.resolved.Selection.{Selection}
 use Rattle.ut_names.specs.declared.resolved.Target.{Target}
 use Rattle.ut_names.specs.declared.resolved.Columns.{Columns}
@@ -64,6 +66,11 @@ AreColumns columns None which.All = Unit {0}
 AreColumns columns (Some names) (which.Named places) = places.items ≡ filter_map (column_of columns) names
 AreColumns columns None (which.Named places) = ⊥
 AreColumns columns (Some names) which.All = ⊥
+
+-- a question for the least or the greatest value of a column
+abbrev pub best_of : End → List ℕ → List ℕ → List Pred → Query
+best_of Least name column preds = queries.Min name column preds
+best_of Greatest name column preds = queries.Max name column preds
 
 -- the question by the places of what it names
 abbrev pub IsQuestion : List Table → Query → Question → Type 0

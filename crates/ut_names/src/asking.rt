@@ -1,9 +1,9 @@
 //! Questions by the places of what they name.
 ghost use Rattle.std.specs.Prelude.{◌≡◌, [], None, IsErr, IsErrOf, IfOk, IfErr, IfSome, IfNone};
-ghost use Rattle.ut_plain.specs.declared.statement.Query.TheVariants.{Select, Count, Sum, Min, Max, Group, Join};
+ghost use Rattle.ut_plain.specs.declared.statement.Query.TheVariants.{Select, Count, Sum, Group, Join};
 ghost use Rattle.ut_plain.specs.Names.{query_known};
 ghost use Rattle.ut_plain.specs.Kinds.{query_fits, same_kind};
-ghost use Rattle.ut_names.specs.Resolved.{AreNarrow, Resolves, Hinders, IsUnfit, IsBare};
+ghost use Rattle.ut_names.specs.Resolved.{best_of, AreNarrow, Resolves, Hinders, IsUnfit, IsBare};
 
 use crate::Question;
 use crate::places::{column_at, columns_at, number_at, table_at};
@@ -12,6 +12,13 @@ use crate::selecting::rows;
 use std::alloc::{AllocError, Global};
 use ut_plain::{Pred, Query, Refusal, Table, query_fits, query_known};
 use ut_value::{Kind, Name, Seq};
+
+/// An end of the order of values.
+#[derive(Clone, Copy)]
+enum End {
+    Least,
+    Greatest,
+}
 
 /// The question by the places of what it names.
 pub fn question(alloc: Global, tables: &[Table], query: &Query) -> Result<Question, Refusal>
@@ -51,12 +58,19 @@ fn resolved(alloc: Global, tables: &[Table], query: &Query) -> Result<Option<Que
             table,
             column,
             preds,
-        } => min(alloc, tables, table, column, preds.as_slice()),
+        } => best(alloc, tables, table, column, preds.as_slice(), End::Least),
         Query::Max {
             table,
             column,
             preds,
-        } => max(alloc, tables, table, column, preds.as_slice()),
+        } => best(
+            alloc,
+            tables,
+            table,
+            column,
+            preds.as_slice(),
+            End::Greatest,
+        ),
         Query::Group {
             table,
             key,
@@ -140,16 +154,18 @@ fn sum(
     Ok(Some(Question::Sum { rows, column }))
 }
 
-fn min(
+/// The least or the greatest value of a column.
+fn best(
     alloc: Global,
     tables: &[Table],
     name: &Name,
     column: &Name,
     preds: &[Pred],
+    end: End,
 ) -> Result<Option<Question>, AllocError>
     requires { AreNarrow tables.now }
-    ensures some { IfOk result (λ o. IfSome o (Resolves tables.now (Min name.now column.now preds.now))) }
-    ensures none { IfOk result (λ o. IfNone o (IsUnfit tables.now (Min name.now column.now preds.now))) }
+    ensures some { IfOk result (λ o. IfSome o (Resolves tables.now (best_of end name.now column.now preds.now))) }
+    ensures none { IfOk result (λ o. IfNone o (IsUnfit tables.now (best_of end name.now column.now preds.now))) }
     ensures room { preds.now ≡ [] → IsErr result → ⊥ }
 {
     let Some(table) = table_at(tables, name.as_slice()) else {
@@ -161,36 +177,10 @@ fn min(
     let Some(rows) = rows(alloc, &table, preds)? else {
         return Ok(None);
     };
-    Ok(Some(Question::Min {
-        rows,
-        column: column.place,
-    }))
-}
-
-fn max(
-    alloc: Global,
-    tables: &[Table],
-    name: &Name,
-    column: &Name,
-    preds: &[Pred],
-) -> Result<Option<Question>, AllocError>
-    requires { AreNarrow tables.now }
-    ensures some { IfOk result (λ o. IfSome o (Resolves tables.now (Max name.now column.now preds.now))) }
-    ensures none { IfOk result (λ o. IfNone o (IsUnfit tables.now (Max name.now column.now preds.now))) }
-    ensures room { preds.now ≡ [] → IsErr result → ⊥ }
-{
-    let Some(table) = table_at(tables, name.as_slice()) else {
-        return Ok(None);
-    };
-    let Some(column) = column_at(table.columns, column.as_slice()) else {
-        return Ok(None);
-    };
-    let Some(rows) = rows(alloc, &table, preds)? else {
-        return Ok(None);
-    };
-    Ok(Some(Question::Max {
-        rows,
-        column: column.place,
+    let column = column.place;
+    Ok(Some(match end {
+        End::Least => Question::Min { rows, column },
+        End::Greatest => Question::Max { rows, column },
     }))
 }
 

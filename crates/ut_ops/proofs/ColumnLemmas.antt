@@ -1,17 +1,14 @@
 -- The values of a column, of rows that were found.
-use Rattle.std.proofs.Common.{ℕ, zero, suc, ◌+◌, ◌<◌, ◌≡◌, Bool, true, false, not, cond, if◌then◌else◌, List, [], ◌∷◌, length, map, drop, get_or, Option, None, Some, refl, sym, ap, ◌∙◌, arith, slice_get, IsTrue, true≢false}
+use Rattle.std.proofs.Common.{ℕ, zero, suc, ◌+◌, ◌<◌, ◌≡◌, Bool, true, false, not, cond, List, [], ◌∷◌, length, map, Option, None, Some, refl, sym, ap, ◌∙◌, arith, slice_get, IsTrue, true≢false}
 use Rattle.std.specs.Option.{option_and_then}
 use Rattle.std.specs.List.{list_all, filter_map, find, position_or_len, All, cons_option}
-use Rattle.std.specs.declared.cmp.Ordering.{Ordering}
 use Rattle.ut_value.specs.declared.value.Value.{Value}
-use Rattle.ut_value.specs.declared.value.Kind.{Kind}
 use Rattle.ut_value.specs.declared.value.Column.{Column}
-use Rattle.ut_value.specs.KeyOrder.{value_cmp}
 use Rattle.ut_value.specs.Text.{same_bytes}
 use Rattle.ut_plain.specs.declared.table.Stored.{Stored}
 use Rattle.ut_plain.specs.Tables.{column_of, fits_columns}
 use Rattle.ut_plain.specs.Condition.{value_in}
-use Rattle.ut_plain.specs.Query.{column_values, picked, best_from}
+use Rattle.ut_plain.specs.Query.{column_values, picked}
 use Rattle.ut_plain.proofs.ListLemmas.{position_below}
 use Rattle.ut_scan.specs.declared.place.Found.{Found}
 use Rattle.ut_exact.specs.Places.{StagedRow}
@@ -115,20 +112,3 @@ pub picked_rows : (n : ℕ) (s : Staged) (names : List (List ℕ)) (found : List
     → map (λ (e : ℕ × Stored). picked s.columns (Some names) e.1.values) (rows_at n s found) ≡ map (λ f. map (λ place. cell s place f) (filter_map (column_of s.columns) names)) found
 picked_rows n s names [] fit = refl
 picked_rows n s names (f ∷ fs) fit = λ i. picked_cells n s names f (fit_first s f fs fit) i ∷ picked_rows n s names fs (fit_rest s f fs fit) i
-
--- ---- the best so far
-
-better : (beats : Ordering → Bool) (v w : Value) (vs : List Value) (b : Bool) → beats (value_cmp w v) ≡ b → best_from beats v (w ∷ vs) ≡ best_from beats (if b then w else v) vs
-better beats v w vs b e = ap (λ t. best_from beats (if t then w else v) vs) e
-
-pub best_taken : (beats : Ordering → Bool) (s : Staged) (c : ℕ) (fs : List Found) (k : ℕ) (best : Found) → k < length fs → beats (value_cmp (cell s c (get_or fs k best)) (cell s c best)) ≡ true
-    → best_from beats (cell s c best) (map (cell s c) (drop k fs)) ≡ best_from beats (cell s c (get_or fs k best)) (map (cell s c) (drop (k + 1) fs))
-best_taken beats s c [] k best h e = absurd (omega arith)
-best_taken beats s c (f ∷ fs) zero best h e = better beats (cell s c best) (cell s c f) (map (cell s c) fs) true e
-best_taken beats s c (f ∷ fs) (suc k) best h e = let next : suc k + 1 ≡ suc (k + 1) = omega arith in best_taken beats s c fs k best (omega arith) e ∙ ap (λ j. best_from beats (cell s c (get_or fs k best)) (map (cell s c) (drop j (f ∷ fs)))) (sym next)
-
-pub best_kept : (beats : Ordering → Bool) (s : Staged) (c : ℕ) (fs : List Found) (k : ℕ) (best : Found) → k < length fs → beats (value_cmp (cell s c (get_or fs k best)) (cell s c best)) ≡ false
-    → best_from beats (cell s c best) (map (cell s c) (drop k fs)) ≡ best_from beats (cell s c best) (map (cell s c) (drop (k + 1) fs))
-best_kept beats s c [] k best h e = absurd (omega arith)
-best_kept beats s c (f ∷ fs) zero best h e = better beats (cell s c best) (cell s c f) (map (cell s c) fs) false e
-best_kept beats s c (f ∷ fs) (suc k) best h e = let next : suc k + 1 ≡ suc (k + 1) = omega arith in best_kept beats s c fs k best (omega arith) e ∙ ap (λ j. best_from beats (cell s c best) (map (cell s c) (drop j (f ∷ fs)))) (sym next)

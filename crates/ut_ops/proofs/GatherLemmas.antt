@@ -1,5 +1,5 @@
 -- Sums in any order, and united in steps, are the same.
-use Rattle.std.proofs.Common.{ℕ, zero, suc, ◌+◌, ◌*◌, ◌<◌, ◌≤◌, ◌^◌, ◌≡◌, Bool, T, true, false, cond, List, [], ◌∷◌, ◌++◌, length, map, get_or, take, Option, Some, unwrap_or, refl, sym, ap, ◌∙◌, subst, arith, All, ℤ, pos, ◌+ℤ◌, ◌≤ℤ◌, neg_ℤ, negsuc}
+use Rattle.std.proofs.Common.{ℕ, zero, suc, ◌+◌, ◌*◌, ◌<◌, ◌≤◌, ◌^◌, ◌≡◌, Bool, T, true, false, cond, List, [], ◌∷◌, ◌++◌, length, map, get_or, take, Option, Some, unwrap_or, refl, sym, ap, ◌∙◌, subst, arith, All, ℤ, pos, ◌+ℤ◌, ◌≤ℤ◌, neg_ℤ, negsuc, to_z, of_z}
 use Rattle.std.specs.Prelude.{slice_get, slice_set, FitsSigned}
 use Rattle.std.specs.Ordering.{is_eq}
 use Rattle.std.specs.Cmp.{tied_itself}
@@ -7,8 +7,8 @@ use Rattle.std.proofs.lemmas.List.{append_assoc, append-nil, length-append, map-
 use Rattle.std.proofs.lemmas.List.Elements.{All-nil, All-cons, All-head, All-tail, All-push, All-weaker}
 use Rattle.std.specs.FinMap.{find, is_sorted, entries, from_sorted, same_map, entries-from_sorted, get-from_sorted}
 use Rattle.std.specs.FinMap.Entries.{find-put, is_sorted-put}
-use Rattle.std.specs.Int.{w64}
-use Rattle.std.proofs.lemmas.Int.{ints}
+use Rattle.std.specs.Int.{w64, w128}
+use Rattle.std.proofs.lemmas.Int.{ints, to_z-of_z}
 use Rattle.ut_value.specs.declared.value.Value.{Value}
 use Rattle.ut_value.specs.KeyOrder.{value_cmp}
 use Rattle.ut_ops.specs.ValueOrder.{value_cmp_total, equal_values}
@@ -200,6 +200,13 @@ grows n x t a b = let la = a.low in let ha = a.high in let lb = b.low in let hb 
 
 stays : (n : ℕ) (t : ℤ) → IsSmall n t → IsSmall (n + 1) t
 stays n t b = let lb = b.low in let hb = b.high in record { low = omega (arith, ints); high = omega (arith, ints) }
+
+-- the sum of so few numbers is held as it is
+pub sum-held : (g : group.Group) → IsWithin 2147483648 g → to_z w128 (of_z w128 g.sum) ≡ g.sum
+sum-held g within =
+    let low = within.low in
+    let high = within.high in
+    grind (arith, ints, to_z-of_z)
 
 pub small-one : (g : group.Group) → IsWithin 2147483648 g → IsSmall 1 g.sum
 small-one g w = let low = w.low in let high = w.high in record { low = omega (arith, ints); high = omega (arith, ints) }

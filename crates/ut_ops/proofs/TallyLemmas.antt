@@ -178,6 +178,5 @@ keys_of_rows s kc sc (f ∷ fs) = ap (λ vs. cell s kc f ∷ vs) (keys_of_rows s
 
 pub groups_are : (n : ℕ) (s : Staged) (key sum : List ℕ) (kc sc : ℕ) (fs : List Found) → Fit s fs → column_of s.columns key ≡ Some kc → column_of s.columns sum ≡ Some sc
     → map as_group (tallies (map (entry_of s kc sc) fs)) ≡ groups s.columns key sum (rows_at n s fs)
-groups_are n s key sum kc sc fs fit at bt =
-    tallies_are (map (entry_of s kc sc) fs)
+groups_are n s key sum kc sc fs fit at bt = tallies_are (map (entry_of s kc sc) fs)
     ∙ (λ i. map (λ k. as_group (k, sym (with_total n s key sum kc sc k fs fit at bt) i)) (distinct ((keys_of_rows s kc sc fs ∙ sym (values_some n s key kc fs fit at)) i)))

@@ -1,5 +1,5 @@
 //! One value of a row that was found.
-ghost use Rattle.std.specs.Prelude.{◌≡◌, ◌<◌, ◌≤◌, length, slice_get, option_map, Some, IsTrue, IfOk};
+ghost use Rattle.std.specs.Prelude.{◌≡◌, ◌<◌, length, slice_get, option_map, Some, IsTrue, IfOk};
 ghost use Rattle.ut_value.specs.declared.value.Column.{Column};
 ghost use Rattle.ut_value.specs.KeyOrder.{value_cmp};
 ghost use Rattle.ut_staged.specs.Staged.{row_at};

@@ -1,5 +1,5 @@
 -- Candidates that one comparison picks, and the test of the others.
-use Rattle.std.proofs.Common.{◌≡◌, ℕ, zero, suc, ◌+◌, ◌<◌, Bool, true, false, cond, ◌&&◌, List, [], ◌∷◌, ◌++◌, length, map, filter, get_or, take, drop, if◌then◌else◌, ap, sym, ◌∙◌, subst, arith, refl}
+use Rattle.std.proofs.Common.{◌≡◌, ℕ, zero, suc, ◌+◌, ◌<◌, Bool, true, false, cond, ◌&&◌, List, [], ◌∷◌, ◌++◌, length, map, filter, get_or, take, drop, All, if◌then◌else◌, ap, sym, ◌∙◌, subst, arith, refl}
 use Rattle.std.specs.List.{range_with_len, list_all}
 use Rattle.std.specs.Cmp.Lexicographic.{nat_list_eq_equiv}
 use Rattle.std.proofs.lemmas.List.{get_or-map, length-map, take-append-drop}
@@ -73,12 +73,22 @@ passes-around preds k p row s lt =
     ∙ shuffle (list_all t (take k preds)) (t q) (list_all t (drop (suc k) preds)) s
 
 -- the mark of a row's code
-pub marked : (t : List ℕ → Bool) (cells : List (List ℕ)) (codes : List ℕ) (marks : List Bool) (i : ℕ) → marks ≡ map t (first_seen cells) → cells_of (first_seen cells) codes ≡ cells
+marked : (t : List ℕ → Bool) (cells : List (List ℕ)) (codes : List ℕ) (marks : List Bool) (i : ℕ) → marks ≡ map t (first_seen cells) → cells_of (first_seen cells) codes ≡ cells
     → i < length codes → get_or codes i 0 < length (first_seen cells) → get_or marks (get_or codes i 0) false ≡ t (get_or cells i [])
 marked t cells codes marks i is keys lt within =
     ap (λ l. get_or l (get_or codes i 0) false) is
     ∙ get_or-map t (first_seen cells) (get_or codes i 0) [] false within
     ∙ ap t (sym (get_or-map (λ c. get_or (first_seen cells) c []) codes i 0 [] lt) ∙ ap (λ l. get_or l i []) keys)
+
+-- and whether the row meets the comparison
+pub mark-tells : (pred : ColumnPred) (rows : List KeyRow) (codes : List ℕ) (marks : List Bool) (i : ℕ) → marks ≡ map (meets pred.op pred.key) (first_seen (cells_at pred.column rows))
+    → cells_of (first_seen (cells_at pred.column rows)) codes ≡ cells_at pred.column rows → All (λ c. c < length (first_seen (cells_at pred.column rows))) codes → i < length rows
+    → get_or marks (get_or codes i 0) false ≡ meets_at pred rows i
+mark-tells pred rows codes marks i is keys within lr =
+    let cells = cells_at pred.column rows in
+    let n : length codes ≡ length rows = sym (length-map codes (λ k. get_or (first_seen (cells_at pred.column rows)) k [])) ∙ ap length keys ∙ length-map rows (key_at pred.column) in
+    let lc : i < length codes = omega (arith, n, lr) in
+    marked (meets pred.op pred.key) cells codes marks i is keys lc (within i 0 lc) ∙ ap (meets pred.op pred.key) (get_or-map (key_at pred.column) rows i no_row [] lr)
 
 -- a place of a list is below its length
 pub places-within : {A : Type 0} (t : A → Bool) (i : ℕ) (xs : List A) (k d : ℕ) → k < length (places_from t i xs) → get_or (places_from t i xs) k d < i + length xs

@@ -1,5 +1,5 @@
 -- The rows of a table's stages, and all of them that a scan finds.
-use Rattle.std.specs.Prelude.{◌≡◌, ℕ, List, [], ◌++◌, length, map, get_or, All, Option, option_map, IfSome}
+use Rattle.std.specs.Prelude.{◌≡◌, ℕ, ◌<◌, List, [], ◌++◌, length, map, get_or, All, Option, option_map, IfSome}
 use Rattle.std.specs.List.{flat_map, range_with_len, sum_by}
 use Rattle.ut_stamps.specs.declared.fates.Fate.{Fate}
 use Rattle.ut_stamps.specs.declared.visibility.Stamp.{Stamp}
@@ -8,6 +8,7 @@ use Rattle.ut_l2.specs.KeyRows.{KeyRow, keyed}
 use Rattle.ut_prefix.specs.Chain.{chain_steps}
 use Rattle.ut_main.specs.Parts.{MainValue, dicts_behind}
 use Rattle.ut_key.specs.declared.comparison.ColumnPred.{ColumnPred}
+use Rattle.ut_scan.specs.declared.asked.Asked.{Asked}
 use Rattle.ut_scan.specs.declared.place.Found.{Found}
 use Rattle.ut_scan.specs.declared.stages.Stages.{Stages}
 use Rattle.ut_scan.specs.Finds.{found_in}
@@ -43,6 +44,18 @@ pub record AreStamped (stages : Stages) : Type 0 where
   pub closed_wide : IfSome stages.closed (λ l. l.now.width ≡ stages.l2.now.width)
   pub main_wide : stages.main.now.width ≡ stages.l2.now.width
 
+-- it asks for the rows that are seen at a snapshot, with the changes of an own transaction, and that meet comparisons
+pub record AsksFor (fates : List Fate) (snapshot : ℕ) (own : Option ℕ) (preds : List ColumnPred) (asked : Asked) : Type 0 where
+  pub fates_are : asked.viewer.fates.now ≡ fates
+  pub snapshot_is : asked.viewer.snapshot ≡ snapshot
+  pub own_is : asked.viewer.own ≡ own
+  pub preds_are : asked.preds.now ≡ preds
+
+-- each row has a stamp, and the columns that are asked for are there
+pub record MayAsk (stages : Stages) (asked : Asked) : Type 0 where
+  pub stamped : AreStamped stages
+  pub columns : All (λ p. p.column < stages.l2.now.width) asked.preds.now
+
 module _ (fates : List Fate) (snapshot : ℕ) (own : Option ℕ) (preds : List ColumnPred) where
   -- the seen rows of a part that meet each comparison
   abbrev pub found_in_part : List (List KeyRow) → List (List Stamp) → ℕ → List Found
@@ -63,9 +76,13 @@ module _ (fates : List Fate) (snapshot : ℕ) (own : Option ℕ) (preds : List C
   abbrev pub found_rows : StageRows → StampLists → List Found
   found_rows rows stamps = found_outside rows stamps ++ found_in_parts rows.parts stamps.parts
 
-  -- the same of stages, as they stand
-  abbrev pub asked_for : Stages → List Found
-  asked_for stages = found_rows (rows_in stages) stages.stamps.now
+-- the rows that are asked for, of stages as they stand
+abbrev pub rows_asked : Asked → Stages → List Found
+rows_asked a stages = found_rows a.viewer.fates.now a.viewer.snapshot a.viewer.own a.preds.now (rows_in stages) stages.stamps.now
+
+-- those of them outside of main
+abbrev pub outside_asked : Asked → Stages → List Found
+outside_asked a stages = found_outside a.viewer.fates.now a.viewer.snapshot a.viewer.own a.preds.now (rows_in stages) stages.stamps.now
 
 -- the most steps of a scan: for each comparison those of one search in all the dictionaries of its column
 abbrev pub scan_steps : MainValue → List ColumnPred → ℕ

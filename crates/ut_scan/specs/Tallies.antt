@@ -6,10 +6,12 @@ use Rattle.ut_stamps.specs.declared.place.Place.TheVariants.{L1, L2, Closed, Mai
 use Rattle.ut_stamps.specs.declared.visibility.Stamp.{Stamp}
 use Rattle.ut_l2.specs.KeyRows.{key_at, no_row}
 use Rattle.ut_main.specs.Parts.{MainValue, PartValue}
+use Rattle.ut_scan.specs.declared.asked.Asked.{Asked}
 use Rattle.ut_scan.specs.declared.place.Found.{Found}
 use Rattle.ut_scan.specs.declared.probe.Viewer.{Viewer}
+use Rattle.ut_scan.specs.declared.stages.Stages.{Stages}
 use Rattle.ut_scan.specs.Coded.{code_at, codes_in, keys_in}
-use Rattle.ut_scan.specs.Probes.{is_seen}
+use Rattle.ut_scan.specs.Probes.{found_in_main, is_seen}
 
 -- how often a code occurs
 abbrev pub how_often : List ℕ → ℕ → ℕ
@@ -28,6 +30,10 @@ pub record Tallies (main : MainValue) (column : ℕ) (found : List Found) (count
   pub codes : List ℕ
   pub keys : map (slice_get (keys_in main column)) codes ≡ map (λ (f : Found). Some (key_in main column f.place)) found
   pub each : (code : ℕ) → get_or counts code 0 ≡ how_often codes code
+
+-- the same of those rows of main that are asked for
+abbrev pub TalliesAsked : Asked → Stages → ℕ → List ℕ → Type 0
+TalliesAsked a stages column counts = Tallies stages.main.now column (found_in_main a.viewer a.preds.now stages.main.now.parts stages.stamps.now.parts) counts
 
 -- ---- one part more
 

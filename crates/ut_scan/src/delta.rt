@@ -1,14 +1,15 @@
 //! A scan of L2 or of the closed stage: candidates by one comparison's places or codes, tested by
 //! place for the others.
-ghost use Rattle.std.specs.Prelude.{◌≡◌, ◌<◌, ◌^◌, ◌++◌, ◌&&◌, [], false, length, map, filter, slice_index_or, MatchOption, All, IfOk, OnOk};
+ghost use Rattle.std.specs.Prelude.{◌≡◌, ◌<◌, ◌^◌, ◌++◌, ◌&&◌, [], false, length, map, slice_index_or, MatchOption, All, IfOk, OnOk};
 ghost use Rattle.ut_key.specs.Keys.{meets};
 ghost use Rattle.ut_unsorted.specs.FirstSeen.{first_seen};
 ghost use Rattle.ut_l2.specs.KeyRows.{cells_at};
 ghost use Rattle.ut_scan.specs.Finds.{all_places};
 ghost use Rattle.ut_scan.specs.Probes.{finds, found_by, found_for, found_with, place_in};
 
+use crate::asked::Asked;
 use crate::place::{ColumnPred, Found};
-use crate::probe::{DeltaStage, Probe, Viewer};
+use crate::probe::{DeltaStage, Probe};
 use std::alloc::{AllocError, Global};
 use ut_key::Cmp;
 use ut_l2::L2;
@@ -18,18 +19,19 @@ use ut_unsorted::UnsortedDict;
 /// Appends the seen rows of the stage that meet each comparison.
 pub fn scan_delta(
     alloc: Global,
-    viewer: &Viewer<'_>,
-    preds: &[ColumnPred],
+    asked: &Asked<'_>,
     stage: DeltaStage,
     l2: &L2,
     stamps: &[Stamp],
     out: &mut Vec<Found>,
 ) -> Result<(), AllocError>
     requires stamped { length stamps.now ≡ length l2.now.rows }
-    requires columns { All (λ p. p.column < l2.now.width) preds.now }
+    requires columns { All (λ p. p.column < l2.now.width) asked.now.preds.now }
     ensures { OnOk result (out.new.items ≡ out.old.items
-        ++ found_for viewer.now preds.now (place_in stage) l2.now.rows stamps.now) }
+        ++ found_for asked.now.viewer asked.now.preds.now (place_in stage) l2.now.rows stamps.now) }
 {
+    let viewer = &asked.viewer;
+    let preds = asked.preds;
     let Some(k) = leading(l2, preds) else {
         let probe = Probe {
             viewer,

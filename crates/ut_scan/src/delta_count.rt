@@ -6,9 +6,10 @@ ghost use Rattle.ut_l2.specs.KeyRows.{cells_at};
 ghost use Rattle.ut_scan.specs.Finds.{all_places};
 ghost use Rattle.ut_scan.specs.Probes.{found_by, found_for, found_with, place_in};
 
+use crate::asked::Asked;
 use crate::delta::{is_marked_find, leading, marks};
 use crate::place::ColumnPred;
-use crate::probe::{DeltaStage, Probe, Viewer};
+use crate::probe::{DeltaStage, Probe};
 use std::alloc::{AllocError, Global};
 use ut_key::Cmp;
 use ut_l2::L2;
@@ -17,17 +18,18 @@ use ut_stamps::Stamp;
 /// How many rows of the stage are seen and meet each comparison.
 pub fn count_delta(
     alloc: Global,
-    viewer: &Viewer<'_>,
-    preds: &[ColumnPred],
+    asked: &Asked<'_>,
     stage: DeltaStage,
     l2: &L2,
     stamps: &[Stamp],
 ) -> Result<u32, AllocError>
     requires stamped { length stamps.now ≡ length l2.now.rows }
-    requires columns { All (λ p. p.column < l2.now.width) preds.now }
+    requires columns { All (λ p. p.column < l2.now.width) asked.now.preds.now }
     ensures { IfOk result (λ count. count
-        ≡ length (found_for viewer.now preds.now (place_in stage) l2.now.rows stamps.now)) }
+        ≡ length (found_for asked.now.viewer asked.now.preds.now (place_in stage) l2.now.rows stamps.now)) }
 {
+    let viewer = &asked.viewer;
+    let preds = asked.preds;
     let Some(k) = leading(l2, preds) else {
         let probe = Probe {
             viewer,

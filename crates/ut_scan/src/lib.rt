@@ -1,6 +1,7 @@
 //! The places of a table's seen rows that meet comparisons, over its stages and their stamps.
 #![tactic(auto)]
 
+mod asked;
 mod coded;
 mod counting;
 mod delta;
@@ -16,8 +17,10 @@ mod stages;
 mod table;
 mod tallying;
 
+pub use asked::Asked;
 pub use counting::count;
 pub use place::{ColumnPred, Found, Place};
+pub use probe::Viewer;
 pub use stages::Stages;
 pub use table::scan;
 pub use tallying::{CodeTally, tally};

@@ -1,4 +1,4 @@
-//! What a scan is asked for, and what it answers.
+//! What a scan compares, and what it answers.
 
 pub use ut_key::ColumnPred;
 pub use ut_stamps::Place;

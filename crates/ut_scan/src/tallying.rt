@@ -1,17 +1,16 @@
 //! How often each code of a column occurs in the rows that a scan finds.
-ghost use Rattle.std.specs.Prelude.{◌≡◌, ◌+◌, ◌<◌, ◌≤◌, ◌^◌, length, All, IfOk};
-ghost use Rattle.ut_scan.specs.StageRows.{found_in_parts, found_outside, rows_in, scan_steps, AreStamped};
-ghost use Rattle.ut_scan.specs.Tallies.{Tallies};
+ghost use Rattle.std.specs.Prelude.{◌≡◌, ◌+◌, ◌<◌, ◌≤◌, ◌^◌, length, IfOk};
+ghost use Rattle.ut_scan.specs.StageRows.{outside_asked, scan_steps, MayAsk};
+ghost use Rattle.ut_scan.specs.Tallies.{TalliesAsked};
 
+use crate::asked::Asked;
 use crate::part_tally::tally_parts;
-use crate::place::{ColumnPred, Found};
-use crate::probe::Viewer;
+use crate::place::Found;
 use crate::stages::Stages;
 use crate::table::scan_outside;
 use std::alloc::{AllocError, Global};
 use std::sync::ledger::Ledger;
 use ut_key::Steps;
-use ut_stamps::Fates;
 
 /// The rows that a scan finds, those of main by their codes in a column.
 #[derive(Drop)]
@@ -28,35 +27,22 @@ pub struct CodeTally {
 pub fn tally<L: Ledger>(
     alloc: Global,
     stages: &Stages<'_>,
-    fates: &Fates,
-    snapshot: u32,
-    own: Option<u64>,
-    preds: &[ColumnPred],
+    asked: &Asked<'_>,
     column: u8,
     steps: &mut Steps<L>,
 ) -> Result<CodeTally, AllocError>
-    requires stamped { AreStamped stages.now }
-    requires columns { All (λ p. p.column < stages.now.l2.now.width) preds.now }
+    requires asked { MayAsk stages.now asked.now }
     requires column { column < stages.now.l2.now.width }
-    ensures counts { let main = stages.now.main.now in let stamps = stages.now.stamps.now.parts in
-        IfOk result (λ t. Tallies main column
-        (found_in_parts fates.now snapshot own preds.now main.parts stamps) t.counts.items) }
+    ensures counts { IfOk result (λ t. TalliesAsked asked.now stages.now column t.counts.items) }
     ensures few { IfOk result (λ t. length t.counts.items < 2 ^ 31) }
-    ensures rest { IfOk result (λ t. t.rest.items
-        ≡ found_outside fates.now snapshot own preds.now (rows_in stages.now) stages.now.stamps.now) }
-    ensures steps { steps.new ≤ steps.old + scan_steps stages.now.main.now preds.now }
+    ensures rest { IfOk result (λ t. t.rest.items ≡ outside_asked asked.now stages.now) }
+    ensures steps { steps.new ≤ steps.old + scan_steps stages.now.main.now asked.now.preds.now }
 {
-    let viewer = Viewer {
-        fates,
-        snapshot,
-        own,
-    };
-    let mut rest = Vec::new(alloc);
-    scan_outside(alloc, &viewer, preds, stages, &mut rest)?;
+    let rest = scan_outside(alloc, stages, asked)?;
     let counts = tally_parts(
         alloc,
-        &viewer,
-        preds,
+        &asked.viewer,
+        asked.preds,
         stages.main,
         stages.stamps,
         column,

@@ -45,8 +45,7 @@ next_by front false p ps whole some e = let none = ap (λ (o : Option (List Pred
 -- one more comparison of the whole
 pub preds-next : (front : List Pred) (c op v joint : List ℕ) (words : List (List ℕ)) (p : Pred) (whole : Option (List Pred)) → is_some whole ≡ true → comparison_of c op v ≡ Some p
     → option_map (λ l. front ++ l) (comparisons_of (c ∷ op ∷ v ∷ joint ∷ words)) ≡ whole → option_map (λ l. (front ++ p ∷ []) ++ l) (comparisons_of words) ≡ whole
-preds-next front c op v joint words p whole some h e =
-    next_by front (same_bytes joint (codes "and")) p (comparisons_of words) whole some
+preds-next front c op v joint words p whole some h e = next_by front (same_bytes joint (codes "and")) p (comparisons_of words) whole some
     (ap (λ (o : Option Pred). option_map (λ l. front ++ l) (cond (same_bytes joint (codes "and")) (onto_comparisons o (comparisons_of words)) None)) (sym h) ∙ e)
 
 named : (t : Bool) (front name : List ℕ) (op : Cmp) (value : Value) → cond t (Some front) None ≡ Some name

@@ -83,6 +83,14 @@ not_past r line lines h k =
     let short : nat_lt 65536 (length line) ≡ false = grind (arith, common_steps) in
     ap (λ (t : Bool). (t && true) || nat_lt 65536 (length line)) few ∙ short
 
+-- bytes are held, or the input ended, as the answer says
+pub fills_on : (E : Type 0) (old : Reading) (mid : Option (List ℕ)) (filled : Reading) (left : Option (List ℕ)) (some is : Bool) → some ≡ is → Fills {E = E} old mid (Ok some) filled left → Fills {E = E} old mid (Ok is) filled left
+fills_on E old mid filled left some is e fills = subst (λ (t : Bool). Fills {E = E} old mid (Ok t) filled left) e fills
+
+-- what was held moved, as the answer says
+pub piece_on : (filled now : Reading) (ended is : Bool) → ended ≡ is → MatchBool ended (EndsLine filled now) (JoinsLine filled now) → MatchBool is (EndsLine filled now) (JoinsLine filled now)
+piece_on filled now ended is e piece = subst (λ (t : Bool). MatchBool t (EndsLine filled now) (JoinsLine filled now)) e piece
+
 -- one line more than there may be
 pub past_limit : (E : Type 0) (old : Reading) (start : Option (List ℕ)) (new : Reading) (left : Option (List ℕ)) → old.number ≡ old.limit → Fills {E = E} old start (Ok true) new left → 0 < length new.held → NextLine old start (Err TooLong) new left
 past_limit E old None new left e fills h = tt

@@ -77,6 +77,11 @@ push_moved : (front : List ℕ) (b : ℕ) (o : Option (List ℕ)) → option_map
 push_moved front b None = refl
 push_moved front b (Some t) = ap (λ l. Some l) (append_assoc front (b ∷ []) t)
 
+-- what is left to read, at its next byte
+pub unquoted-next : (front bytes : List ℕ) (i : ℕ) (pending : Bool) (whole : Option (List ℕ)) → i < length bytes → option_map (λ t. front ++ t) (unquoted pending (drop i bytes)) ≡ whole
+    → option_map (λ t. front ++ t) (unquoted pending (get_or bytes i 0 ∷ drop (i + 1) bytes)) ≡ whole
+unquoted-next front bytes i pending whole lt h = ap (λ (xs : List ℕ). option_map (λ t. front ++ t) (unquoted pending xs)) (sym (next_byte bytes i lt)) ∙ h
+
 -- a byte that is no quote stands in the text
 pub unquoted-plain : (front : List ℕ) (b : ℕ) (rest : List ℕ) (pending : Bool) → nat_eq b 39 ≡ false → is_some (option_map (λ t. front ++ t) (unquoted pending (b ∷ rest))) ≡ true
     → option_map (λ t. (front ++ b ∷ []) ++ t) (unquoted pending rest) ≡ option_map (λ t. front ++ t) (unquoted pending (b ∷ rest))
@@ -117,8 +122,7 @@ text_of-is bytes text h e = ap (λ (o : Option (List ℕ)). option_and_then chec
 
 -- what the test of a literal found at the end of the bytes
 pub fits-done : (n : ℕ) (pending : Bool) (rest bytes : List ℕ) → rest ≡ [] → option_map (fits n) (unquoted pending rest) ≡ option_map is_text (unquoted false bytes) → (pending && nat_le n 255) ≡ is_some (text_of bytes)
-fits-done n pending rest bytes e h =
-    fits-end n pending ∙ ap (λ (xs : List ℕ). unwrap_or (option_map (fits n) (unquoted pending xs)) false) (sym e) ∙ ap (λ (o : Option Bool). unwrap_or o false) h ∙ sym (is_text-of bytes)
+fits-done n pending rest bytes e h = fits-end n pending ∙ ap (λ (xs : List ℕ). unwrap_or (option_map (fits n) (unquoted pending xs)) false) (sym e) ∙ ap (λ (o : Option Bool). unwrap_or o false) h ∙ sym (is_text-of bytes)
 
 -- what it found before
 pub fits-not : (found whole : Option Bool) (bytes : List ℕ) → unwrap_or found false ≡ false → found ≡ whole → whole ≡ option_map is_text (unquoted false bytes) → false ≡ is_some (text_of bytes)

@@ -44,8 +44,7 @@ first_of_decimal (suc n) h e = absurd (let high = first_decimal (suc n) (omega a
 -- the decimal text of a number is read as that number
 pub number_of-decimal : (n : ℕ) → n < 10 ^ 19 → number_of (decimal n) ≡ Some n
 number_of-decimal n h =
-    let fits : n < 2 ^ 64 = omega arith in
-    number_by (decimal n) n (decimal_nonempty n fits) (digits_decimal own n fits) (length-decimal-le 19 n (omega arith) h fits) (first_of_decimal n fits) (digits_value-decimal own n fits)
+    let fits : n < 2 ^ 64 = omega arith in number_by (decimal n) n (decimal_nonempty n fits) (digits_decimal own n fits) (length-decimal-le 19 n (omega arith) h fits) (first_of_decimal n fits) (digits_value-decimal own n fits)
 
 -- what a word that says a number is made of
 record IsNumber (ds : List ℕ) (n : ℕ) : Type 0 where

@@ -31,6 +31,15 @@ line_end-is bytes (Some n) h =
 pub held-part : (at filled : ℕ) (block : List ℕ) → at ≤ filled → drop at (take filled block) ≡ take (filled - at) (drop at block)
 held-part at filled block h = let e : filled ≡ at + (filled - at) = omega arith in ap (λ (n : ℕ). drop at (take n block)) e ∙ drop-take at (filled - at) block
 
+-- what a reader holds, as its view says it
+pub held_of : (view old : Reading) (at filled : ℕ) (block cells : List ℕ) → view ≡ old → view.held ≡ drop at (take filled block) → cells ≡ block → at ≤ filled → old.held ≡ take (filled - at) (drop at cells)
+held_of view old at filled block cells is part same h =
+    ap (λ (r : Reading). r.held) (sym is) ∙ part ∙ held-part at filled block h ∙ ap (λ (xs : List ℕ). take (filled - at) (drop at xs)) (sym same)
+
+-- how long its line is
+pub line_len : (view old : Reading) (n : ℕ) → view ≡ old → length view.line ≡ n → length old.line ≡ n
+line_len view old n is len = ap (λ (r : Reading). length r.line) (sym is) ∙ len
+
 drop_twice : (n m : ℕ) (xs : List ℕ) → drop n (drop m xs) ≡ drop (m + n) xs
 drop_twice n m xs = grind (arith, common_steps)
 

@@ -8,8 +8,9 @@ use Rattle.ut_value.specs.Text.{is_name}
 use Rattle.ut_value.specs.declared.value.Value.{Value}
 use Rattle.ut_plain.specs.declared.statement.Pred.{Pred}
 use Rattle.ut_plain.specs.declared.statement.Statement.{Statement}
+use Rattle.ut_plain.specs.declared.statement.Statement.TheVariants as saids
 use Rattle.ut_script.specs.Conditions.{conditions_of}
-use Rattle.ut_script.specs.Statements.{is_folded, folded_of, update_with, is_where, names_before}
+use Rattle.ut_script.specs.Statements.{is_chosen, chosen_of, is_folded, folded_of, update_with, is_where, names_before, is_named_word, count_of, merge_kind_of, merge_l1_of, merge_begin_of}
 use Rattle.ut_script.specs.Literals.{name_of}
 
 pub is_some-mapped : {A B : Type 0} (f : A → B) (o : Option A) → is_some (option_map f o) ≡ is_some o
@@ -43,6 +44,27 @@ not_folded say (a ∷ b ∷ words) h = by_test (is_name a && is_name b) (conditi
     by_test false o h = refl
     by_test true None h = refl
     by_test true (Some ps) h = cc
+
+pub not_chosen : (say : List ℕ → List Pred → Statement) (words : List (List ℕ)) → is_chosen words ≡ false → chosen_of say words ≡ None
+not_chosen say [] h = refl
+not_chosen say (a ∷ words) h = by_test (is_name a) (conditions_of words) h
+  where
+    by_test : (t : Bool) (o : Option (List Pred)) → (t && is_some o) ≡ false → cond t (option_map (say a) o) None ≡ None
+    by_test false o h = refl
+    by_test true None h = refl
+    by_test true (Some ps) h = cc
+
+pub not_named-l1 : (words : List (List ℕ)) → is_named_word words ≡ false → merge_l1_of words ≡ None
+not_named-l1 [] h = refl
+not_named-l1 (table ∷ []) h = refl
+not_named-l1 (table ∷ n ∷ []) h = ap (λ (t : Bool). cond t (option_map (λ k. saids.MergeL1 table k) (count_of n)) None) h
+not_named-l1 (table ∷ n ∷ word ∷ words) h = refl
+
+pub not_named-begin : (words : List (List ℕ)) → is_named_word words ≡ false → merge_begin_of words ≡ None
+not_named-begin [] h = refl
+not_named-begin (table ∷ []) h = refl
+not_named-begin (table ∷ kind ∷ []) h = ap (λ (t : Bool). cond t (option_map (λ k. saids.MergeBegin table k) (merge_kind_of kind)) None) h
+not_named-begin (table ∷ kind ∷ word ∷ words) h = refl
 
 moved : (front : List (List ℕ)) (v : List ℕ) (o : Option (List (List ℕ))) → option_map (λ vs. (front ++ v ∷ []) ++ vs) o ≡ option_map (λ vs. front ++ vs) (option_map (λ vs. v ∷ vs) o)
 moved front v None = refl
@@ -80,4 +102,4 @@ pub names-room : (front : List (List ℕ)) (word name : List ℕ) (words : List 
 names-room front word name words whole count h w k e =
     room_by front name (names_before words) count (ap (λ (o : Option (List (List ℕ))). option_map length o) (names-next front word name words w k ∙ e) ∙ h)
 
-pub ruleset statements = (is_some-mapped, is_some-update, update-none, update-no_value, is_none, not_folded)
+pub ruleset statements = (is_some-mapped, is_some-update, update-none, update-no_value, is_none, not_chosen, not_folded, not_named-l1, not_named-begin)

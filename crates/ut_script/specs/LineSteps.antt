@@ -1,7 +1,8 @@
 -- What the steps of a reader of lines do.
-use Rattle.std.specs.Prelude.{ℕ, ◌+◌, ◌≡◌, ◌<◌, Bool, true, List, [], ◌∷◌, ◌++◌, length, take, drop, Option, None, Some, Result, Ok, Err, MatchResult}
+use Rattle.std.specs.Prelude.{ℕ, ◌+◌, ◌≡◌, ◌<◌, ◌≤◌, if◌then◌else◌, Bool, true, List, [], ◌∷◌, ◌++◌, length, take, drop, Option, None, Some, Result, Ok, Err, MatchResult}
 use Rattle.std.specs.Bool.{MatchBool}
-use Rattle.ut_script.specs.Lines.{Reading, has_no_feed}
+use Rattle.ut_script.specs.declared.lines.LineError.{LineError}
+use Rattle.ut_script.specs.Lines.{Reading, has_no_feed, hands_out}
 
 -- where the first line feed stands
 abbrev pub IsLineEnd : List ℕ → Option ℕ → Type 0
@@ -12,6 +13,13 @@ IsLineEnd bytes (Some n) = (n < length bytes) × (has_no_feed (take n bytes) ≡
 pub record SameCounts (old new : Reading) : Type 0 where
   pub number : new.number ≡ old.number
   pub limit : new.limit ≡ old.limit
+  pub failed : new.failed ≡ old.failed
+
+-- what a call that reads leaves of the counts: one line more where it handed one out
+pub record CountsLine (old : Reading) (result : Result Bool LineError) (new : Reading) : Type 0 where
+  pub limit : new.limit ≡ old.limit
+  pub number : new.number ≡ (if hands_out result then old.number + 1 else old.number)
+  pub short : length new.line ≤ 65536
   pub failed : new.failed ≡ old.failed
 
 -- the line ended at a line feed

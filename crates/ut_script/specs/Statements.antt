@@ -10,6 +10,8 @@ use Rattle.ut_plain.specs.declared.statement.Pred.{Pred}
 use Rattle.ut_plain.specs.declared.statement.Query.TheVariants as queries
 use Rattle.ut_plain.specs.declared.statement.Statement.{Statement}
 use Rattle.ut_plain.specs.declared.statement.Statement.TheVariants as statements
+use Rattle.ut_script.specs.declared.rows.Stage.{Stage}
+use Rattle.ut_script.specs.declared.rows.Stage.TheVariants.{L1, L2}
 use Rattle.ut_script.specs.Words.{all_of}
 use Rattle.ut_script.specs.Literals.{number_of, within, value_of, column_of}
 use Rattle.ut_script.specs.Conditions.{conditions_of}
@@ -35,6 +37,11 @@ values_of words = option_and_then some_values (all_of value_of words)
 abbrev pub rows_of : (List ℕ → List Value → Statement) → List (List ℕ) → Option Statement
 rows_of put [] = None
 rows_of put (table ∷ words) = if is_name table then option_map (put table) (values_of words) else None
+
+-- the statement that puts a row into a stage
+abbrev pub put_into : Stage → List ℕ → List Value → Statement
+put_into L1 = statements.Insert
+put_into L2 = statements.Bulk
 
 -- `where` ends the columns of a `select`, as the end of the line does
 abbrev pub is_where : List ℕ → Bool
@@ -80,6 +87,11 @@ select_of (table ∷ words) = if is_name table then columns_asked table words el
 abbrev pub chosen_of : (List ℕ → List Pred → Statement) → List (List ℕ) → Option Statement
 chosen_of say [] = None
 chosen_of say (table ∷ words) = if is_name table then option_map (say table) (conditions_of words) else None
+
+-- whether words are a table and conditions
+abbrev pub is_chosen : List (List ℕ) → Bool
+is_chosen [] = false
+is_chosen (table ∷ words) = is_name table && is_some (conditions_of words)
 
 -- whether words are a table, a column and conditions
 abbrev pub is_folded : List (List ℕ) → Bool
@@ -177,6 +189,11 @@ merge_kind_of word =
     else if same_bytes word (codes "partial") then Some merges.Partial
     else if same_bytes word (codes "extend") then Some merges.Extend
     else None
+
+-- whether words are a table and one word more
+abbrev pub is_named_word : List (List ℕ) → Bool
+is_named_word (table ∷ word ∷ []) = is_name table
+is_named_word _ = false
 
 -- a table, and how many rows are to move
 abbrev pub merge_l1_of : List (List ℕ) → Option Statement

@@ -1,7 +1,9 @@
 //! The conditions that end a statement: nothing, or `where` and comparisons that are joined by `and`.
 ghost use Rattle.std.specs.Prelude.{◌≡◌, ◌<◌, ◌≤◌, ◌∷◌, [], length, IfOk, IfSome, IfNone, Some, true, false, is_some};
+ghost use Rattle.ut_value.specs.Text.{is_name};
 ghost use Rattle.ut_script.specs.Words.{words_of};
 ghost use Rattle.ut_script.specs.Conditions.{operator_of, comparison_of, comparisons_of, conditions_of};
+ghost use Rattle.ut_script.specs.Statements.{is_chosen};
 
 use crate::spelled::Spelled;
 use crate::words::next_word;
@@ -18,6 +20,21 @@ pub(crate) fn are_conditions(line: &[u8]) -> bool
     match next_word(line) {
         None => true,
         Some((word, rest)) => same_bytes(word, b"where") && are_comparisons(rest),
+    }
+}
+
+/// A table's name and what stands behind it, tested as conditions.
+pub(crate) fn next_chosen(line: &[u8]) -> Option<(&[u8], &[u8])>
+    ensures found { IfSome result (λ r. words_of line.now ≡ r.0.now ∷ words_of r.1.now) }
+    ensures table { IfSome result (λ r. is_name r.0.now ≡ true) }
+    ensures conditions { IfSome result (λ r. is_some (conditions_of (words_of r.1.now)) ≡ true) }
+    ensures none { IfNone result (is_chosen (words_of line.now) ≡ false) }
+{
+    let (table, rest) = next_word(line)?;
+    if is_name(table) && are_conditions(rest) {
+        Some((table, rest))
+    } else {
+        None
     }
 }
 

@@ -1,9 +1,9 @@
 //! The lines of a source, read by blocks.
 ghost use Rattle.std.specs.Prelude.{◌≡◌, ◌≢◌, ◌<◌, ◌≤◌, ◌+◌, ◌++◌, [], None, true, false, if◌then◌else◌, IfOk, OnOk, IsErrOf, length, vec_len, vec_capacity, Ok};
 ghost use Rattle.ut_outside.specs.Faults.{HasCause, Rose};
-ghost use Rattle.ut_script.specs.Lines.{Reading, NextLine, StepsLine, AsksFew, Counts, StaysFailed, MayFail, hands_out, counted};
+ghost use Rattle.ut_script.specs.Lines.{Reading, NextLine, StepsLine, AsksFew, Counts, StaysFailed, MayFail, counted};
 ghost use Rattle.ut_script.specs.Words.{has_bytes};
-ghost use Rattle.ut_script.specs.LineSteps.{IsLineEnd, SameCounts, TakesPiece, Fills};
+ghost use Rattle.ut_script.specs.LineSteps.{IsLineEnd, SameCounts, CountsLine, TakesPiece, Fills};
 
 use memchr::memchr;
 use std::alloc::{AllocError, Global};
@@ -113,10 +113,7 @@ impl Lines {
         ensures next { NextLine self.old (S.left source.old) result self.new (S.left source.new) }
         ensures steps { OnOk result (StepsLine self.old (S.left source.old) self.new (S.left source.new)) }
         ensures asks { AsksFew self.old (S.left source.old) (K.held sink.now) (S.asks source.old) (S.asks source.new) }
-        ensures limit { self.new.limit ≡ self.old.limit }
-        ensures number { self.new.number ≡ (if hands_out result then self.old.number + 1 else self.old.number) }
-        ensures short { length self.new.line ≤ 65536 }
-        ensures failed { self.new.failed ≡ None }
+        ensures counts { CountsLine self.old result self.new }
         ensures cause { MayFail self.old (S.faults source.old) (S.faults source.new) result }
     {
         if self.number == self.limit {
@@ -136,9 +133,7 @@ impl Lines {
         ensures next { NextLine self.old (S.left source.old) result self.new (S.left source.new) }
         ensures steps { OnOk result (StepsLine self.old (S.left source.old) self.new (S.left source.new)) }
         ensures asks { AsksFew self.old (S.left source.old) (K.held sink.now) (S.asks source.old) (S.asks source.new) }
-        ensures same { SameCounts self.old self.new }
-        ensures none { hands_out result ≡ false }
-        ensures short { length self.new.line ≤ 65536 }
+        ensures counts { CountsLine self.old result self.new }
         ensures cause { MayFail self.old (S.faults source.old) (S.faults source.new) result }
     {
         if self.fill(source, sink)? {
@@ -157,10 +152,7 @@ impl Lines {
         ensures next { NextLine self.old (S.left source.old) result self.new (S.left source.new) }
         ensures steps { OnOk result (StepsLine self.old (S.left source.old) self.new (S.left source.new)) }
         ensures asks { AsksFew self.old (S.left source.old) (K.held sink.now) (S.asks source.old) (S.asks source.new) }
-        ensures limit { self.new.limit ≡ self.old.limit }
-        ensures number { self.new.number ≡ (if hands_out result then self.old.number + 1 else self.old.number) }
-        ensures short { length self.new.line ≤ 65536 }
-        ensures failed { self.new.failed ≡ self.old.failed }
+        ensures counts { CountsLine self.old result self.new }
         ensures cause { MayFail self.old (S.faults source.old) (S.faults source.new) result }
     {
         self.line.clear();

@@ -7,7 +7,7 @@ ghost use Rattle.ut_value.specs.Text.{is_name};
 ghost use Rattle.ut_script.specs.Conditions.{conditions_of};
 ghost use Rattle.ut_script.specs.Statements.{Reads, query_of, is_folded, chosen_of, folded_of, group_of, join_of};
 
-use crate::conditions::{are_conditions, read_conditions};
+use crate::conditions::{are_conditions, next_chosen, read_conditions};
 use crate::select::select_of;
 use crate::spelled::Spelled;
 use crate::words::next_word;
@@ -47,12 +47,9 @@ fn count_of(alloc: Global, line: &[u8]) -> Result<Option<Statement>, AllocError>
     ensures { Reads result
         (chosen_of (λ table preds. Statement.Ask (Query.Count table preds)) (words_of line.now)) }
 {
-    let Some((table, rest)) = next_word(line) else {
+    let Some((table, rest)) = next_chosen(line) else {
         return Ok(None);
     };
-    if !(is_name(table) && are_conditions(rest)) {
-        return Ok(None);
-    }
     let table = Name::read(alloc, table)?;
     let preds = read_conditions(alloc, rest)?;
     Ok(Some(Statement::Ask(Query::Count { table, preds })))

@@ -3,9 +3,9 @@
 
 ghost use Rattle.std.specs.Prelude.{◌≡◌, Some};
 ghost use Rattle.ut_script.specs.Words.{words_of};
-ghost use Rattle.ut_script.specs.Statements.{Reads, create_of, rows_of, chosen_of, update_of};
+ghost use Rattle.ut_script.specs.Statements.{Reads, create_of, rows_of, put_into, chosen_of, update_of};
 
-use crate::conditions::{are_conditions, read_conditions};
+use crate::conditions::{are_conditions, next_chosen, read_conditions};
 use crate::listed::values_of;
 use crate::spelled::{Spelled, count_all, read_all};
 use crate::words::next_word;
@@ -37,26 +37,20 @@ pub(crate) fn create_of(alloc: Global, line: &[u8]) -> Result<Option<Statement>,
     Ok(Some(Statement::Create { table, columns }))
 }
 
-/// `T v ..`, into L1.
-pub(crate) fn insert_of(alloc: Global, line: &[u8]) -> Result<Option<Statement>, AllocError>
-    ensures { Reads result (rows_of Statement.Insert (words_of line.now)) }
-{
-    let Some((table, rest)) = next_word(line) else {
-        return Ok(None);
-    };
-    if !is_name(table) {
-        return Ok(None);
-    }
-    let Some(values) = values_of(alloc, rest)? else {
-        return Ok(None);
-    };
-    let table = Name::read(alloc, table)?;
-    Ok(Some(Statement::Insert { table, values }))
+/// The stage that takes rows.
+#[derive(Clone, Copy)]
+pub(crate) enum Stage {
+    L1,
+    L2,
 }
 
-/// `T v ..`, into L2.
-pub(crate) fn bulk_of(alloc: Global, line: &[u8]) -> Result<Option<Statement>, AllocError>
-    ensures { Reads result (rows_of Statement.Bulk (words_of line.now)) }
+/// `T v ..`, into a stage.
+pub(crate) fn rows_of(
+    alloc: Global,
+    stage: Stage,
+    line: &[u8],
+) -> Result<Option<Statement>, AllocError>
+    ensures { Reads result (rows_of (put_into stage) (words_of line.now)) }
 {
     let Some((table, rest)) = next_word(line) else {
         return Ok(None);
@@ -68,7 +62,10 @@ pub(crate) fn bulk_of(alloc: Global, line: &[u8]) -> Result<Option<Statement>, A
         return Ok(None);
     };
     let table = Name::read(alloc, table)?;
-    Ok(Some(Statement::Bulk { table, values }))
+    match stage {
+        Stage::L1 => Ok(Some(Statement::Insert { table, values })),
+        Stage::L2 => Ok(Some(Statement::Bulk { table, values })),
+    }
 }
 
 /// `T set c v [W]`
@@ -109,12 +106,9 @@ pub(crate) fn update_of(alloc: Global, line: &[u8]) -> Result<Option<Statement>,
 pub(crate) fn delete_of(alloc: Global, line: &[u8]) -> Result<Option<Statement>, AllocError>
     ensures { Reads result (chosen_of Statement.Delete (words_of line.now)) }
 {
-    let Some((table, rest)) = next_word(line) else {
+    let Some((table, rest)) = next_chosen(line) else {
         return Ok(None);
     };
-    if !(is_name(table) && are_conditions(rest)) {
-        return Ok(None);
-    }
     let table = Name::read(alloc, table)?;
     let preds = read_conditions(alloc, rest)?;
     Ok(Some(Statement::Delete { table, preds }))

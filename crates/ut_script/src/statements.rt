@@ -4,7 +4,7 @@ ghost use Rattle.ut_script.specs.Words.{words_of};
 ghost use Rattle.ut_script.specs.Statements.{Reads, ReadsStatement, alone, transaction_verb, table_statement_of, session_statement_of};
 
 use crate::queries::query_of;
-use crate::rows::{bulk_of, create_of, delete_of, insert_of, update_of};
+use crate::rows::{Stage, create_of, delete_of, rows_of, update_of};
 use crate::words::next_word;
 use std::alloc::{AllocError, Global};
 use ut_plain::Statement;
@@ -48,9 +48,9 @@ fn table_statement_of(
     ensures { Reads result (table_statement_of verb.now (words_of line.now)) }
 {
     if same_bytes(verb, b"insert") {
-        insert_of(alloc, line)
+        rows_of(alloc, Stage::L1, line)
     } else if same_bytes(verb, b"bulk") {
-        bulk_of(alloc, line)
+        rows_of(alloc, Stage::L2, line)
     } else if same_bytes(verb, b"update") {
         update_of(alloc, line)
     } else if same_bytes(verb, b"delete") {

@@ -1,10 +1,11 @@
 //! The statements of session 0, the operator's.
 #![tactic(auto, using(crate::proofs::StatementLemmas::statements))]
 
-ghost use Rattle.std.specs.Prelude.{◌≡◌, Some, None};
+ghost use Rattle.std.specs.Prelude.{◌≡◌, ◌∷◌, [], Some, None, IfSome, IfNone, true, false};
 ghost use Rattle.std.specs.Option.{option_map};
+ghost use Rattle.ut_value.specs.Text.{is_name};
 ghost use Rattle.ut_script.specs.Words.{words_of};
-ghost use Rattle.ut_script.specs.Statements.{Reads, ReadsStatement, count_of, merge_kind_of, merge_l1_of, merge_begin_of, merge_end_of, merge_of, save_step_of, save_of, shape_of, store_statement_of};
+ghost use Rattle.ut_script.specs.Statements.{Reads, ReadsStatement, count_of, merge_kind_of, is_named_word, merge_l1_of, merge_begin_of, merge_end_of, merge_of, save_step_of, save_of, shape_of, store_statement_of};
 
 use crate::literals::{number_of, within};
 use crate::spelled::Spelled;
@@ -98,22 +99,31 @@ fn merge_of(alloc: Global, line: &[u8]) -> Result<Option<Statement>, AllocError>
     }
 }
 
+// A table's name and the word behind it, which is the last.
+fn named_word(line: &[u8]) -> Option<(&[u8], &[u8])>
+    ensures found { IfSome result (λ r. words_of line.now ≡ r.0.now ∷ r.1.now ∷ []) }
+    ensures table { IfSome result (λ r. is_name r.0.now ≡ true) }
+    ensures none { IfNone result (is_named_word (words_of line.now) ≡ false) }
+{
+    let (table, rest) = next_word(line)?;
+    let (word, rest) = next_word(rest)?;
+    let None = next_word(rest) else {
+        return None;
+    };
+    if is_name(table) {
+        Some((table, word))
+    } else {
+        None
+    }
+}
+
 // `T n`
 fn merge_l1_of(alloc: Global, line: &[u8]) -> Result<Option<Statement>, AllocError>
     ensures { Reads result (merge_l1_of (words_of line.now)) }
 {
-    let Some((table, rest)) = next_word(line) else {
+    let Some((table, word)) = named_word(line) else {
         return Ok(None);
     };
-    let Some((word, rest)) = next_word(rest) else {
-        return Ok(None);
-    };
-    let None = next_word(rest) else {
-        return Ok(None);
-    };
-    if !is_name(table) {
-        return Ok(None);
-    }
     let Some(n) = count_of(word) else {
         return Ok(None);
     };
@@ -125,18 +135,9 @@ fn merge_l1_of(alloc: Global, line: &[u8]) -> Result<Option<Statement>, AllocErr
 fn merge_begin_of(alloc: Global, line: &[u8]) -> Result<Option<Statement>, AllocError>
     ensures { Reads result (merge_begin_of (words_of line.now)) }
 {
-    let Some((table, rest)) = next_word(line) else {
+    let Some((table, word)) = named_word(line) else {
         return Ok(None);
     };
-    let Some((word, rest)) = next_word(rest) else {
-        return Ok(None);
-    };
-    let None = next_word(rest) else {
-        return Ok(None);
-    };
-    if !is_name(table) {
-        return Ok(None);
-    }
     let Some(kind) = merge_kind_of(word) else {
         return Ok(None);
     };

@@ -1,6 +1,6 @@
 -- The rows of a stage that are seen, pushed one by one.
-use Rattle.std.proofs.Common.{◌≡◌, ℕ, ◌+◌, ◌<◌, ◌≤◌, Bool, true, false, cond, List, [], ◌∷◌, ◌++◌, length, map, filter, take, get_or, None, Some, sym, ◌∙◌, ap, arith, append_assoc}
-use Rattle.std.proofs.lemmas.List.{append-nil, map-append, get_or-map, length-map, take_all}
+use Rattle.std.proofs.Common.{◌≡◌, ℕ, ◌+◌, ◌<◌, Bool, true, false, cond, List, [], ◌∷◌, ◌++◌, length, map, filter, take, get_or, None, Some, sym, ◌∙◌, ap, arith, append_assoc}
+use Rattle.std.proofs.lemmas.List.{append-nil, map-append, get_or-map, length-map}
 use Rattle.std.proofs.lemmas.List.Elements.{filter_more}
 use Rattle.std.proofs.lemmas.Option.{slice_get-get_or}
 use Rattle.ut_value.specs.declared.value.Row.{Row}
@@ -17,9 +17,6 @@ use Rattle.ut_shown.specs.Shown.{shown_row, shown_stamp, sees_stamp, is_seen, sh
 -- the rows of a stage that are seen, behind those of another table's first stage
 abbrev pub pushed : Eyes → List StagedRow → Staged → Staged
 pushed l rows out = record out { l1 = out.l1 ++ shown_rows l rows }
-
-pub nothing-pushed : (l : Eyes) (out : Staged) → out ≡ pushed l [] out
-nothing-pushed l out = ap (λ (x : List StagedRow). record out { l1 = x }) (sym (append-nil out.l1))
 
 module _ (l : Eyes) (stage : Stage) (s : Staged) (stamps : List Stamp) (i : ℕ) (same : stamps ≡ map stamp_of (rows_in stage s)) (within : i < length stamps) where
   abbrev rows : List StagedRow
@@ -51,7 +48,3 @@ module _ (l : Eyes) (stage : Stage) (s : Staged) (stamps : List Stamp) (i : ℕ)
   pub passed-over : (d : Stamp) (first old new : Staged) → sees_stamp l (get_or stamps i d) ≡ false → old ≡ pushed l (take i rows) first → new ≡ old → new ≡ pushed l (take (i + 1) rows) first
   passed-over d first old new unseen so_far is =
       is ∙ so_far ∙ ap (λ (x : List StagedRow). record first { l1 = first.l1 ++ x }) (sym (more false (tested d false unseen) ∙ append-nil (shown_rows l (take i rows))))
-
--- all of them
-pub pushed-all : (l : Eyes) (stage : Stage) (s : Staged) (stamps : List Stamp) (i : ℕ) (first out : Staged) → stamps ≡ map stamp_of (rows_in stage s) → length stamps ≤ i → out ≡ pushed l (take i (rows_in stage s)) first → out ≡ pushed l (rows_in stage s) first
-pushed-all l stage s stamps i first out same end is = is ∙ ap (λ (x : List StagedRow). pushed l x first) (take_all i (rows_in stage s) (omega (arith, end, ap length same, length-map (rows_in stage s) stamp_of)))

@@ -17,7 +17,7 @@ use Rattle.ut_prefix.specs.Chain.{end_to_end}
 use Rattle.ut_prefix.proofs.ChainLemmas.{end_to_end-push}
 use Rattle.ut_main.specs.Columns.{Chain}
 use Rattle.ut_main.proofs.MainLemmas.{dicts-next, first-all}
-use Rattle.ut_scan.proofs.CodeLemmas.{keys_first, keys-first, IsPartOf, part_keys, code-known}
+use Rattle.ut_scan.proofs.CodeLemmas.{code-main, keys_first, IsPartOf}
 use Rattle.ut_staged.specs.Staged.{Staged, row_at}
 use Rattle.ut_table.specs.Decoded.{decoded}
 use Rattle.ut_table.specs.Contents.{Contents, PendingValue, closed_rows, held, staged}
@@ -31,19 +31,6 @@ use Rattle.ut_table.proofs.CloseLemmas.{parts-keys}
 use Rattle.ut_table.proofs.ReadLemmas.{columns-are, holds-row, held-values, within}
 
 -- ---- the keys of all dictionaries
-
--- the code of a row among all keys of main, and the key that it stands for
-code-main : (main : MainValue) (p : ℕ) (part : PartValue) (j i : ℕ) → IsPartOf main p part → j < main.width → i < length part.rows
-    → (code_at part i j < length (keys_in main j)) × (get_or (keys_in main j) (code_at part i j) [] ≡ key_at j (get_or part.rows i no_row))
-code-main main p part j i h wide lt =
-    let r = keys-first main p part j h wide in
-    let known = code-known part j i lt in
-    let size = ap length r.1 in
-    let both = length-append (part_keys part j) r.0 in (
-      omega (arith, known.0, size, both),
-      ap (λ (l : List (List ℕ)). get_or l (code_at part i j) []) r.1
-          ∙ get_or_append_left (part_keys part j) r.0 [] (code_at part i j) known.0 ∙ known.1,
-    )
 
 -- no parts, no keys
 no-keys : (width j : ℕ) → get_or (replicate {A = Chain} width []) j [] ≡ []
@@ -123,8 +110,7 @@ module _ {t : Contents} (h : IsTable t) {s : Staged} (view : staged t ≡ s) whe
       let place : i < length part.rows = omega (arith, there, ap length rows) in
       let code = code-main t.main n part j i at wide place in
       let main = ap (λ m. keys_in m j) main-is in
-      let key : slice_get (keys_in t.main j) (code_at part i j) ≡ Some (key_at j (get_or part.rows i no_row)) = slice_get-get_or (keys_in t.main j) (code_at part i j) [] code.0 ∙ ap Some code.1 in
-      value-of p (Main n i) j (code_at part i j) row same lt e
+      let key : slice_get (keys_in t.main j) (code_at part i j) ≡ Some (key_at j (get_or part.rows i no_row)) = slice_get-get_or (keys_in t.main j) (code_at part i j) [] code.0 ∙ ap Some code.1 in value-of p (Main n i) j (code_at part i j) row same lt e
       (before (keys_in (keyed_main s) j) (delta_keys j s.l2 ++ delta_keys j (unwrap_or s.closed [])) (code_at part i j) (key_at j (key_row_at t (Main n i)))
       (ap (λ ks. slice_get ks (code_at part i j)) main ∙ key ∙ ap (λ (rs : List KeyRow). Some (key_at j (get_or rs i no_row))) rows))
 

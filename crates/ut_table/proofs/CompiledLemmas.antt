@@ -78,8 +78,7 @@ module _ (pred : Pred) (rule : IsTrue (is_value pred.value)) where
 met-preds : (columns : List Column) (row : Row) → IsRow columns row → (asked : List Pred) → IsTrue (preds_known asked columns) → IsTrue (preds_fit columns asked) → IsTrue (list_all (λ (p : Pred). is_value p.value) asked)
     → passes (map (column_pred columns) asked) (keyed row) ≡ meets columns asked row.values
 met-preds columns row is [] known fit rules = refl
-met-preds columns row is (p ∷ ps) known fit rules = λ i.
-    met-pred p (and_left (is_value p.value) _ rules) columns row is (and_left (has_column columns p.column) _ known) (and_left (has_kind p.value (kind_in columns p.column)) _ fit) i
+met-preds columns row is (p ∷ ps) known fit rules = λ i. met-pred p (and_left (is_value p.value) _ rules) columns row is (and_left (has_column columns p.column) _ known) (and_left (has_kind p.value (kind_in columns p.column)) _ fit) i
     && met-preds columns row is ps (and_right (has_column columns p.column) _ known) (and_right (has_kind p.value (kind_in columns p.column)) _ fit) (and_right (is_value p.value) _ rules) i
 
 -- a row meets the compiled comparisons where it meets those that were asked for

@@ -107,11 +107,6 @@ IsHeld-keyed columns row h =
 pub All-keyed : (columns : List Column) (rows : List Row) → All (IsRow columns) rows → All (IsHeld columns) (map keyed rows)
 All-keyed columns rows h = All-map (IsHeld columns) keyed rows (All-weaker (IsRow columns) (λ r. IsHeld columns (keyed r)) (IsHeld-keyed columns) rows h)
 
--- rows of keys come back from the rows that they stand for
-pub keyed-decoded : (columns : List Column) (rows : List KeyRow) → All (IsHeld columns) rows → map keyed (decoded_rows columns rows) ≡ rows
-keyed-decoded columns [] h = refl
-keyed-decoded columns (row ∷ rows) h = λ i. (All-head (IsHeld columns) row rows h).keys i ∷ keyed-decoded columns rows (All-tail (IsHeld columns) row rows h) i
-
 -- ---- a row as its stage holds it
 
 pub stands-length : (columns : List Column) (standing : Standing) → Stands columns standing → length (values_held columns standing) ≡ length columns

@@ -10,11 +10,12 @@ use Rattle.ut_l2.specs.KeyRows.{keyed}
 use Rattle.ut_l2.specs.Delta.{Delta}
 use Rattle.ut_main.specs.Parts.{MainValue}
 use Rattle.ut_key.specs.declared.comparison.ColumnPred.{ColumnPred}
+use Rattle.ut_scan.specs.declared.asked.Asked.{Asked}
 use Rattle.ut_scan.specs.declared.place.Found.{Found}
 use Rattle.ut_scan.specs.declared.stages.Stages.{Stages}
 use Rattle.ut_stamps.specs.StampLists.{StampLists}
-use Rattle.ut_scan.specs.StageRows.{AreStamped, rows_in, found_in_parts, found_outside, found_rows, asked_for}
-use Rattle.ut_scan.specs.Tallies.{Tallies}
+use Rattle.ut_scan.specs.StageRows.{rows_in, rows_asked, outside_asked, found_in_parts, found_outside, found_rows, AreStamped, AsksFor, MayAsk}
+use Rattle.ut_scan.specs.Tallies.{Tallies, TalliesAsked}
 use Rattle.ut_staged.specs.Staged.{Staged}
 use Rattle.ut_plain.specs.Compiled.{Compiles}
 use Rattle.ut_table.specs.Contents.{Contents, PendingValue}
@@ -42,7 +43,7 @@ module _ {s : Staged} {stages : Stages} (a : AreLent s stages) where
   pub lent-width : stages.l2.now.width ≡ length t.columns
   lent-width = ap (λ (d : Delta). d.width) a.l2 ∙ a.kept.rows.l2_wide
 
-  pub lent-stamped : AreStamped stages
+  lent-stamped : AreStamped stages
   lent-stamped = record {
     l1 = ap (λ (x : StampLists). length x.l1.items) a.stamps ∙ a.kept.stamped.l1 ∙ sym (ap length a.l1);
     l2 = ap (λ (x : StampLists). length x.l2.items) a.stamps ∙ a.kept.stamped.l2 ∙ sym (ap (λ (d : Delta). length d.rows) a.l2);
@@ -63,32 +64,36 @@ module _ {s : Staged} {stages : Stages} (a : AreLent s stages) where
     parts = (a.main i).parts;
   }
 
-  -- the columns that are named are there in the stages too
-  pub lent-columns : (preds : List ColumnPred) → All (λ (p : ColumnPred). p.column < length s.columns) preds → All (λ (p : ColumnPred). p.column < stages.l2.now.width) preds
-  lent-columns preds h = subst (λ n. All (λ (p : ColumnPred). p.column < n) preds) (ap (λ (x : Staged). length x.columns) (sym a.view) ∙ sym lent-width) h
-
   -- what a scan of the stages answers, as the contract of a table says it
-  module _ (fates : List Fate) (snapshot : ℕ) (own : Option ℕ) (preds : List ColumnPred) (once : SeenOnce s fates snapshot own) (asked : List Pred) (compiles : Compiles s.columns asked preds) where
-    compiles-there : Compiles t.columns asked preds
-    compiles-there = subst (λ (x : Staged). Compiles x.columns asked preds) (sym a.view) compiles
+  module _ {fates : List Fate} {snapshot : ℕ} {own : Option ℕ} {preds : List ColumnPred} {q : Asked} (is : AsksFor fates snapshot own preds q) where
+    -- the columns that are named are there in the stages too
+    pub lent-asked : All (λ (p : ColumnPred). p.column < length s.columns) preds → MayAsk stages q
+    lent-asked h = record {
+      stamped = lent-stamped;
+      columns = subst (All (λ (p : ColumnPred). p.column < stages.l2.now.width)) (sym is.preds_are)
+          (subst (λ n. All (λ (p : ColumnPred). p.column < n) preds) (ap (λ (x : Staged). length x.columns) (sym a.view) ∙ sym lent-width) h);
+    }
 
-    rows-lent : asked_for fates snapshot own preds stages ≡ found_rows fates snapshot own preds (rows_of t) t.stamps
-    rows-lent = λ i. found_rows fates snapshot own preds (rows-are i) (a.stamps i)
+    module _ (once : SeenOnce s fates snapshot own) (asked : List Pred) (compiles : Compiles s.columns asked preds) where
+      compiles-there : Compiles t.columns asked preds
+      compiles-there = subst (λ (x : Staged). Compiles x.columns asked preds) (sym a.view) compiles
 
-    pub lent-finds : (found : List Found) → IsPermutation (asked_for fates snapshot own preds stages) found → IsNonDecreasingBy (λ (f : Found). f.id) found → Finds s fates snapshot own asked found
-    lent-finds found rows up = scan-finds a.kept a.view fates snapshot own asked preds compiles-there once found (subst (λ l. IsPermutation l found) rows-lent rows) up
+      rows-lent : rows_asked q stages ≡ found_rows fates snapshot own preds (rows_of t) t.stamps
+      rows-lent = λ i. found_rows (is.fates_are i) (is.snapshot_is i) (is.own_is i) (is.preds_are i) (rows-are i) (a.stamps i)
 
-    pub lent-counts : (count : ℕ) → count ≡ length (asked_for fates snapshot own preds stages) → Counts s fates snapshot own asked count
-    lent-counts count is = scan-counts a.kept a.view fates snapshot own asked preds compiles-there once count (is ∙ ap length rows-lent)
+      pub lent-finds : (found : List Found) → IsPermutation (rows_asked q stages) found → IsNonDecreasingBy (λ (f : Found). f.id) found → Finds s fates snapshot own asked found
+      lent-finds found rows up = scan-finds a.kept a.view fates snapshot own asked preds compiles-there once found (subst (λ l. IsPermutation l found) rows-lent rows) up
 
-    tallies-lent : (column : ℕ) (counts : List ℕ) → Tallies stages.main.now column (found_in_parts fates snapshot own preds stages.main.now.parts stages.stamps.now.parts) counts
-        → Tallies t.main column (found_in_parts fates snapshot own preds t.main.parts t.stamps.parts) counts
-    tallies-lent column counts told =
-        subst (λ (x : StampLists). Tallies t.main column (found_in_parts fates snapshot own preds t.main.parts x.parts) counts) a.stamps
-        (subst (λ (m : MainValue). Tallies m column (found_in_parts fates snapshot own preds m.parts stages.stamps.now.parts) counts) a.main told)
+      pub lent-counts : (count : ℕ) → count ≡ length (rows_asked q stages) → Counts s fates snapshot own asked count
+      lent-counts count at = scan-counts a.kept a.view fates snapshot own asked preds compiles-there once count (at ∙ ap length rows-lent)
 
-    pub lent-tallied : (column : ℕ) → column < length s.columns → (counts : List ℕ) (rest : List Found) → Tallies stages.main.now column (found_in_parts fates snapshot own preds stages.main.now.parts stages.stamps.now.parts) counts
-        → rest ≡ found_outside fates snapshot own preds (rows_in stages) stages.stamps.now → Tallied s fates snapshot own asked column counts rest
-    lent-tallied column wide counts rest told is =
-        scan-tallies a.kept a.view fates snapshot own asked preds compiles-there once column wide counts rest (tallies-lent column counts told)
-        (is ∙ (λ i. found_outside fates snapshot own preds (rows-are i) (a.stamps i)))
+      tallies-lent : (column : ℕ) (counts : List ℕ) → TalliesAsked q stages column counts → Tallies t.main column (found_in_parts fates snapshot own preds t.main.parts t.stamps.parts) counts
+      tallies-lent column counts told =
+          subst (λ (x : StampLists). Tallies t.main column (found_in_parts fates snapshot own preds t.main.parts x.parts) counts) a.stamps
+          (subst (λ (m : MainValue). Tallies m column (found_in_parts fates snapshot own preds m.parts stages.stamps.now.parts) counts) a.main
+          (subst (λ (l : List Found). Tallies stages.main.now column l counts) (λ i. found_in_parts (is.fates_are i) (is.snapshot_is i) (is.own_is i) (is.preds_are i) stages.main.now.parts stages.stamps.now.parts) told))
+
+      pub lent-tallied : (column : ℕ) → column < length s.columns → (counts : List ℕ) (rest : List Found) → TalliesAsked q stages column counts → rest ≡ outside_asked q stages → Tallied s fates snapshot own asked column counts rest
+      lent-tallied column wide counts rest told at =
+          scan-tallies a.kept a.view fates snapshot own asked preds compiles-there once column wide counts rest (tallies-lent column counts told)
+          (at ∙ (λ i. found_outside (is.fates_are i) (is.snapshot_is i) (is.own_is i) (is.preds_are i) (rows-are i) (a.stamps i)))

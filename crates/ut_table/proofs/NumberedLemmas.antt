@@ -95,11 +95,12 @@ rest-switched next kind s new after h =
       unclosed = refl;
     })
 
-sizes : (lists : List (List StagedRow)) → map length (map (map key_row) lists) ≡ map length lists
+-- rows as their keys are as many
+pub sizes : (lists : List (List StagedRow)) → map length (map (map key_row) lists) ≡ map length lists
 sizes [] = refl
 sizes (rows ∷ lists) = λ i. length-map rows key_row i ∷ sizes lists i
 
-sum_sizes : (lists : List (List StagedRow)) → sum_by length (map (map key_row) lists) ≡ sum_by length lists
+pub sum_sizes : (lists : List (List StagedRow)) → sum_by length (map (map key_row) lists) ≡ sum_by length lists
 sum_sizes [] = refl
 sum_sizes (rows ∷ lists) =
     let rest = sum_sizes lists in

@@ -272,8 +272,7 @@ module _ {t : Contents} (h : IsTable t) (p : PendingValue) (is : t.pending ≡ S
         sorted : map placed_of (rows_at s (map place_of_old old)) ≡ plain.resorted kept_list
         sorted = resorted-by_keys kept_list (map placed_of (rows_at s (map place_of_old old)))
             (subst jobs.HaveOwnIds (sym kept-keys) ((h.job p is).differ e))
-            (moved-keys old stand ∙ rows ∙ ap (λ k. jobs.arranged k (kept_rows job)) e ∙ ap resorted (sym kept-keys))
-            all-kept
+            (moved-keys old stand ∙ rows ∙ ap (λ k. jobs.arranged k (kept_rows job)) e ∙ ap resorted (sym kept-keys)) all-kept
     in-order kinds.Partial e = as-before (λ l. ap (λ k. arranged k l) e) (λ r. absurd (differ (sym e ∙ r)))
       where
         differ : kinds.Partial ≡ kinds.Resort → ⊥

@@ -1,5 +1,5 @@
 //! Which places a merge keeps, by the stamps of their rows.
-ghost use Rattle.std.specs.Prelude.{◌≡◌, ◌<◌, ◌≤◌, ◌||◌, ◌++◌, [], ◌∷◌, not, length, map, get_or, IfOk};
+ghost use Rattle.std.specs.Prelude.{◌≡◌, ◌<◌, ◌≤◌, ◌||◌, ◌++◌, [], ◌∷◌, length, map, IfOk};
 ghost use Rattle.ut_plain.specs.Merges.{staying};
 ghost use Rattle.ut_stamps.specs.Kept.{stamp_keeps};
 ghost use Rattle.ut_table.specs.Flags.{flags_behind};

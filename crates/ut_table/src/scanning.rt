@@ -10,7 +10,7 @@ use crate::table::Table;
 use std::alloc::{AllocError, Global};
 use std::marker::Brand;
 use std::sync::ledger::Blank;
-use ut_scan::{CodeTally, ColumnPred, Found};
+use ut_scan::{Asked, CodeTally, ColumnPred, Found};
 use ut_stamps::Fates;
 
 impl Table {
@@ -30,7 +30,8 @@ impl Table {
             → Finds s fates.now snapshot own asked found.items) }
     {
         let stages = self.stages();
-        counted_scan::<Brand>(alloc, &stages, fates, snapshot, own, preds, Blank::new(1))
+        let asked = Asked::of(fates, snapshot, own, preds);
+        counted_scan::<Brand>(alloc, &stages, &asked, Blank::new(1))
     }
 
     /// How many rows a scan finds. There is no list of them.
@@ -49,7 +50,8 @@ impl Table {
             → Counts s fates.now snapshot own asked count) }
     {
         let stages = self.stages();
-        counted_rows::<Brand>(alloc, &stages, fates, snapshot, own, preds, Blank::new(1))
+        let asked = Asked::of(fates, snapshot, own, preds);
+        counted_rows::<Brand>(alloc, &stages, &asked, Blank::new(1))
     }
 
     /// What a scan finds, the rows of main by their codes in a column. There is no list of these.
@@ -71,15 +73,7 @@ impl Table {
         ensures few { IfOk result (λ t. length t.counts.items < 2 ^ 31) }
     {
         let stages = self.stages();
-        counted_tally::<Brand>(
-            alloc,
-            &stages,
-            fates,
-            snapshot,
-            own,
-            preds,
-            column as u8,
-            Blank::new(1),
-        )
+        let asked = Asked::of(fates, snapshot, own, preds);
+        counted_tally::<Brand>(alloc, &stages, &asked, column as u8, Blank::new(1))
     }
 }

@@ -27,51 +27,7 @@ fn copied(alloc: Global, columns: &[Column], l2: &L2) -> Result<L2, AllocError>
     Ok(copy)
 }
 
-/// Appends the rows to a copy of the stage, which takes its place.
-fn append_to_copy(
-    alloc: Global,
-    columns: &[Column],
-    l2: &mut Arc<L2>,
-    rows: &[Row],
-) -> Result<(), AllocError>
-    requires stage { IsStage columns.now (arc_value l2.old) }
-    requires wide { All (λ r. length r.values ≡ (arc_value l2.old).width) rows.now }
-    requires count { length (arc_value l2.old).rows + length rows.now ≤ 2 ^ 31 }
-    ensures width { (arc_value l2.new).width ≡ (arc_value l2.old).width }
-    ensures ok { OnOk result ((arc_value l2.new).rows ≡ (arc_value l2.old).rows ++ map keyed rows.now) }
-    ensures err { OnErr result ((arc_value l2.new).rows ≡ (arc_value l2.old).rows) }
-{
-    let mut copy = copied(alloc, columns, l2)?;
-    copy.append(rows)?;
-    *l2 = Arc::new(alloc, copy)?;
-    Ok(())
-}
-
-/// The same of rows that these values are.
-fn append_values_to_copy(
-    alloc: Global,
-    columns: &[Column],
-    l2: &mut Arc<L2>,
-    first_id: u32,
-    values: &[Value],
-) -> Result<(), AllocError>
-    ghost rows: { List Row }
-    requires stage { IsStage columns.now (arc_value l2.old) }
-    requires are { AreFlat rows first_id (arc_value l2.old).width values.now }
-    requires width { 0 < (arc_value l2.old).width }
-    requires ids { first_id + length rows ≤ 2 ^ 32 }
-    requires count { length (arc_value l2.old).rows + length rows ≤ 2 ^ 31 }
-    ensures width { (arc_value l2.new).width ≡ (arc_value l2.old).width }
-    ensures ok { OnOk result ((arc_value l2.new).rows ≡ (arc_value l2.old).rows ++ map keyed rows) }
-    ensures err { OnErr result ((arc_value l2.new).rows ≡ (arc_value l2.old).rows) }
-{
-    let mut copy = copied(alloc, columns, l2)?;
-    copy.append_values(first_id, values)?;
-    *l2 = Arc::new(alloc, copy)?;
-    Ok(())
-}
-
-/// Appends all the rows, or none.
+/// Appends all the rows, or none. Where the stage is shared, a copy with them takes its place.
 pub(crate) fn append(
     alloc: Global,
     columns: &[Column],
@@ -87,11 +43,16 @@ pub(crate) fn append(
 {
     match Arc::get_mut(l2) {
         Some(l2) => l2.append(rows),
-        None => append_to_copy(alloc, columns, l2, rows),
+        None => {
+            let mut copy = copied(alloc, columns, l2)?;
+            copy.append(rows)?;
+            *l2 = Arc::new(alloc, copy)?;
+            Ok(())
+        }
     }
 }
 
-/// Appends the rows that these values are, under the ids from one on, or none.
+/// The same of the rows that these values are, under the ids from one on.
 pub(crate) fn append_values(
     alloc: Global,
     columns: &[Column],
@@ -111,6 +72,11 @@ pub(crate) fn append_values(
 {
     match Arc::get_mut(l2) {
         Some(l2) => l2.append_values(first_id, values),
-        None => append_values_to_copy(alloc, columns, l2, first_id, values),
+        None => {
+            let mut copy = copied(alloc, columns, l2)?;
+            copy.append_values(first_id, values)?;
+            *l2 = Arc::new(alloc, copy)?;
+            Ok(())
+        }
     }
 }

@@ -1,9 +1,8 @@
 //! A table: the rows of its stages, each with its stamp.
-ghost use Rattle.std.specs.Prelude.{◌≡◌, ◌+◌, ◌<◌, ◌≤◌, ◌^◌, ℕ, length, map, min, Some, IsSome, IsTrue, IfOk, OnOk, OnErr, All, List};
+ghost use Rattle.std.specs.Prelude.{◌≡◌, ◌+◌, ◌<◌, ◌≤◌, ◌^◌, length, map, min, IsSome, IsTrue, IfOk, OnOk, OnErr, All, List};
 ghost use Rattle.ut_value.specs.declared.value.Row.{Row};
 ghost use Rattle.ut_plain.specs.Tables.{fits_columns};
 ghost use Rattle.ut_l2.specs.Sources.{AreFlat};
-ghost use Rattle.ut_exact.specs.Places.{StagedRow};
 ghost use Rattle.ut_staged.specs.Staged.{no_rows, row_at, count_of, stamped_row, begun_row, entered_l1, entered_l2, ended_in, merged_l1};
 
 use crate::kept::{begin_all, rows_keep_rules};

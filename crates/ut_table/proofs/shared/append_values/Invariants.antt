@@ -2,6 +2,3 @@ use Rattle.ut_table.proofs.shared.append_values.Given as goal
 
 abbrev pub ghost-append_values : goal.ghost-append_values
 ghost-append_values g a = g.rows
-
-abbrev pub ghost-append_values_to_copy : goal.ghost-append_values_to_copy
-ghost-append_values_to_copy g a = g.rows
