@@ -1,4 +1,5 @@
 pub mod OrderLemmas
+pub mod PutLemmas
 pub mod SortLemmas
 mod PackLemmas
 pub mod ResortLaws

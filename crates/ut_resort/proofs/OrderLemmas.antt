@@ -186,8 +186,7 @@ module _ {X : Type 0} {R : X → X → Ordering} (o : IsTotalOrder R) where
   pub only_order : (xs ys : List X) → IsDistinct (eq_by_cmp R) xs → IsPermutation xs ys → IsSorted R ys → ys ≡ in_order before xs
   only_order xs ys differ moved sorted =
       let flips : (x y : X) → eq_by_cmp R x y ≡ eq_by_cmp R y x = flip in
-      let apart = IsDistinct-IsPermutation (eq_by_cmp R) flips xs ys moved differ in
-      in_order-is before never trans xs ys
+      let apart = IsDistinct-IsPermutation (eq_by_cmp R) flips xs ys moved differ in in_order-is before never trans xs ys
       (differ-from xs (λ i j d lt small. apart_from_distinct (eq_by_cmp R) xs i j d differ lt small))
       (ordered-from ys (λ i j d lt small. rises (get_or ys i d) (get_or ys j d) (sorted_far before (ranks_by o (λ (x : X). x)) ys sorted i j d (omega (arith, lt)) small) (apart_from_distinct (eq_by_cmp R) ys i j d apart lt small)))
       (λ x h. in-permutation x ys xs (IsPermutation-sym xs ys moved) h) (λ x h. in-permutation x xs ys moved h)

@@ -49,7 +49,7 @@ sorted-map S R f good xs all same sorted k d le lt =
 
 -- ---- the order of the columns
 
-column_cmp-total : (distinct : List ℕ) → IsTotalOrder (column_cmp distinct)
+pub column_cmp-total : (distinct : List ℕ) → IsTotalOrder (column_cmp distinct)
 column_cmp-total distinct = then_total (on_total (λ (c : ℕ). get_or distinct c 0) nat_cmp_total) nat_cmp_total
 
 pub counted_cmp-total : IsTotalOrder counted_cmp

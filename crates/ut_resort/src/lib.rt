@@ -6,5 +6,5 @@ mod laws;
 mod packing;
 mod rows;
 
-pub use laws::resorted_order;
+pub use laws::{column_order, resorted_order};
 pub use rows::order;
