@@ -12,9 +12,8 @@ use Rattle.ut_savepoint.specs.Captured.{CapturesTable, CaptureTables, Captures}
 use Rattle.ut_stamps.specs.declared.fates.Fate.{Fate}
 use Rattle.ut_staged.specs.Staged.{Staged}
 use Rattle.ut_table.specs.Contents.{TableValue}
-use Rattle.ut_store.specs.Held.{Held}
-use Rattle.ut_store.specs.Stands.{StandsFor}
-use Rattle.ut_store.specs.Standing.{Stands}
+use Rattle.ut_tables.specs.Rows.{Rows}
+use Rattle.ut_tables.specs.Standing.{AreRowsOf}
 use Rattle.ut_capture.specs.Live.{live_stages}
 use Rattle.ut_capture.proofs.ListLemmas.{map-twice, alike-at, take_all}
 use Rattle.ut_capture.proofs.LiveLemmas.{capture-live}
@@ -28,12 +27,12 @@ tables-more (c0 ∷ cs) (t0 ∷ ts) [] c t s all one = absurd all
 tables-more (c0 ∷ cs) (t0 ∷ ts) (s0 ∷ ss) c t s all one = (all.0, tables-more cs ts ss c t s all.1 one)
 
 -- what is captured of all tables is the directory
-pub captures : (e : Held) (cs : List CapturedTable) → CaptureTables cs e.rows.tables (map (live_stages e.rows.fates e.counts.entries) e.rows.staged) → (p : Plain) → StandsFor e p → Captures cs (capture (current p.journal) p.stages)
-captures e cs all p stands = subst (Captures cs) (sym (capture-live e p stands)) all
+pub captures : (r : Rows) (count : ℕ) (cs : List CapturedTable) → CaptureTables cs r.tables (map (live_stages r.fates count) r.staged) → (p : Plain) → AreRowsOf r count p → Captures cs (capture (current p.journal) p.stages)
+captures r count cs all p stands = subst (Captures cs) (sym (capture-live r count p stands)) all
 
-module _ (e : Held) (st : Stands e) (ts : List Table) (vs : List TableValue) (tables : ts ≡ e.rows.tables) (stages : map (λ (v : TableValue). v.stages) vs ≡ e.rows.staged) where
+module _ (r : Rows) (count : ℕ) (first : (p : Plain) × AreRowsOf r count p) (ts : List Table) (vs : List TableValue) (tables : ts ≡ r.tables) (stages : map (λ (v : TableValue). v.stages) vs ≡ r.staged) where
   alike : map (λ (t : Table). t.columns) ts ≡ map (λ (v : TableValue). v.stages.columns) vs
-  alike = ap (map (λ (t : Table). t.columns)) tables ∙ sym st.stands.rows.columns ∙ ap (map (λ (s : Staged). s.columns)) (sym stages) ∙ map-twice (λ (s : Staged). s.columns) (λ (v : TableValue). v.stages) vs
+  alike = ap (map (λ (t : Table). t.columns)) tables ∙ sym first.1.rows.columns ∙ ap (map (λ (s : Staged). s.columns)) (sym stages) ∙ map-twice (λ (s : Staged). s.columns) (λ (v : TableValue). v.stages) vs
 
   as_many : length ts ≡ length vs
   as_many = sym (length-map ts (λ (t : Table). t.columns)) ∙ ap length alike ∙ length-map vs (λ (v : TableValue). v.stages.columns)
@@ -62,11 +61,11 @@ module _ (e : Held) (st : Stands e) (ts : List Table) (vs : List TableValue) (ta
       staged : List Staged
       staged = map (λ (x : TableValue). x.stages) vs
 
-  pub all_captured : (fates : List Fate) (entries n : ℕ) (cs : List CapturedTable) → fates ≡ e.rows.fates → entries ≡ e.counts.entries → length ts ≤ n
-      → CaptureTables cs (take n ts) (map (live_stages fates entries) (take n (map (λ (x : TableValue). x.stages) vs))) → (p : Plain) → StandsFor e p → Captures cs (capture (current p.journal) p.stages)
+  pub all_captured : (fates : List Fate) (entries n : ℕ) (cs : List CapturedTable) → fates ≡ r.fates → entries ≡ count → length ts ≤ n
+      → CaptureTables cs (take n ts) (map (live_stages fates entries) (take n (map (λ (x : TableValue). x.stages) vs))) → (p : Plain) → AreRowsOf r count p → Captures cs (capture (current p.journal) p.stages)
   all_captured fates entries n cs fates_is entries_is all are p stands =
-      let front : take n ts ≡ e.rows.tables = take_all n ts all ∙ tables in
-      let behind : take n (map (λ (x : TableValue). x.stages) vs) ≡ e.rows.staged = take_all n (map (λ (x : TableValue). x.stages) vs) (omega (arith, all, as_many, length-map vs (λ (x : TableValue). x.stages))) ∙ stages in
-      let live : map (live_stages fates entries) (take n (map (λ (x : TableValue). x.stages) vs)) ≡ map (live_stages e.rows.fates e.counts.entries) e.rows.staged = λ i. map (live_stages (fates_is i) (entries_is i)) (behind i) in
-      captures e cs (subst (λ (l : List Table). CaptureTables cs l (map (live_stages e.rows.fates e.counts.entries) e.rows.staged)) front
+      let front : take n ts ≡ r.tables = take_all n ts all ∙ tables in
+      let behind : take n (map (λ (x : TableValue). x.stages) vs) ≡ r.staged = take_all n (map (λ (x : TableValue). x.stages) vs) (omega (arith, all, as_many, length-map vs (λ (x : TableValue). x.stages))) ∙ stages in
+      let live : map (live_stages fates entries) (take n (map (λ (x : TableValue). x.stages) vs)) ≡ map (live_stages r.fates count) r.staged = λ i. map (live_stages (fates_is i) (entries_is i)) (behind i) in
+      captures r count cs (subst (λ (l : List Table). CaptureTables cs l (map (live_stages r.fates count) r.staged)) front
       (subst (λ (l : Stages). CaptureTables cs (take n ts) l) live are)) p stands

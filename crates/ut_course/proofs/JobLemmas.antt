@@ -40,7 +40,8 @@ use Rattle.ut_merge.specs.Jobs.{JobValue}
 use Rattle.ut_table.specs.Pending as tables
 use Rattle.ut_store.specs.Held.{Held}
 use Rattle.ut_store.specs.Jobs.{pending_job}
-use Rattle.ut_store.specs.Stands.{StandsFor, merge_at}
+use Rattle.ut_tables.specs.Standing.{merge_at}
+use Rattle.ut_store.specs.Stands.{StandsFor}
 use Rattle.ut_engine.specs.Logged.{Logged}
 use Rattle.ut_engine.specs.Runs.{Runs}
 use Rattle.ut_course.specs.Coming.{is_of_merge, asks_merge}

@@ -192,8 +192,7 @@ module _ (old : Logged) (before : View) (session : ℕ) (p : Plain) (runs : Runs
         let moved : Moves old.files files before after = subst (λ (f : FilesHeld). Moves old.files f before after) (ap (λ (e : Logged). e.files) same) moves in
         let place : place_of root ≡ files.log = captured.place.moved here in
         let rules = is_root old before p runs root captured (omega (arith, ap (λ (l : LogPlace). l.end) place)) in
-        let stored = switch_is_stored (two before after) p.journal old.files files runs.root runs.directory false true (here ∙ runs.begins) refl moved idle_stored in
-        answer_at files new reply (is ∙ ap (λ (e : Logged). record e { saving = Some s }) same) is_told (begin_run after may)
+        let stored = switch_is_stored (two before after) p.journal old.files files runs.root runs.directory false true (here ∙ runs.begins) refl moved idle_stored in answer_at files new reply (is ∙ ap (λ (e : Logged). record e { saving = Some s }) same) is_told (begin_run after may)
         (begun old before p runs root captured s plans files after place refl stored.0 stored.1 rules) (other_is_log old.files.log.file runs.log) (omega arith) refl
     begun_answer mid new reply (Stayed there same reads) is may is_told =
         let place : place_of root ≡ old.files.log = captured.place.stays there in

@@ -112,6 +112,5 @@ module _ (staged : List Staged) (live : StagedRow → Bool) where
 
     pub distinct_segments : (ss : List Segment) → AllByRecursion IsOf ss → AllDiffer ss → AreDistinct (flat_map segment_ids ss)
     distinct_segments [] all differ = tt
-    distinct_segments (s ∷ ss) all differ =
-        distinct_both (segment_ids s) (flat_map segment_ids ss) (distinct_one s all.0) (distinct_segments ss all.1 differ.1)
+    distinct_segments (s ∷ ss) all differ = distinct_both (segment_ids s) (flat_map segment_ids ss) (distinct_one s all.0) (distinct_segments ss all.1 differ.1)
         (λ id here later. not_later s ss id all.0 all.1 differ.0 (in_live s.rows id here) later)

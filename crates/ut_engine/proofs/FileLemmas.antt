@@ -22,12 +22,15 @@ use Rattle.ut_pages.specs.declared.chain.PageError.TheVariants as page_errors
 use Rattle.ut_restart.specs.declared.error.RestartError.{RestartError}
 use Rattle.ut_restart.specs.declared.error.RestartError.TheVariants as restart_errors
 use Rattle.ut_restart.specs.Began.{BeginsWith}
+use Rattle.ut_restart.specs.Standing.{Reopens}
+use Rattle.ut_tables.specs.declared.restored.Restored.{Restored}
+use Rattle.ut_tables.specs.Standing as standing
 use Rattle.ut_value.specs.declared.entry.Entry.{Entry}
 use Rattle.ut_plain.specs.declared.stage.Placed.{Placed}
 use Rattle.ut_plain.specs.State.{State, empty_state}
 use Rattle.ut_plain.specs.Capture.{Directory, StandsAnywhere}
 use Rattle.ut_plain.specs.Stages.{no_stages}
-use Rattle.ut_plain.specs.Plain.{Idle, no_image, new_store, opened_store}
+use Rattle.ut_plain.specs.Plain.{Plain, Idle, no_image, new_store, opened_store}
 use Rattle.ut_plain.specs.Reached.{MayOpen}
 use Rattle.ut_store.specs.Held.{Held}
 use Rattle.ut_store.specs.Stands.{StandsFor}
@@ -171,6 +174,18 @@ is_new v0 v1 v2 v3 store files next rows noted read unmade stands is told12 told
 -- an image in memory is that of one state
 pub began : (image : ReadImage) (d : Directory) → Begins image.root image.tables image.mains d → (s : State) × BeginsWith image.root image.tables image.mains d s
 began image d begins = let base = directory_base image.root d begins.directory in (base.0, record { rules = begins.rules; shown = begins.shown; directory = begins.directory; base = base.1 })
+
+-- the store of what was restored
+pub reopened_store : (image : ReadImage) (entries : List Entry) (x : Restored) (store : Held) (rows : ℕ) → rows ≤ 2147483648
+    → ((d : Directory) (s : State) → BeginsWith image.root image.tables image.mains d s → Reopens s d.stages entries x)
+    → ((p : Plain) → standing.Opens x p → p.rows_limit ≡ rows → StandsFor store p)
+    → (d : Directory) (s : State) → BeginsWith image.root image.tables image.mains d s → Reopened s d.stages entries rows store
+reopened_store image entries x store rows small again stands d s b = record {
+  may = (again d s b).may;
+  stands = λ image_pages root_pages.
+      stands (opened_store (record { stages = d.stages; image_pages = image_pages; root_pages = root_pages }) (record { base = s; entries = entries }) rows)
+      ((again d s b).opens image_pages root_pages rows small) refl;
+}
 
 -- an image's directory keeps the rules
 directory_rules : (slot : Slot) (reached : List ℕ) (root : Root) (d : Directory) (file : List ℕ) → HasImage slot reached root d file → IsDirectory root.next root.commits d
@@ -344,10 +359,9 @@ module _ (v0 v1 v2 v3 : View) (r : IsRead v0 v1 v2 v3) (image : ReadImage) (foun
 
   -- no log is behind the image
   pub log_damaged : (IsTold v3 → (items : List Entry) (end : LogPlace) → LogHolds (place_of image.root) items end v3.seen → ⊥) → IsTold v0 → IsDamaged v0.seen
-  log_damaged none told = (
-    made_first v0 v1 v2 v3 r told,
-    no_log image v0.seen (read_in told) (λ items end holds. none (told_3 v0 v1 v2 v3 r told) items end (subst (λ (i : Image). LogHolds (place_of image.root) items end i) (sym (seen_3 v0 v1 v2 v3 r)) holds)),
-  )
+  log_damaged none told =
+      let unlogged = no_log image v0.seen (read_in told) (λ items end holds. none (told_3 v0 v1 v2 v3 r told) items end (subst (λ (i : Image). LogHolds (place_of image.root) items end i) (sym (seen_3 v0 v1 v2 v3 r)) holds)) in
+      (made_first v0 v1 v2 v3 r told, unlogged)
 
   -- its entries are no journal
   pub entries_damaged : (entries : List Entry) (end : LogPlace) → (IsTold v3 → LogHolds (place_of image.root) entries end v3.seen)

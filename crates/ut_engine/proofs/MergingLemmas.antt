@@ -245,8 +245,7 @@ has_reason (Err errors.Disk) there pending h = h
 
 pub begin_reason : (old new : Logged) (before after : View) (name : List ℕ) (kind : MergeKind) (reply : Reply) (result : Result JobValue BeginError) (p : Plain) → Runs old before p → Serves old before 0 (MergeBegin name kind) reply new after → begin_reply result ≡ reply
     → HasReason result (has_table old.store.rows.tables name) old.store.counts.pending
-begin_reason old new before after name kind reply result p runs serves is =
-    has_reason result (has_table old.store.rows.tables name) old.store.counts.pending
+begin_reason old new before after name kind reply result p runs serves is = has_reason result (has_table old.store.rows.tables name) old.store.counts.pending
     (subst (λ (ts : List Table). ReasonOf (begin_reply result) (has_table ts name) old.store.counts.pending) (sym runs.stands.counts.tables)
     (subst (λ (o : Option PendingMerge). ReasonOf (begin_reply result) (has_table (current p.journal).tables name) o) (sym runs.stands.counts.pending)
     (subst (λ (r : Reply). ReasonOf r (has_table (current p.journal).tables name) p.pending) (sym is) (by_case (serves.each p runs)))))

@@ -77,8 +77,7 @@ pub page_written : (old new : Logged) (before after : View) (s t : Saving) (p : 
     → t ≡ record s { done = s.done + 1 } → files ≡ old.files → new ≡ record old { files = files; saving = Some t }
     → after.told ≡ before.told → Stays old.files before after → (IsTold before → HasPage p.n p.next p.payload after.seen.pages) → (IsTold before → OnFile Pages (ChangesOnly p.n (length before.seen.pages)) before.seen after.seen)
     → Goes 1 old before new after
-page_written old new before after s t p files under next within wrote kept is told stays here others =
-    goes_one old new before after p
+page_written old new before after s t p files under next within wrote kept is told stays here others = goes_one old new before after p
     (λ x at. let same : s ≡ x = the_same x (sym under ∙ at) in subst (λ (y : Saving). (slice_get y.planned y.done ≡ Some p) × (y.done < length y.planned)) same (next, within))
     (is ∙ (λ i. record old { files = kept i; saving = Some (wrote i) }) ∙ ap (λ (o : Option Saving). record old { saving = option_map (more 1) o }) (sym under))
     told stays here others

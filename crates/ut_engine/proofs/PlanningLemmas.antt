@@ -1,5 +1,5 @@
 -- The savepoint that is planned of what was captured.
-use Rattle.std.proofs.Common.{◌≡◌, ◌+◌, ◌≤◌, ◌<◌, ◌^◌, List, [], ◌∷◌, length, Option, None, Some, Result, Ok, Err, refl, arith}
+use Rattle.std.proofs.Common.{◌≡◌, ◌+◌, ◌≤◌, ◌<◌, ◌^◌, ℕ, List, [], ◌∷◌, length, Option, None, Some, Result, Ok, Err, refl, sym, subst, arith}
 use Rattle.std.specs.Prelude.{IfOk, IfSome, IfNone}
 use Rattle.ut_plain.specs.declared.table.Table.{Table}
 use Rattle.ut_plain.specs.State.{IsState}
@@ -16,9 +16,20 @@ use Rattle.ut_durable.specs.Saving.{Saving}
 use Rattle.ut_savepoint.specs.declared.captured.CapturedTable.{CapturedTable}
 use Rattle.ut_savepoint.specs.Captured.{CaptureTables, Captures}
 use Rattle.ut_savepoint.specs.Planning.{Plans}
+use Rattle.ut_tables.specs.Rows.{Rows}
+use Rattle.ut_tables.specs.Standing.{AreRowsOf}
+use Rattle.ut_txn.specs.Seats.{number_at}
+use Rattle.ut_store.specs.Held.{Held}
 use Rattle.ut_store.specs.Stands.{StandsFor}
 use Rattle.ut_engine.specs.Logged.{Logged}
 use Rattle.ut_engine.specs.Saves.{IsCapturedRoot}
+
+-- the rows of a store are those of the plain state that it stands for
+pub rows_read : (e : Held) (p : Plain) (r : Rows) (entries : ℕ) → r ≡ e.rows → entries ≡ e.counts.entries → StandsFor e p → AreRowsOf r entries p
+rows_read e p r entries same count stands = subst (λ (x : Rows). AreRowsOf x entries p) (sym same) (subst (λ (n : ℕ). AreRowsOf e.rows n p) (sym count) here)
+  where
+    here : AreRowsOf e.rows e.counts.entries p
+    here = record { plain = stands.plain; tables = stands.counts.tables; length_is = stands.counts.entries; next_id = e.counts.next_id; pending = e.counts.pending; numbers = number_at e.seats; rows = stands.rows }
 
 captured_length : (cs : List CapturedTable) (ts : List Table) (ss : Stages) → CaptureTables cs ts ss → length cs ≡ length ts
 captured_length [] [] [] is = refl

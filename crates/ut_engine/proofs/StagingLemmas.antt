@@ -62,8 +62,7 @@ unknown_or-none there why also more none empty nothing = (λ i. or_else (unless 
 
 -- the one refusal, memory left aside, is that of a table that isn't there
 refusal-stages : (v : views.View) (st : Statement) (name : List ℕ) → table_meant st ≡ Some name → refusal v st ≡ unless (has_table v.tables name) refusals.Name
-refusal-stages v (statements.MergeL1 table n) name is =
-    unknown_or-none (has_table v.tables table) (option_map refusals.State (state_why (is_some v.own) (statements.MergeL1 table n))) (option_map refusals.State (merge_why v.pending (statements.MergeL1 table n))) (option_map refusals.State (save_why v.phase (statements.MergeL1 table n)))
+refusal-stages v (statements.MergeL1 table n) name is = unknown_or-none (has_table v.tables table) (option_map refusals.State (state_why (is_some v.own) (statements.MergeL1 table n))) (option_map refusals.State (merge_why v.pending (statements.MergeL1 table n))) (option_map refusals.State (save_why v.phase (statements.MergeL1 table n)))
     (ap (option_map refusals.State) (no_why-merge (is_some v.own) table n)) (ap (option_map refusals.State) (no_merge_why-merge v.pending table n)) (ap (option_map refusals.State) (no_save_why-merge v.phase table n))
     ∙ ap (λ (o : Option (List ℕ)). unless (has_table v.tables (unwrap_or o table)) refusals.Name) is
 refusal-stages v (statements.Shape table) name is =

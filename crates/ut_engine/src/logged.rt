@@ -117,7 +117,8 @@ impl LoggedStore {
         let begins = log_file(root.file);
         let (redo, entries) = Redo::read_all(alloc, disk, begins, root.offset)?;
         let next = NextIds::opened(alloc, root.next, entries.as_slice())?;
-        let store = reopen(alloc, &root, tables, mains, entries, rows)?;
+        let restored = reopen(alloc, &root, tables, mains, entries)?;
+        let store = Store::restored(alloc, restored, rows)?;
         Ok(LoggedStore {
             store,
             files: Durable::new(redo, pages),

@@ -184,7 +184,9 @@ impl LoggedStore {
         ensures none { IfOk result (λ o. IfNone o ((p : Plain) → StandsFor self.now.store p
             → 2 ^ 32 ≤ 3 + image_pages (captured_now p) + length self.now.files.reached)) }
     {
-        let tables = captured(alloc, &self.store)?;
+        let rows = self.store.all_rows();
+        let entries = self.store.entries();
+        let tables = captured(alloc, rows, entries)?;
         plan(alloc, &self.files, &tables, self.captured_root())
     }
 

@@ -32,13 +32,7 @@ use Rattle.ut_exact.specs.Gone.{IsGone}
 use Rattle.ut_exact.specs.Places.{StagedRow, is_dead, stamped_in, dead_number, AreHeld}
 use Rattle.ut_staged.specs.Staged.{Staged, stages_of}
 use Rattle.ut_staged.specs.Tables.{place_at}
-use Rattle.ut_txn.specs.Seats.{Seat, AreEmpty, number_at}
-use Rattle.ut_store.specs.Held.{Held}
-use Rattle.ut_store.specs.Stands.{StandsFor, AreSeats, AreRows, AreMerging, opened_snapshot, snapshot_of}
-use Rattle.ut_store.specs.Standing.{Reopened}
-use Rattle.ut_plain.specs.View.{own_ops}
-use Rattle.ut_value.specs.declared.entry.Entry.TheVariants.{Txn}
-use Rattle.ut_value.specs.Spelling.{spelling}
+use Rattle.ut_tables.specs.Standing.{AreRows, Opens}
 use Rattle.ut_stamps.specs.declared.visibility.Stamp.{Stamp}
 use Rattle.ut_stamps.specs.declared.place.Place.{Place}
 use Rattle.ut_staged.proofs.ListLemmas.{none_some, some_same}
@@ -52,7 +46,9 @@ use Rattle.ut_restart.specs.Began.{BeginsWith}
 use Rattle.ut_restart.specs.Rows.{Positions, IsSound, Keeps, position_in, position, stored_of, row_at}
 use Rattle.ut_restart.specs.Replayed.{Agrees, IsFirst, Replayed, NoJournal}
 use Rattle.ut_restart.specs.Shown.{stamp_of}
-use Rattle.ut_restart.specs.Standing.{shown, Rebuilt}
+use Rattle.ut_tables.specs.declared.restored.Restored.{Restored}
+use Rattle.ut_tables.specs.Rows as all
+use Rattle.ut_restart.specs.Standing.{shown, Rebuilt, Reopens}
 
 -- ---- what a restored store begins with
 
@@ -70,14 +66,6 @@ nothing x h = cc
 
 none_open : {A : Type 0} (s : ℕ) (t : OpenTransaction) → open_at no_sessions s ≡ Some t → A
 none_open s t h = nothing t (sym (unopened 17 s) ∙ h)
-
-seats-empty : (seats : List Seat) → AreEmpty 17 seats → AreSeats seats no_sessions
-seats-empty seats e = record {
-  count = e.count;
-  snapshots = λ s. ap opened_snapshot (e.opened s) ∙ sym (ap snapshot_of (unopened 17 s));
-  payloads = λ s small. e.payloads s small ∙ sym (ap (λ o. spelling (Txn (own_ops o))) (unopened 17 s));
-  nobody = refl;
-}
 
 -- the fates of a transaction that committed or runs
 committed_first : (t c : ℕ) → fate_at first_fates t ≡ Committed c → c ≡ 0
@@ -183,7 +171,7 @@ merges-at tables merges n merge same is = by tables n (ap (λ ms. slice_get ms n
 
 -- ---- all of it
 
-module _ (root : Root) (tables : List Drawn) (mains : List MainValue) (es : List Entry) (limit : ℕ) (first r : Replay) (begun : IsFirst root tables mains first) (read : Replayed first es r) where
+module _ (root : Root) (tables : List Drawn) (mains : List MainValue) (es : List Entry) (first r : Replay) (begun : IsFirst root tables mains first) (read : Replayed first es r) where
   -- the state and the directory that the store begins with
   module _ (d : Directory) (s : State) (b : BeginsWith root tables mains d s) (few : root.length + length es ≤ 1073741824) where
     abbrev j : Journal
@@ -198,7 +186,7 @@ module _ (root : Root) (tables : List Drawn) (mains : List MainValue) (es : List
     pub may : MayOpen d.stages (record { base = s; entries = es })
     may = directory_may_open root d j b.rules b.directory b.base (read.can s d.stages (begun.agrees d s b)) (omega (arith, few, b.base.length)) (omega (arith, load-is, read.sound.rows.within))
 
-    module _ (e : Held) (small : limit ≤ 2147483648) (built : Rebuilt r limit e) (image_pages : Directory → ℕ) (root_pages : ℕ) where
+    module _ (x : Restored) (built : Rebuilt r x) (image_pages : Directory → ℕ) (root_pages limit : ℕ) (small : limit ≤ 2147483648) where
       abbrev o : Opening
       o = record { stages = d.stages; image_pages = image_pages; root_pages = root_pages }
 
@@ -208,11 +196,14 @@ module _ (root : Root) (tables : List Drawn) (mains : List MainValue) (es : List
       next-is : max r.rows.next (r.rows.load + 1) ≡ max (current j).next (load_of j + 1)
       next-is = λ i. max (agrees.next i) (sym load-is i + 1)
 
-      fates-are : e.rows.fates ≡ first_fates
-      fates-are = built.is.fates
+      fates-are : x.rows.rows.fates ≡ first_fates
+      fates-are = ap (λ (q : all.Rows). q.fates) built.rows
 
-      staged-are : e.rows.staged ≡ shown r.rows.stages.items
-      staged-are = built.is.has_rows
+      staged-are : x.rows.rows.staged ≡ shown r.rows.stages.items
+      staged-are = ap (λ (q : all.Rows). q.staged) built.rows
+
+      tables-are : x.rows.rows.tables ≡ r.tables.items
+      tables-are = ap (λ (q : all.Rows). q.tables) built.rows
 
       free : AreFree (λ id. option_map before_all (finmap.get (current j).rows id)) (max (current j).next (load_of j + 1))
       free id above = by (finmap.get (current j).rows id) refl
@@ -221,42 +212,38 @@ module _ (root : Root) (tables : List Drawn) (mains : List MainValue) (es : List
           by None is = ap (option_map before_all) is
           by (Some row) is = let given : id < (current j).next = ((IsState-current j may.base may.journal).rows.each id row is).given.1 in absurd (omega (arith, given, above))
 
-      rows : AreRows e (opened_store o j limit)
-      rows = record {
+      rows : (numbers : ℕ → ℕ) → AreRows x.rows.rows x.next_id None numbers (opened_store o j limit)
+      rows numbers = record {
         held = λ id. option_map before_all (finmap.get (current j).rows id);
-        places = subst (λ staged. AreHeld (place_at staged) (IsGone e.rows.fates no_sessions) (λ id. option_map before_all (finmap.get (current j).rows id))) (sym staged-are)
-            (held-sound r.tables.items (shown r.rows.stages.items) (position_in r.rows.positions) r.rows.load (current j).rows (replayed d.stages es) read.sound.rows agrees.rows (IsGone e.rows.fates no_sessions));
+        places = subst (λ staged. AreHeld (place_at staged) (IsGone x.rows.rows.fates no_sessions) (λ id. option_map before_all (finmap.get (current j).rows id))) (sym staged-are)
+            (held-sound r.tables.items (shown r.rows.stages.items) (position_in r.rows.positions) r.rows.load (current j).rows (replayed d.stages es) read.sound.rows agrees.rows (IsGone x.rows.rows.fates no_sessions));
         dropped = record { each = λ n g i place at flag. nothing_kept (stages_at (replayed d.stages es) n) g i (plain.merges n).keep flag };
-        free = subst (AreFree (λ id. option_map before_all (finmap.get (current j).rows id))) (sym (built.is.has_next ∙ next-is)) free;
+        free = subst (AreFree (λ id. option_map before_all (finmap.get (current j).rows id))) (sym (built.next_id ∙ next-is)) free;
         exact = subst (λ fs. IsExact fs (λ id. option_map before_all (finmap.get (current j).rows id)) j (journal_len j)) (sym fates-are) (exact j);
-        transactions = subst (λ fs. AreOpen fs (λ id. option_map before_all (finmap.get (current j).rows id)) no_sessions (number_at e.seats) j (journal_len j)) (sym fates-are)
-            (open_first (λ id. option_map before_all (finmap.get (current j).rows id)) (number_at e.seats) j (journal_len j));
+        transactions = subst (λ fs. AreOpen fs (λ id. option_map before_all (finmap.get (current j).rows id)) no_sessions numbers j (journal_len j)) (sym fates-are)
+            (open_first (λ id. option_map before_all (finmap.get (current j).rows id)) numbers j (journal_len j));
         dead = ap (λ fs. fate_at fs dead_number) fates-are;
         started = subst (λ fs. dead_number < length fs) (sym fates-are) (omega arith);
         stages = agrees.rows.stages_are ∙ sym (ap (map stages_of) staged-are);
-        columns = ap (map (λ s. s.columns)) staged-are ∙ read.sound.rows.columns ∙ sym (ap (map (λ (t : Table). t.columns)) built.is.has_tables);
-        merging = subst (λ o. AreMerging o (map (λ (s : Staged). s.merge) e.rows.staged)) (sym built.is.no_merge)
-            (λ n merge is. merges-at r.tables.items (map (λ (s : Staged). s.merge) e.rows.staged) n merge (ap (map (λ (s : Staged). s.merge)) staged-are ∙ read.sound.rows.merges) is);
+        columns = ap (map (λ s. s.columns)) staged-are ∙ read.sound.rows.columns ∙ sym (ap (map (λ (t : Table). t.columns)) tables-are);
+        merging = λ n merge is. merges-at r.tables.items (map (λ (s : Staged). s.merge) x.rows.rows.staged) n merge (ap (map (λ (s : Staged). s.merge)) staged-are ∙ read.sound.rows.merges) is;
       }
 
-      pub stands : StandsFor e (opened_store o j limit)
-      stands = record {
+      pub opens : Opens x (opened_store o j limit)
+      opens = record {
         plain = plain;
-        counts = record {
-          tables = built.is.has_tables ∙ agrees.tables;
-          commits = built.is.has_commits ∙ agrees.commits;
-          merges = built.is.has_merges ∙ agrees.merges;
-          entries = omega (arith, built.is.has_entries, read.count, begun.entries, b.base.length);
-          next_id = built.is.has_next ∙ next-is;
-          rows_limit = built.is.has_limit;
-          pending = built.is.no_merge;
-        };
-        seats = seats-empty e.seats built.is.seats;
+        tables = tables-are ∙ agrees.tables;
+        commits = built.commits ∙ agrees.commits;
+        merges = built.merges ∙ agrees.merges;
+        entries = omega (arith, built.entries, read.count, begun.entries, b.base.length);
+        next_id = built.next_id ∙ next-is;
+        idle = refl;
+        alone = refl;
         rows = rows;
       }
 
-  pub reopened : (e : Held) → root.length + length es ≤ 1073741824 → limit ≤ 2147483648 → Rebuilt r limit e → (d : Directory) (s : State) → BeginsWith root tables mains d s → Reopened s d.stages es limit e
-  reopened e few small built d s b = record { may = may d s b few; stands = λ image_pages root_pages. stands d s b few e small built image_pages root_pages }
+  pub reopened : (x : Restored) → root.length + length es ≤ 1073741824 → Rebuilt r x → (d : Directory) (s : State) → BeginsWith root tables mains d s → Reopens s d.stages es x
+  reopened x few built d s b = record { may = may d s b few; opens = λ image_pages root_pages limit small. opens d s b few x built image_pages root_pages limit small }
 
 -- ---- entries that are no journal behind the image
 

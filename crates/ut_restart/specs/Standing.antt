@@ -1,14 +1,21 @@
 -- How the rows stand in the tables of the store.
-use Rattle.std.specs.Prelude.{ℕ, ◌+◌, ◌<◌, true, false, max, List, [], length, map, slice_get, slice_set, IsTrue}
+use Rattle.std.specs.Prelude.{ℕ, ◌≡◌, ◌+◌, ◌<◌, ◌≤◌, true, false, max, List, [], length, map, slice_get, slice_set, IsTrue}
 use Rattle.std.specs.Option.{unwrap_or}
 use Rattle.ut_value.specs.declared.value.Row.{Row}
+use Rattle.ut_value.specs.declared.entry.Entry.{Entry}
 use Rattle.ut_plain.specs.Tables.{fits_columns}
+use Rattle.ut_plain.specs.State.{State}
+use Rattle.ut_plain.specs.Stages.{Stages}
+use Rattle.ut_plain.specs.Capture.{Directory}
+use Rattle.ut_plain.specs.Plain.{opened_store}
+use Rattle.ut_plain.specs.Reached.{MayOpen}
 use Rattle.ut_exact.specs.Places.{StagedRow}
 use Rattle.ut_staged.specs.Staged.{Staged, no_rows, count_of, stamped_row, entered_l1}
 use Rattle.ut_table.specs.Contents.{TableValue}
 use Rattle.ut_table.specs.Filled.{restamped}
-use Rattle.ut_store.specs.Held.{Held}
-use Rattle.ut_store.specs.Standing.{Restored}
+use Rattle.ut_tables.specs.declared.restored.Restored.{Restored}
+use Rattle.ut_tables.specs.Rows.{restored}
+use Rattle.ut_tables.specs.Standing.{Opens}
 use Rattle.ut_restart.specs.declared.rows.Position.{Position}
 use Rattle.ut_restart.specs.declared.replay.Replay.{Replay}
 use Rattle.ut_restart.specs.Shown.{stamp_of}
@@ -39,6 +46,18 @@ pub record CanEnter (staged : List Staged) (n : ℕ) (row : Row) : Type 0 where
   pub fits : IsTrue (fits_columns (staged_at staged n).columns row.values)
   pub few : count_of (staged_at staged n) < 2147483648
 
--- the store has what was replayed
-pub record Rebuilt (r : Replay) (rows_limit : ℕ) (e : Held) : Type 0 where
-  pub is : Restored r.tables.items (shown r.rows.stages.items) (max r.rows.next (r.rows.load + 1)) rows_limit r.commits r.merges r.entries e
+-- what was replayed
+pub record Rebuilt (r : Replay) (x : Restored) : Type 0 where
+  pub rows : x.rows.rows ≡ restored r.tables.items (shown r.rows.stages.items)
+  pub next_id : x.next_id ≡ max r.rows.next (r.rows.load + 1)
+  pub commits : x.commits ≡ r.commits
+  pub merges : x.merges ≡ r.merges
+  pub entries : x.entries ≡ r.entries
+
+-- A store begins so with a journal that begins with this state, opened with the stages of an image.
+pub record Reopens (s : State) (stages : Stages) (entries : List Entry) (x : Restored) : Type 0 where
+  pub may : MayOpen stages (record { base = s; entries = entries })
+  -- however many pages an image takes, and the selected root reaches, and whatever the limit of ids
+  pub opens : (image_pages : Directory → ℕ) (root_pages rows_limit : ℕ)
+      → rows_limit ≤ 2147483648 → Opens x (opened_store (record { stages = stages; image_pages = image_pages; root_pages = root_pages })
+      (record { base = s; entries = entries }) rows_limit)

@@ -99,8 +99,7 @@ some_by b answers a held marks acks n m then marks_then w some =
 pub written-some : (before : Option (List ℕ)) (answers : List Answer) (a : Answer) (held : Option (List ℕ)) (marks : List ℕ) (acks : List Ack) (n m : ℕ) (then : Option (List ℕ)) (marks_then : List ℕ) (e : fails.Failed) → HasWritten before answers held marks acks
     → Writes {T = Unit {0}} {E = fails.Failed} held marks (answer_text a) m (Err e) then marks_then → HasFront before (answers ++ a ∷ []) m then marks_then (acks ++ record { journal = n; moment = m } ∷ [])
 written-some None answers a held marks acks n m then marks_then e w writes = tt
-written-some (Some b) answers a held marks acks n m then marks_then e w writes =
-    some_by b answers a held marks acks n m then marks_then w (subst (λ (o : Option (List ℕ)). Writes {T = Unit {0}} {E = fails.Failed} o marks (answer_text a) m (Err e) then marks_then) w.bytes writes)
+written-some (Some b) answers a held marks acks n m then marks_then e w writes = some_by b answers a held marks acks n m then marks_then w (subst (λ (o : Option (List ℕ)). Writes {T = Unit {0}} {E = fails.Failed} o marks (answer_text a) m (Err e) then marks_then) w.bytes writes)
 
 pub nothing_written : (before : Option (List ℕ)) (marks : List ℕ) → ((bytes : List ℕ) → before ≡ Some bytes → length marks ≡ length bytes) → HasWritten before [] before marks []
 nothing_written None marks h = tt

@@ -187,10 +187,6 @@ said_faults old before session st reply new after said s e = record {
   still = λ not. s.still (λ is. not (e ∙ ap said_of is));
 }
 
--- a line for which the disk isn't called
-pub said_without : (v : View) (said : Said) → (said ≡ saids.Fault → ⊥) → MayFault v v said
-said_without v said not = record { told = refl; no_fewer = omega arith; cause = λ is. absurd (not is); still = λ _. refl }
-
 -- ---- other lines
 
 pub says_nothing : (e : Logged) (v : View) (line : Parsed) (said : Said) (text : List ℕ) → OnlyNow v → line ≡ Comment → said ≡ saids.Nothing → text ≡ [] → Says e v line said e v text

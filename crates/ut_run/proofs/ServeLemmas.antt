@@ -171,8 +171,7 @@ module _ (plan : Plan) (before was now : World) (script : List (List ℕ)) (old 
   write_end le (Told a q r answers runs keeps n w) = cc
   write_end le (Unwritten a q x r answers runs keeps n w) = unwritten_end a q x answers runs keeps (ap (λ (x : Noted). x.acks) n) (ap (λ (x : Noted). x.journal) n) w
   write_end le (Lost a q r faults keeps n w) = cc
-  write_end le (LostUnwritten a q x r faults keeps rose n w) =
-      lost_end statuses.WriteFault a q faults keeps (ap (λ (x : Noted). x.acks) n) (ap (λ (x : Noted). x.journal) n) tt (omega (arith, le, rose))
+  write_end le (LostUnwritten a q x r faults keeps rose n w) = lost_end statuses.WriteFault a q faults keeps (ap (λ (x : Noted). x.acks) n) (ap (λ (x : Noted). x.journal) n) tt (omega (arith, le, rose))
       (written-some before.sink p.answers a was.sink was.marks acks (journal_len c.plain.journal) now.disk.moment now.sink now.marks x p.written w)
 
   -- the disk failed at the line

@@ -32,7 +32,8 @@ use Rattle.ut_txn.specs.declared.opened.Opened.{Opened}
 use Rattle.ut_txn.specs.Seats.{Seat, opened_at, payload_at, number_at, SeatSet, SeatsStay}
 use Rattle.ut_store.specs.declared.response.Response.TheVariants.{Answered, Append}
 use Rattle.ut_store.specs.Held.{Held}
-use Rattle.ut_store.specs.Stands.{StandsFor, AreCounts, AreMerging}
+use Rattle.ut_tables.specs.Standing.{AreMerging}
+use Rattle.ut_store.specs.Stands.{StandsFor, AreCounts}
 use Rattle.ut_store.specs.Answers.{Answer, Answers}
 use Rattle.ut_store.specs.Allowed.{IsRefused}
 use Rattle.ut_plain.proofs.MainLemmas.{same-with_inserts}

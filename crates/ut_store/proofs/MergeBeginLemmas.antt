@@ -37,7 +37,8 @@ use Rattle.ut_staged.proofs.FlagLemmas.{kept_here, stages-closed, own_ids}
 use Rattle.ut_txn.specs.Seats.{number_at, snapshots_of}
 use Rattle.ut_store.specs.declared.response.Response.TheVariants.{Append}
 use Rattle.ut_store.specs.Held.{Held}
-use Rattle.ut_store.specs.Stands.{StandsFor, AreMerging}
+use Rattle.ut_tables.specs.Standing.{AreMerging}
+use Rattle.ut_store.specs.Stands.{StandsFor}
 use Rattle.ut_store.specs.Answers.{Answers}
 use Rattle.ut_store.specs.Allowed.{IsRefused}
 use Rattle.ut_store.specs.Merging.{next_merge, flags_now, merge_begun}
@@ -63,8 +64,7 @@ closed_none None h = refl
 closed_none (Some rows) h = cc
 
 pub not_closed : (e : Held) (p : Plain) → StandsFor e p → e.counts.pending ≡ None → (n : ℕ) (s : Staged) → slice_get e.rows.staged n ≡ Some s → s.closed ≡ None
-not_closed e p st idle n s is =
-    closed_none s.closed (ap (λ (t : TableStages). t.closed) (sym (ap (λ x. stages_at x n) st.rows.stages ∙ stages-here e.rows.staged n s is)) ∙ (at_rest e p st idle n).closed)
+not_closed e p st idle n s is = closed_none s.closed (ap (λ (t : TableStages). t.closed) (sym (ap (λ x. stages_at x n) st.rows.stages ∙ stages-here e.rows.staged n s is)) ∙ (at_rest e p st idle n).closed)
 
 -- the rows that are kept have ids of their own
 pub kept_ids : (e : Held) (p : Plain) → StandsFor e p → e.counts.pending ≡ None → (n : ℕ) (s : Staged) (kind : MergeKind) → slice_get e.rows.staged n ≡ Some s → HaveOwnIds (taken_over kind (flags_now e kind s) s)

@@ -35,7 +35,8 @@ use Rattle.ut_staged.proofs.EndLemmas.{AreHeld-merged, AreDropped-rest, stages-s
 use Rattle.ut_txn.specs.Seats.{number_at}
 use Rattle.ut_store.specs.declared.response.Response.TheVariants.{Append}
 use Rattle.ut_store.specs.Held.{Held}
-use Rattle.ut_store.specs.Stands.{StandsFor, AreMerging}
+use Rattle.ut_tables.specs.Standing.{AreMerging}
+use Rattle.ut_store.specs.Stands.{StandsFor}
 use Rattle.ut_store.specs.Answers.{Answers}
 use Rattle.ut_store.specs.Allowed.{IsRefused}
 use Rattle.ut_store.specs.Merging.{merge_ended}

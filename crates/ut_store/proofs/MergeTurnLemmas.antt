@@ -32,7 +32,8 @@ use Rattle.ut_staged.proofs.TableLemmas.{stages-here}
 use Rattle.ut_store.specs.declared.response.Response.{Response}
 use Rattle.ut_store.specs.declared.response.Response.TheVariants.{Answered, Append}
 use Rattle.ut_store.specs.Held.{Held}
-use Rattle.ut_store.specs.Stands.{StandsFor, merge_at}
+use Rattle.ut_tables.specs.Standing.{merge_at}
+use Rattle.ut_store.specs.Stands.{StandsFor}
 use Rattle.ut_store.specs.Standing.{Stands}
 use Rattle.ut_store.specs.Early.{early_refusal}
 use Rattle.ut_store.specs.Answers.{Answers}

@@ -57,5 +57,4 @@ stands-spent old new c = record { each = λ p s. subst (λ (x : Held). StandsFor
 -- where memory ran out, a transaction was given up, or nothing was started
 pub spent_by : (inside e : Held) (rows : Rows) → inside ≡ e → IsSpent inside.rows rows → Stays e (record inside { rows = rows })
 spent_by inside e rows same (inl kept) = same_stays e _ (same_room inside e rows inside.seats same kept (seats_itself inside.seats))
-spent_by inside e rows same (inr aborted) =
-    stands-spent e _ (subst (λ (x : Held). Spent x (record inside { rows = rows })) same (record { rows = aborted; seats = seats_itself inside.seats; counts = refl }))
+spent_by inside e rows same (inr aborted) = stands-spent e _ (subst (λ (x : Held). Spent x (record inside { rows = rows })) same (record { rows = aborted; seats = seats_itself inside.seats; counts = refl }))

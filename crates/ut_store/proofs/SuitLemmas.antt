@@ -85,8 +85,7 @@ op_suits tables rows id (ops.Delete table other) was can spelled h r is = by (na
 
 ops_suit : (tables : List Table) (rows : Rows) (id : ℕ) (os : List Op) (was : Option Stored) → IsTrue (can_apply_all tables rows os) → IsTrue (list_all is_op os) → ((r : Stored) → was ≡ Some r → Suits tables r) → (r : Stored) → ops_at id os was ≡ Some r → Suits tables r
 ops_suit tables rows id [] was can spelled h r is = h r is
-ops_suit tables rows id (op ∷ os) was can spelled h r is =
-    ops_suit tables (with_op rows op) id os (op_at id op was) (and_right (can_apply tables rows op) _ can) (and_right (is_op op) _ spelled) (op_suits tables rows id op was (and_left _ _ can) (and_left (is_op op) _ spelled) h) r is
+ops_suit tables rows id (op ∷ os) was can spelled h r is = ops_suit tables (with_op rows op) id os (op_at id op was) (and_right (can_apply tables rows op) _ can) (and_right (is_op op) _ spelled) (op_suits tables rows id op was (and_left _ _ can) (and_left (is_op op) _ spelled) h) r is
 
 seen_suits : (p : Plain) (session id : ℕ) (row : Stored) → IsPlain p → finmap.get (seen p session) id ≡ Some row → Suits (current p.journal).tables row
 seen_suits p session id row h is = by (open_at p.sessions session) refl is

@@ -35,7 +35,8 @@ use Rattle.ut_staged.proofs.MovedLemmas.{back, moved_l1, stages-moved}
 use Rattle.ut_txn.specs.Seats.{Seat, number_at, SeatsStay}
 use Rattle.ut_store.specs.declared.response.Response.TheVariants.{Answered, Append}
 use Rattle.ut_store.specs.Held.{Held}
-use Rattle.ut_store.specs.Stands.{StandsFor, AreMerging, merge_at}
+use Rattle.ut_tables.specs.Standing.{AreMerging, merge_at}
+use Rattle.ut_store.specs.Stands.{StandsFor}
 use Rattle.ut_store.specs.Answers.{Answers}
 use Rattle.ut_store.specs.Allowed.{IsRefused}
 use Rattle.ut_store.proofs.SeatLemmas.{seats-stay, numbers-stay}

@@ -103,8 +103,7 @@ has_room-some p session room [] some is = absurd (some refl)
 has_room-some p session room (o ∷ os) some is = is
 
 room_is : (e : Held) (session : ℕ) (room : Bool) → session < 17 → nat_lt 5 (length (payload_at e.seats session)) ≡ true → nat_lt e.counts.entries 1073741823 ≡ room → (p : Plain) → StandsFor e p → has_room (view p session) Commit ≡ room
-room_is e session room small some is p s =
-    has_room-some p session room (own_ops (open_at p.sessions session)) (own_there e.seats session _ some (s.seats.payloads session small)) (ap (λ n. nat_lt n 1073741823) (sym s.counts.entries) ∙ is)
+room_is e session room small some is p s = has_room-some p session room (own_ops (open_at p.sessions session)) (own_there e.seats session _ some (s.seats.payloads session small)) (ap (λ n. nat_lt n 1073741823) (sym s.counts.entries) ∙ is)
 
 pub commit_full : (e : Held) (session : ℕ) → session < 17 → early_refusal e session Commit ≡ None → nat_lt 5 (length (payload_at e.seats session)) ≡ true → 1073741823 ≤ e.counts.entries
     → Answers e session Commit (Answered (replies.Refused refusals.Full)) e

@@ -1,7 +1,6 @@
 -- The facts that a running store keeps, and those with which it begins.
 use Rattle.std.specs.Prelude.{ℕ, suc, zero, ◌≡◌, Bool, true, false, List, [], ◌∷◌, None}
 use Rattle.ut_value.specs.declared.entry.Entry.{Entry}
-use Rattle.ut_plain.specs.declared.table.Table.{Table}
 use Rattle.ut_plain.specs.declared.statement.Statement.{Statement}
 use Rattle.ut_plain.specs.declared.statement.Statement.TheVariants as statements
 use Rattle.ut_plain.specs.State.{State}
@@ -9,9 +8,6 @@ use Rattle.ut_plain.specs.Stages.{Stages}
 use Rattle.ut_plain.specs.Capture.{Directory}
 use Rattle.ut_plain.specs.Plain.{Plain, opened_store}
 use Rattle.ut_plain.specs.Reached.{MayOpen}
-use Rattle.ut_stamps.specs.declared.fates.Fate.TheVariants.{Committed, Aborted}
-use Rattle.ut_staged.specs.Staged.{Staged}
-use Rattle.ut_txn.specs.Seats.{AreEmpty}
 use Rattle.ut_store.specs.Held.{Held}
 use Rattle.ut_store.specs.Stands.{StandsFor}
 
@@ -52,20 +48,6 @@ finds_rows _ = false
 abbrev pub suits_session : ℕ → Statement → Bool
 suits_session zero st = is_of_store st
 suits_session (suc session) st = true
-
--- The store has these tables, their rows, and these counts. Nobody has a transaction: a row was committed before all
--- else, or is nobody's. No merge is pending.
-pub record Restored (tables : List Table) (staged : List Staged) (next_id rows_limit commits merges entries : ℕ) (e : Held) : Type 0 where
-  pub has_tables : e.rows.tables ≡ tables
-  pub has_rows : e.rows.staged ≡ staged
-  pub fates : e.rows.fates ≡ Committed 0 ∷ Aborted ∷ []
-  pub seats : AreEmpty 17 e.seats
-  pub has_next : e.counts.next_id ≡ next_id
-  pub has_limit : e.counts.rows_limit ≡ rows_limit
-  pub has_commits : e.counts.commits ≡ commits
-  pub has_merges : e.counts.merges ≡ merges
-  pub has_entries : e.counts.entries ≡ entries
-  pub no_merge : e.counts.pending ≡ None
 
 -- A journal that begins with this state, opened with the stages of an image.
 pub record Reopened (s : State) (stages : Stages) (entries : List Entry) (rows_limit : ℕ) (e : Held) : Type 0 where

@@ -1,17 +1,15 @@
 //! The store: its tables, their rows in stages, the transactions and what became of each.
-ghost use Rattle.std.specs.Prelude.{◌≡◌, ◌<◌, ◌≤◌, ◌^◌, ℕ, map, IfOk};
+ghost use Rattle.std.specs.Prelude.{◌≡◌, ◌<◌, ◌≤◌, ◌^◌, ℕ, IfOk};
 ghost use Rattle.ut_plain.specs.Capture.{Directory};
-ghost use Rattle.ut_plain.specs.Plain.{new_store, no_image};
+ghost use Rattle.ut_plain.specs.Plain.{Plain, new_store, no_image};
+ghost use Rattle.ut_tables.specs.Standing.{Opens};
 ghost use Rattle.ut_store.specs.Stands.{StandsFor};
-ghost use Rattle.ut_store.specs.Standing.{Restored};
 
 use crate::counts::Counts;
 use std::alloc::{AllocError, Global};
 use std::marker::Model;
 use ut_frame::Frame;
-use ut_plain::Table;
-use ut_table::Table as Stages;
-use ut_tables::Rows;
+use ut_tables::{Restored, Rows};
 use ut_txn::Sessions;
 
 /// The id of the first row.
@@ -45,35 +43,30 @@ impl Store {
         requires { rows_limit ≤ 2 ^ 31 }
         ensures { IfOk result (λ s. (image_pages : Directory → ℕ) → StandsFor s (new_store (no_image image_pages) rows_limit)) }
     {
-        Store::restored(
-            alloc,
-            Vec::new(alloc),
-            Vec::new(alloc),
-            FIRST_ID,
-            rows_limit,
-            0,
-            0,
-            0,
-        )
+        let rows = Rows::restored(alloc, Vec::new(alloc), Vec::new(alloc))?;
+        let nothing = Restored {
+            rows,
+            next_id: FIRST_ID,
+            commits: 0,
+            merges: 0,
+            entries: 0,
+        };
+        Store::restored(alloc, nothing, rows_limit)
     }
 
-    /// A store with these tables and their rows, in which nobody has a transaction and no merge is pending. The ids from
-    /// `next_id` on are free.
-    pub fn restored(
-        alloc: Global,
-        tables: Vec<Table>,
-        stages: Vec<Stages>,
-        next_id: u32,
-        rows_limit: u32,
-        commits: u32,
-        merges: u32,
-        entries: u32,
-    ) -> Result<Store, AllocError>
-        ensures { IfOk result (Restored tables.items (map (λ t. t.stages) stages.items) next_id rows_limit commits merges entries) }
+    /// A store with these rows, which gives at most so many ids.
+    pub fn restored(alloc: Global, restored: Restored, rows_limit: u32) -> Result<Store, AllocError>
+        ensures { IfOk result (λ e. (p : Plain) → Opens restored p → p.rows_limit ≡ rows_limit → StandsFor e p) }
     {
-        let rows = Rows::restored(alloc, tables, stages)?;
         let sessions = Sessions::new(alloc)?;
         let frame = Frame::txn(alloc)?;
+        let Restored {
+            rows,
+            next_id,
+            commits,
+            merges,
+            entries,
+        } = restored;
         let counts = Counts {
             next_id,
             rows_limit,

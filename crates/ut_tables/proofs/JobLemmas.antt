@@ -1,8 +1,6 @@
 -- The job of a merge that may begin can be built, and is that of the table behind it.
 use Rattle.std.proofs.Common.{ℕ, zero, suc, ◌<◌, ◌≡◌, Bool, List, [], ◌∷◌, ◌++◌, length, map, drop, get_or, refl, sym, ap, ◌∙◌, subst, arith, IsTrue}
 use Rattle.std.proofs.lemmas.List.{length-map, map-append}
-use Rattle.std.proofs.lemmas.List.Sums.{sum_by-cons}
-use Rattle.std.specs.List.{sum_by}
 use Rattle.ut_plain.specs.declared.stage.PendingMerge.{PendingMerge}
 use Rattle.ut_plain.specs.Merges.{staying, flagged_all, has_part_room}
 use Rattle.ut_exact.specs.Places.{StagedRow}
@@ -16,18 +14,9 @@ use Rattle.ut_staged.specs.Keeping.{taken_over, HaveOwnIds}
 use Rattle.ut_staged.proofs.ListLemmas.{map-drop}
 use Rattle.ut_staged.proofs.FlagLemmas.{flags-sizes}
 use Rattle.ut_staged.proofs.OrderLemmas.{flagged_all-map}
+use Rattle.ut_table.proofs.NumberedLemmas.{sizes, sum_sizes}
 use Rattle.ut_tables.specs.Rows.{Rows}
 use Rattle.ut_tables.specs.Merging.{flags_now, MayMerge}
-
-sizes : (lists : List (List StagedRow)) → map length (map (map key_row) lists) ≡ map length lists
-sizes [] = refl
-sizes (rows ∷ lists) = λ i. length-map rows key_row i ∷ sizes lists i
-
-sum_sizes : (lists : List (List StagedRow)) → sum_by length (map (map key_row) lists) ≡ sum_by length lists
-sum_sizes [] = refl
-sum_sizes (rows ∷ lists) =
-    let rest = sum_sizes lists in
-    omega (arith, rest, length-map rows key_row, sum_by-cons length rows lists, sum_by-cons length (map key_row rows) (map (map key_row) lists))
 
 -- the rows that are kept, as their keys
 kept_are : (head : PendingMerge) (keep : List (List Bool)) (s : Staged) → kept_rows (job_of (closed_l2 head keep s) head) ≡ map key_row (taken_over head.kind keep s)

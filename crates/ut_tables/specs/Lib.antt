@@ -4,3 +4,4 @@ pub mod Changed
 pub mod Merging
 pub mod Early
 pub mod Works
+pub mod Standing

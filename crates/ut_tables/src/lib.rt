@@ -5,10 +5,12 @@ mod early;
 mod look;
 mod merges;
 mod readers;
+mod restored;
 mod rows;
 mod tables;
 mod work;
 mod writes;
 
+pub use restored::Restored;
 pub use rows::Rows;
 pub use work::{Changes, Work};

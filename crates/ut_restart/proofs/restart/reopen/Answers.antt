@@ -29,4 +29,4 @@ pub returns-clause-ok : goal.returns-clause-ok
 returns-clause-ok c =
     let short = c.is_too_long.ensures.short c.if-is_too_long.false in
     let few : c.args.root.now.length + length c.args.entries ≤ 1073741824 = omega (arith, short, c.len.ensures) in
-    reopened c.args.root.now c.args.tables c.args.mains c.args.entries c.args.rows_limit c.in_ok-replay.replay c.follow_all.new.self c.in_ok-replay.ensures c.in_ok-follow_all.ensures.ok c.in_ok-store.store few c.requires.limit c.in_ok-store.ensures
+    reopened c.args.root.now c.args.tables c.args.mains c.args.entries c.in_ok-replay.replay c.follow_all.new.self c.in_ok-replay.ensures c.in_ok-follow_all.ensures.ok c.in_ok-restored.restored few c.in_ok-restored.ensures

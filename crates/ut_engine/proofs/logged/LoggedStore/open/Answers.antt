@@ -11,7 +11,7 @@ use Rattle.ut_durable.specs.Journals.{place_of}
 use Rattle.ut_engine.specs.declared.error.OpenError.TheVariants.{Damaged}
 use Rattle.ut_engine.specs.Logged.{Logged}
 use Rattle.ut_engine.specs.Runs.{Opens}
-use Rattle.ut_engine.proofs.FileLemmas.{IsRead, NotedBehind, began, opens, page_damaged, redo_damaged, restart_damaged, log_damaged, entries_damaged}
+use Rattle.ut_engine.proofs.FileLemmas.{reopened_store, IsRead, NotedBehind, began, opens, page_damaged, redo_damaged, restart_damaged, log_damaged, entries_damaged}
 use Rattle.ut_engine.proofs.logged.LoggedStore.open.Goals as goal
 
 -- the page file is made where its image is read
@@ -59,16 +59,16 @@ returns-in_err-redo-clause-damaged g c is =
     c.in_err-redo.ensures.damaged (ap Err error) told items end
     (subst (λ (file : Which). LogHolds (record { file = file; end = image.field-0.root.offset }) items end (g.D.Disk.view c.read_image.new.disk).seen) (sym c.log_file-begins.ensures) holds))
 
-pub returns-in_err-store-clause-damaged : goal.returns-in_err-store-clause-damaged
-returns-in_err-store-clause-damaged g c is =
+pub returns-in_err-restored-clause-damaged : goal.returns-in_err-restored-clause-damaged
+returns-in_err-restored-clause-damaged g c is =
     let image = c.in_ok-pages in
     let read : IsRead (g.D.Disk.view c.args.disk.now) _ _ _ = record { settle = c.in_ok-settle.ensures.reads; made = c.in_ok-made.ensures.reads; image = image.ensures.reads; is_made = λ told. (c.in_ok-made.ensures.made told).0 c.if-not-branch.false } in
-    let p = err_from_is_err_and c.from_residual-in_err-store.result c.from_residual-in_err-store.ensures.1 in
+    let p = err_from_is_err_and c.from_residual-in_err-restored.result c.from_residual-in_err-restored.ensures.1 in
     let same : p.0 ≡ Damaged = cc in
-    let error = restart_damaged c.in_err-store.field-0.0 (sym p.2 ∙ same) in
+    let error = restart_damaged c.in_err-restored.field-0.0 (sym p.2 ∙ same) in
     entries_damaged _ _ _ _ read image.field-0 image.ensures.found c.in_ok-redo.entries c.in_ok-redo.redo.place (λ told.
     subst (λ (file : Which). LogHolds (record { file = file; end = image.field-0.root.offset }) c.in_ok-redo.entries c.in_ok-redo.redo.place (g.D.Disk.view c.read_image.new.disk).seen) c.log_file-begins.ensures (c.in_ok-redo.ensures.found told))
-    (c.in_err-store.ensures.damaged (ap Err error))
+    (c.in_err-restored.ensures.damaged (ap Err error))
 
 pub log_file-begins-requires : goal.log_file-begins-requires
 log_file-begins-requires g c =
@@ -90,7 +90,8 @@ returns-clause-opens g c =
     let held : IsTold v3 → LogHolds (place_of image.field-0.root) c.in_ok-redo.entries c.in_ok-redo.redo.place v3.seen =
     λ told. subst (λ (file : Which). LogHolds (record { file = file; end = image.field-0.root.offset }) c.in_ok-redo.entries c.in_ok-redo.redo.place v3.seen) c.log_file-begins.ensures (log.found told) in
     let opened =
-    opens v0 v1 v2 v3 v4 read log.reads c.in_ok-settle.ensures.settled c.in_ok-store.store c.in_ok-redo.redo c.in_ok-next.next image.field-0 c.in_ok-redo.entries c.args.rows c.in_ok-store.ensures.ok log.log log.small
+    opens v0 v1 v2 v3 v4 read log.reads c.in_ok-settle.ensures.settled c.in_ok-store.store c.in_ok-redo.redo c.in_ok-next.next image.field-0 c.in_ok-redo.entries c.args.rows
+    (reopened_store image.field-0 c.in_ok-redo.entries c.in_ok-restored.restored c.in_ok-store.store c.args.rows c.requires c.in_ok-restored.ensures.ok c.in_ok-store.ensures) log.log log.small
     (subst (λ (entries : List Entry). NotedBehind image.field-0.root.next entries c.in_ok-next.next) c.as_slice.ensures c.in_ok-next.ensures)
     image.ensures.found held begins.0 base.0 base.1 in
     subst (λ (e : Logged). Opens e c.args.rows v0 v4) (λ i. record { store = c.in_ok-store.store; files = (sym c.new.ensures) i; begins = (sym c.log_file-begins.ensures) i; saving = None; next = c.in_ok-next.next; down = false }) opened
