@@ -1,5 +1,8 @@
 //! How keepers that sleep hear that there may be something to do.
-use crate::role::Kept;
+ghost use Rattle.std.specs.Prelude.{◌≡◌, false, IsTrue};
+ghost use Rattle.ut_crew.specs.Leaving.{IsLast, IsOver};
+
+use crate::role::{Kept, Went};
 use std::sync::Wait;
 use std::sync::atomic::AtomicU64;
 use std::sync::atomic::Ordering::SeqCst;
@@ -30,22 +33,38 @@ impl Bell {
 
     // It counts before it looks for sleepers, and a sleeper is counted before it looks at the rings,
     // so one of the two sees the other.
-    pub(crate) fn ring(&self) {
+    fn ring(&self) {
         self.rings.fetch_add(1, SeqCst);
         if self.asleep.load(SeqCst) != 0 {
             self.rings.wake_all();
         }
     }
 
-    /// The last ring of a session.
-    pub(crate) fn leave(&self) {
-        self.sessions.fetch_sub(1, SeqCst);
-        self.ring();
+    /// Whether a session goes on. It rings where a keeper may have something to do, and behind its last turn.
+    pub(crate) fn went_on(&self, went: Went) -> bool
+        ensures goes { IsTrue result → IsOver went → ⊥ }
+        ensures ends { result ≡ false → IsOver went }
+    {
+        match went {
+            Went::On => true,
+            Went::Due => {
+                self.ring();
+                true
+            }
+            Went::Over => {
+                self.sessions.fetch_sub(1, SeqCst);
+                self.ring();
+                false
+            }
+        }
     }
 
     /// Whether a keeper goes on, once it may have something to do. It had heard so many rings
     /// before its turn.
-    pub(crate) fn goes_on<R: Wait>(&self, rt: &R, kept: Kept, heard: u64) -> bool {
+    pub(crate) fn goes_on<R: Wait>(&self, rt: &R, kept: Kept, heard: u64) -> bool
+        ensures goes { IsTrue result → kept ≡ Kept.Over → ⊥ }
+        ensures ends { result ≡ false → IsLast kept }
+    {
         match kept {
             Kept::Did => true,
             Kept::Due => {

@@ -1,17 +1,20 @@
 //! The crew: its members, and the threads in which they work.
-ghost use Rattle.std.specs.Prelude.{◌≡◌, ◌+◌, ◌<◌, ◌≤◌, [], ◌∷◌, ◌++◌, None, All, IfOk, IfErr, length, map, reverse, vec_len, vec_capacity};
+ghost use Rattle.std.specs.Prelude.{◌≡◌, ◌+◌, ◌<◌, ◌≤◌, [], ◌∷◌, ◌++◌, None, All, IfOk, IfErr, length, map, reverse, vec_len, vec_capacity, MatchResult};
 ghost use Rattle.ut_gate.specs.declared.held.Slip.{Slip};
 ghost use Rattle.ut_crew.specs.Work.{CanAlways};
+ghost use Rattle.ut_crew.specs.Leaving.{AllLeft, HasLeft};
+ghost use Rattle.ut_crew.specs.Starting.{of_either};
 ghost use Rattle.ut_crew.specs.declared.role.Role.TheVariants.{Session, Merger, Saver};
 
 use crate::bell::Bell;
-use crate::floor::{Floor, OfFloor};
-use crate::member::{Member, work};
+use crate::floor::{Begun, Done, Floor, OfFloor};
+use crate::member::{Member, play, work};
 use crate::role::{Between, Build, Kept, Role, Went};
 use std::alloc::Global;
+use std::snapshot::Snapshot;
 use std::sync::Wait;
 use std::thread;
-use std::thread::{PromisedHandle, Scope, Threads};
+use std::thread::{Scope, Threads};
 use ut_gate::{Act, Back, Gate, Held, Pass, PassList};
 
 /// Runs the sessions, a merger and a saver on the value, each in a thread of its own, and gives
@@ -29,6 +32,7 @@ pub fn together<
     requires ground { E.stands_on E.ground value }
     requires can { CanAlways A.asks M.asks M.ready S.asks }
     ensures ok { IfOk result (λ e. E.stands_on E.ground e) }
+    ensures left { IfOk result (λ e. AllLeft E.book E.job (E.stands_on E.ground) M.relates M.End.asks M.End.relates M.unbuilt A.relates S.relates sessions.items merger saver e) }
     ensures err { IfErr result (λ b. b.value ≡ value) }
 {
     let seats = sessions.len() + 2;
@@ -38,6 +42,9 @@ pub fn together<
     let Ok(done) = Vec::with_capacity(alloc, seats) else {
         return Err(Back { value });
     };
+    let Ok(back) = Vec::with_capacity(alloc, seats) else {
+        return Err(Back { value });
+    };
     match Gate::new(alloc, value, seats as u32) {
         Ok((gate, passes)) => {
             let bell = Bell::new(sessions.len());
@@ -45,10 +52,26 @@ pub fn together<
             let floor = Floor { gate, bell };
             let done = each(rt, alloc, &floor, members, done);
             let Floor { gate, bell: _ } = floor;
-            Ok(gate.close(rt, PassList::of(done)))
+            Ok(gate.close(rt, passes_of(done, back)))
         }
         Err(back) => Err(back),
     }
+}
+
+// The passes of all that came back.
+fn passes_of<E: Held, A: Drop, M: Drop, S: Drop>(
+    mut done: Vec<Done<E, A, M, S>>,
+    mut back: Vec<Pass<E>>,
+) -> PassList<E>
+    requires back { back.items ≡ [] }
+    requires room { vec_len done ≤ vec_capacity back }
+    ensures { result ≡ map (λ d. d.pass) (reverse done.items) }
+{
+    while let Some(one) = done.pop() {
+        let Done { pass, part: _ } = one;
+        back.push_reserved(pass);
+    }
+    PassList::of(back)
 }
 
 // A member for each part. The last of them is to start first, and the keepers start last.
@@ -124,21 +147,22 @@ fn each<
     alloc: Global,
     floor: &Floor<E>,
     members: Vec<Member<E, A, M, S>>,
-    done: Vec<Pass<E>>,
-) -> Vec<Pass<E>>
+    done: Vec<Done<E, A, M, S>>,
+) -> Vec<Done<E, A, M, S>>
     requires own { All (λ m. m.pass.gate ≡ floor.now.gate) members.items }
     requires done { done.items ≡ [] }
     requires room { vec_len members ≤ vec_capacity done }
     requires can { CanAlways A.asks M.asks M.ready S.asks }
-    ensures own { All (λ p. p.gate ≡ floor.now.gate) result.items }
+    ensures left { All (λ d. (d.pass.gate ≡ floor.now.gate) × HasLeft E.book E.job (E.stands_on E.ground) M.relates M.End.asks M.End.relates M.unbuilt A.relates S.relates d.part.value d.pass) result.items }
     ensures all { vec_len result ≡ vec_len members }
+    ensures parts { map (λ d. d.part.value) result.items ≡ map (λ m. m.role) (reverse members.items) }
 {
     thread::scope(
         thread::scope_env(),
         rt,
-        move |scope| -> Vec<Pass<E>>
+        move |scope| -> Vec<Done<E, A, M, S>>
             requires { All (λ m. m.pass.gate ≡ floor.now.gate) members.items × (done.items ≡ []) × (vec_len members ≤ vec_capacity done) × CanAlways A.asks M.asks M.ready S.asks }
-            ensures { All (λ p. p.gate ≡ floor.entry.now.gate) result.items × (vec_len result ≡ vec_len members) }
+            ensures { All (λ d. (d.pass.gate ≡ floor.entry.now.gate) × HasLeft E.book E.job (E.stands_on E.ground) M.relates M.End.asks M.End.relates M.unbuilt A.relates S.relates d.part.value d.pass) result.items × (vec_len result ≡ vec_len members) × (map (λ d. d.part.value) result.items ≡ map (λ m. m.role) (reverse members.items)) }
         { start_and_join(scope, rt, alloc, floor, members, done) },
     )
 }
@@ -158,20 +182,22 @@ fn start_and_join<
     alloc: Global,
     floor: &'s Floor<E>,
     members: Vec<Member<E, A, M, S>>,
-    done: Vec<Pass<E>>,
-) -> Vec<Pass<E>>
+    done: Vec<Done<E, A, M, S>>,
+) -> Vec<Done<E, A, M, S>>
     requires own { All (λ m. m.pass.gate ≡ floor.now.gate) members.items }
     requires done { done.items ≡ [] }
     requires room { vec_len members ≤ vec_capacity done }
     requires can { CanAlways A.asks M.asks M.ready S.asks }
-    ensures own { All (λ p. p.gate ≡ floor.now.gate) result.items }
+    ensures left { All (λ d. (d.pass.gate ≡ floor.now.gate) × HasLeft E.book E.job (E.stands_on E.ground) M.relates M.End.asks M.End.relates M.unbuilt A.relates S.relates d.part.value d.pass) result.items }
     ensures all { vec_len result ≡ vec_len members }
+    ensures parts { map (λ d. d.part.value) result.items ≡ map (λ m. m.role) (reverse members.items) }
 {
-    let Ok(handles) = Vec::with_capacity(alloc, members.len()) else {
+    let Ok(begun) = Vec::with_capacity(alloc, members.len()) else {
         return run_all(rt, floor, members, done);
     };
-    let (handles, done) = start_all(scope, rt, floor, members, handles, done);
-    join_all(rt, floor, handles, done)
+    let mut begun = start_all(scope, rt, floor, members, begun);
+    begun.reverse();
+    join_all(rt, floor, begun, done)
 }
 
 // Starts a thread for each member, or has it work at once where none can be made: a keeper then
@@ -189,29 +215,58 @@ fn start_all<
     rt: &'s R,
     floor: &'s Floor<E>,
     mut members: Vec<Member<E, A, M, S>>,
-    mut handles: Vec<PromisedHandle<Pass<E>, OfFloor<'s, E>>>,
-    mut done: Vec<Pass<E>>,
-) -> (Vec<PromisedHandle<Pass<E>, OfFloor<'s, E>>>, Vec<Pass<E>>)
+    mut begun: Vec<Begun<'s, E, A, M, S>>,
+) -> Vec<Begun<'s, E, A, M, S>>
     requires own { All (λ m. m.pass.gate ≡ floor.now.gate) members.items }
-    requires handles { (handles.items ≡ []) × (vec_len members ≤ vec_capacity handles) }
-    requires done { (done.items ≡ []) × (vec_len members ≤ vec_capacity done) }
+    requires begun { (begun.items ≡ []) × (vec_len members ≤ vec_capacity begun) }
     requires can { CanAlways A.asks M.asks M.ready S.asks }
-    ensures handles { All (λ h. h.promise.0.now.gate ≡ floor.now.gate) result.0.items }
-    ensures own { All (λ p. p.gate ≡ floor.now.gate) result.1.items }
-    ensures all { vec_len result.1 + vec_len result.0 ≡ vec_len members }
-    ensures room { vec_len members ≤ vec_capacity result.1 }
+    ensures begun { All (λ b. MatchResult b (λ h. (h.0.promise.floor.now.gate ≡ floor.now.gate) × (h.0.promise.part.value ≡ h.1.value)) (λ d. (d.pass.gate ≡ floor.now.gate) × HasLeft E.book E.job (E.stands_on E.ground) M.relates M.End.asks M.End.relates M.unbuilt A.relates S.relates d.part.value d.pass)) result.items }
+    ensures all { vec_len result ≡ vec_len members }
+    ensures parts { map (of_either (λ h. h.1.value) (λ d. d.part.value)) result.items ≡ map (λ m. m.role) (reverse members.items) }
 {
     while let Some(member) = members.pop() {
-        let theirs = move || -> Pass<E>
-            requires { (member.pass.gate ≡ floor.now.gate) × CanAlways A.asks M.asks M.ready S.asks }
-            ensures { result.gate ≡ floor.entry.now.gate }
-        { work(rt, floor, member) };
-        match scope.spawn_with(OfFloor(floor), theirs) {
-            Ok(child) => handles.push_reserved(child),
-            Err(refused) => done.push_reserved((refused.value)()),
+        begun.push_reserved(start(scope, rt, floor, member));
+    }
+    begun
+}
+
+// Starts a thread for a member, or has it work at once.
+fn start<
+    's,
+    X,
+    E: Held + 's,
+    A: Act<E, Answer = Went> + Between + Send + Drop + 's,
+    M: Act<E, Answer = Kept> + Build<E> + Send + Drop + 's,
+    S: Act<E, Answer = Kept> + Send + Drop + 's,
+    R: Threads + Wait + Sync,
+>(
+    scope: &Scope<'s, X>,
+    rt: &'s R,
+    floor: &'s Floor<E>,
+    member: Member<E, A, M, S>,
+) -> Begun<'s, E, A, M, S>
+    requires own { member.pass.gate ≡ floor.now.gate }
+    requires can { CanAlways A.asks M.asks M.ready S.asks }
+    ensures begun { MatchResult result (λ h. (h.0.promise.floor.now.gate ≡ floor.now.gate) × (h.0.promise.part.value ≡ h.1.value)) (λ d. (d.pass.gate ≡ floor.now.gate) × HasLeft E.book E.job (E.stands_on E.ground) M.relates M.End.asks M.End.relates M.unbuilt A.relates S.relates d.part.value d.pass) }
+    ensures part { of_either (λ h. h.1.value) (λ d. d.part.value) result ≡ member.role }
+{
+    let part = Snapshot::of(&member.role);
+    let promised = Snapshot::of(&member.role);
+    let theirs = move || -> Pass<E>
+        requires { (member.pass.gate ≡ floor.now.gate) × CanAlways A.asks M.asks M.ready S.asks }
+        ensures { (result.gate ≡ floor.entry.now.gate) × HasLeft E.book E.job (E.stands_on E.ground) M.relates M.End.asks M.End.relates M.unbuilt A.relates S.relates member.role result }
+    { play(rt, floor, member) };
+    let promise = OfFloor {
+        floor,
+        part: promised,
+    };
+    match scope.spawn_with(promise, theirs) {
+        Ok(child) => Ok((child, part)),
+        Err(refused) => {
+            let pass = (refused.value)();
+            Err(Done { pass, part })
         }
     }
-    (handles, done)
 }
 
 // Has all members work, one after the other, where no thread's handle can be kept.
@@ -225,13 +280,14 @@ fn run_all<
     rt: &R,
     floor: &Floor<E>,
     mut members: Vec<Member<E, A, M, S>>,
-    mut done: Vec<Pass<E>>,
-) -> Vec<Pass<E>>
+    mut done: Vec<Done<E, A, M, S>>,
+) -> Vec<Done<E, A, M, S>>
     requires own { All (λ m. m.pass.gate ≡ floor.now.gate) members.items }
     requires done { (done.items ≡ []) × (vec_len members ≤ vec_capacity done) }
     requires can { CanAlways A.asks M.asks M.ready S.asks }
-    ensures own { All (λ p. p.gate ≡ floor.now.gate) result.items }
+    ensures left { All (λ d. (d.pass.gate ≡ floor.now.gate) × HasLeft E.book E.job (E.stands_on E.ground) M.relates M.End.asks M.End.relates M.unbuilt A.relates S.relates d.part.value d.pass) result.items }
     ensures all { vec_len result ≡ vec_len members }
+    ensures parts { map (λ d. d.part.value) result.items ≡ map (λ m. m.role) (reverse members.items) }
 {
     while let Some(member) = members.pop() {
         done.push_reserved(work(rt, floor, member));
@@ -240,20 +296,50 @@ fn run_all<
 }
 
 // Waits for all threads, for each pass that they took.
-fn join_all<'a, E: Held, R: Threads>(
+fn join_all<
+    'a,
+    E: Held,
+    A: Act<E, Answer = Went> + Drop,
+    M: Act<E, Answer = Kept> + Build<E> + Drop,
+    S: Act<E, Answer = Kept> + Drop,
+    R: Threads,
+>(
     rt: &R,
     floor: &'a Floor<E>,
-    mut handles: Vec<PromisedHandle<Pass<E>, OfFloor<'a, E>>>,
-    mut done: Vec<Pass<E>>,
-) -> Vec<Pass<E>>
-    requires handles { All (λ h. h.promise.0.now.gate ≡ floor.now.gate) handles.items }
-    requires done { All (λ p. p.gate ≡ floor.now.gate) done.items }
-    requires room { vec_len done + vec_len handles ≤ vec_capacity done }
-    ensures own { All (λ p. p.gate ≡ floor.now.gate) result.items }
-    ensures all { vec_len result ≡ vec_len done + vec_len handles.entry }
+    mut begun: Vec<Begun<'a, E, A, M, S>>,
+    mut done: Vec<Done<E, A, M, S>>,
+) -> Vec<Done<E, A, M, S>>
+    requires begun { All (λ b. MatchResult b (λ h. (h.0.promise.floor.now.gate ≡ floor.now.gate) × (h.0.promise.part.value ≡ h.1.value)) (λ d. (d.pass.gate ≡ floor.now.gate) × HasLeft E.book E.job (E.stands_on E.ground) M.relates M.End.asks M.End.relates M.unbuilt A.relates S.relates d.part.value d.pass)) begun.items }
+    requires done { done.items ≡ [] }
+    requires room { vec_len begun ≤ vec_capacity done }
+    ensures left { All (λ d. (d.pass.gate ≡ floor.now.gate) × HasLeft E.book E.job (E.stands_on E.ground) M.relates M.End.asks M.End.relates M.unbuilt A.relates S.relates d.part.value d.pass) result.items }
+    ensures all { vec_len result ≡ vec_len begun.entry }
+    ensures parts { map (λ d. d.part.value) result.items ≡ map (of_either (λ h. h.1.value) (λ d. d.part.value)) (reverse begun.entry.items) }
 {
-    while let Some(child) = handles.pop() {
-        done.push_reserved(child.join(rt));
+    while let Some(one) = begun.pop() {
+        done.push_reserved(joined(rt, floor, one));
     }
     done
+}
+
+// What came back of a member that was started.
+fn joined<
+    'a,
+    E: Held,
+    A: Act<E, Answer = Went> + Drop,
+    M: Act<E, Answer = Kept> + Build<E> + Drop,
+    S: Act<E, Answer = Kept> + Drop,
+    R: Threads,
+>(rt: &R, floor: &'a Floor<E>, begun: Begun<'a, E, A, M, S>) -> Done<E, A, M, S>
+    requires begun { MatchResult begun (λ h. (h.0.promise.floor.now.gate ≡ floor.now.gate) × (h.0.promise.part.value ≡ h.1.value)) (λ d. (d.pass.gate ≡ floor.now.gate) × HasLeft E.book E.job (E.stands_on E.ground) M.relates M.End.asks M.End.relates M.unbuilt A.relates S.relates d.part.value d.pass) }
+    ensures left { (result.pass.gate ≡ floor.now.gate) × HasLeft E.book E.job (E.stands_on E.ground) M.relates M.End.asks M.End.relates M.unbuilt A.relates S.relates result.part.value result.pass }
+    ensures part { result.part.value ≡ of_either (λ h. h.1.value) (λ d. d.part.value) begun.entry }
+{
+    match begun {
+        Ok((child, part)) => {
+            let pass = child.join(rt);
+            Done { pass, part }
+        }
+        Err(done) => done,
+    }
 }

@@ -6,8 +6,6 @@ mod crew;
 mod floor;
 mod member;
 mod role;
-#[cfg(test)]
-mod tests;
 
 pub use crew::together;
 pub use role::{Between, Build, Kept, Went};

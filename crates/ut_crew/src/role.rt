@@ -1,5 +1,5 @@
 //! What the members of a crew do, in their turns and outside them.
-ghost use Rattle.std.specs.Prelude.{Some, IfSome};
+ghost use Rattle.std.specs.Prelude.{Some, IfSome, IfNone};
 
 use ut_gate::{Act, Held};
 
@@ -41,10 +41,14 @@ pub trait Build<E: Held> {
     /// What has to be known of a builder before it builds.
     ghost ready: { Self → Type 0 };
 
+    /// What is known where a job could not be built.
+    ghost unbuilt: { Self → E.Job → Type 0 };
+
     /// An act that may end the job. Without one the merger is over, and the job stays.
     fn build(&self, job: &E::Job) -> Option<Self::End>
         requires ready { ready self.now }
-        ensures ends { IfSome result (λ end. Self.End.asks end (record { job = Some job.now })) };
+        ensures ends { IfSome result (λ end. Self.End.asks end (record { job = Some job.now })) }
+        ensures none { IfNone result (unbuilt self.now job.now) };
 }
 
 /// The part that a thread plays.

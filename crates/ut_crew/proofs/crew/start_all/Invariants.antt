@@ -1,15 +1,16 @@
-use Rattle.std.proofs.Common.{◌≡◌, ◌+◌, ◌≤◌, vec_len, vec_capacity}
-use Rattle.std.specs.Prelude.{All}
+use Rattle.std.proofs.Common.{◌≡◌, ◌+◌, ◌≤◌, ◌++◌, vec_len, vec_capacity}
+use Rattle.std.specs.Prelude.{All, MatchResult, map, reverse}
+use Rattle.ut_crew.specs.Leaving.{HasLeft}
+use Rattle.ut_crew.specs.Starting.{of_either}
 use Rattle.ut_crew.proofs.crew.start_all.Given as goal
 
 abbrev pub invariant-loop-member : goal.invariant-loop-member
 invariant-loop-member g l =
     All (λ m. m.pass.gate ≡ l.floor.gate) l.members.items
-    × All (λ p. p.gate ≡ l.floor.gate) l.done.items
-    × All (λ h. h.promise.0.now.gate ≡ l.floor.gate) l.handles.items
-    × (vec_len l.members + vec_len l.handles ≤ vec_capacity l.handles)
-    × (vec_len l.fn.members ≤ vec_capacity l.done)
-    × (vec_len l.done + vec_len l.members + vec_len l.handles ≡ vec_len l.fn.members)
+    × All (λ b. MatchResult b (λ h. (h.0.promise.floor.now.gate ≡ l.floor.gate) × (h.0.promise.part.value ≡ h.1.value)) (λ d. (d.pass.gate ≡ l.floor.gate) × HasLeft g.E.Held.book g.E.Held.job (g.E.Held.stands_on g.E.Held.ground) g.M.Act.relates g.M.End.Act.asks g.M.End.Act.relates g.M.Build.unbuilt g.A.Act.relates g.S.Act.relates d.part.value d.pass)) l.begun.items
+    × (vec_len l.begun + vec_len l.members ≤ vec_capacity l.begun)
+    × (vec_len l.begun + vec_len l.members ≡ vec_len l.fn.members)
+    × (map (of_either (λ h. h.1.value) (λ d. d.part.value)) l.begun.items ++ map (λ m. m.role) (reverse l.members.items) ≡ map (λ m. m.role) (reverse l.fn.members.items))
 
 abbrev pub decreases-loop-member : goal.decreases-loop-member
 decreases-loop-member g l = goal.left-loop-member g l

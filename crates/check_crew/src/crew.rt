@@ -1,8 +1,6 @@
 //! Crews on threads over a sum, whose job is to note what the sum was.
-ghost use Rattle.std.specs.Prelude.{◌≡◌, ◌≤◌, [], Some};
+ghost use Rattle.std.specs.Prelude.{◌≡◌, ◌≤◌, [], Some, IfOk, vec_len};
 
-use crate::crew::together;
-use crate::role::{Between, Build, Kept, Went};
 use std::alloc::{AllocError, Global};
 use std::process::Abort;
 use std::sync::Wait;
@@ -10,6 +8,7 @@ use std::sync::atomic::AtomicU64;
 use std::sync::atomic::Ordering::SeqCst;
 use std::test::Fail;
 use std::thread::{Threads, yield_now};
+use ut_crew::{Between, Build, Kept, Went, together};
 use ut_gate::{Act, Held, Slip};
 
 const TURNS: u64 = 200;
@@ -175,6 +174,8 @@ impl<'a> Build<Sum> for Note<'a> {
 
     ghost ready = { λ _. Unit {0} };
 
+    ghost unbuilt = { λ _ _. Unit {0} };
+
     /// The first build lets go who waits for it, and waits for three turns.
     fn build(&self, job: &u64) -> Option<Noted> {
         let watch = self.watch;
@@ -223,6 +224,30 @@ fn seven(noted: u64) -> Sum
     }
 }
 
+/// What a run came to.
+#[derive(Clone, Copy)]
+struct Seen {
+    ones: u64,
+    noted: u64,
+    looks: u64,
+    idle: bool,
+    missed: u64,
+}
+
+// So many sessions, which is as many as were asked for at most.
+fn at_most<'a, R: Abort>(
+    rt: &R,
+    alloc: Global,
+    number: u64,
+    watch: &'a Watch,
+) -> Result<Vec<Add<'a>>, Fail>
+    ensures { IfOk result (λ sessions. vec_len sessions ≤ 16) }
+{
+    let sessions = sessions(alloc, number, watch)?;
+    assert!(rt; sessions.len() <= 16);
+    Ok(sessions)
+}
+
 // So many sessions and two keepers run on a sum of seven, of which so much was noted. Where there was no memory, the sum is as it
 // was.
 fn run<R: Threads + Wait + Sync + Abort>(
@@ -231,60 +256,81 @@ fn run<R: Threads + Wait + Sync + Abort>(
     number: u64,
     noted: u64,
     watch: &Watch,
-) -> Result<Option<Sum>, Fail>
+) -> Result<Option<Seen>, Fail>
     requires { number ≤ 16 }
 {
-    let sessions = sessions(alloc, number, watch)?;
-    assert!(rt; sessions.len() <= 16);
-    let merger = Note {
-        all: 7 + number * TURNS,
-        watch,
-    };
+    let sessions = at_most(rt, alloc, number, watch)?;
+    let all = 7 + number * TURNS;
+    let merger = Note { all, watch };
     match together(rt, alloc, seven(noted), sessions, merger, Look) {
-        Ok(sum) => Ok(Some(sum)),
+        Ok(sum) => Ok(Some(seen_of(sum, watch))),
         Err(back) => {
-            let sum = back.value;
-            assert!(rt; sum.ones == 7 && sum.noted == noted && sum.under_way.is_none());
+            let before = seen_of(back.value, watch);
+            assert!(rt; before.ones == 7 && before.noted == noted && before.idle);
             Ok(None)
         }
     }
 }
 
+fn seen_of(sum: Sum, watch: &Watch) -> Seen {
+    Seen {
+        ones: sum.ones,
+        noted: sum.noted,
+        looks: sum.looks,
+        idle: sum.under_way.is_none(),
+        missed: watch.missed.load(SeqCst),
+    }
+}
+
 #[test]
 fn all_members_work_and_turns_go_on_while_a_job_is_built(rt: HostRuntime) -> Result<(), Fail> {
-    let alloc = rt.alloc();
     let watch = Watch::new();
-    let Some(sum) = run(&rt, alloc, 16, 0, &watch)? else {
+    let Some(seen) = run(&rt, rt.alloc(), 16, 0, &watch)? else {
         return Ok(());
     };
-    assert_eq!(rt; sum.ones, 7 + 16 * TURNS);
-    assert!(rt; sum.under_way.is_none() && sum.looks >= 1);
-    assert!(rt; sum.noted.saturating_add(10) > sum.ones && sum.noted <= sum.ones);
-    assert_eq!(rt; watch.missed.load(SeqCst), 0);
+    drop(watch);
+    assert_eq!(rt; seen.ones, 7 + 16 * TURNS);
+    assert!(rt; seen.idle && seen.looks >= 1);
+    assert!(rt; seen.noted.saturating_add(10) > seen.ones && seen.noted <= seen.ones);
+    assert_eq!(rt; seen.missed, 0);
+    Ok(())
+}
+
+/// A session that left without a word would let them sleep for ever.
+#[test]
+fn keepers_end_behind_the_last_session(rt: HostRuntime) -> Result<(), Fail> {
+    let watch = Watch::new();
+    watch.turns.store(1000, SeqCst);
+    let Some(seen) = run(&rt, rt.alloc(), 1, u64::MAX, &watch)? else {
+        return Ok(());
+    };
+    drop(watch);
+    assert!(rt; seen.ones == 7 + TURNS && seen.noted == u64::MAX && seen.looks >= 1);
     Ok(())
 }
 
 #[test]
 fn keepers_end_with_no_session(rt: HostRuntime) -> Result<(), Fail> {
-    let alloc = rt.alloc();
     let watch = Watch::new();
-    let Some(sum) = run(&rt, alloc, 0, 0, &watch)? else {
+    let Some(seen) = run(&rt, rt.alloc(), 0, 0, &watch)? else {
         return Ok(());
     };
-    assert!(rt; sum.ones == 7 && sum.noted == 0 && sum.looks >= 1);
+    drop(watch);
+    assert!(rt; seen.ones == 7 && seen.noted == 0 && seen.looks >= 1);
     Ok(())
 }
 
-/// It looks at its start and behind sessions' last turns, and not behind each turn.
+/// It looks at its start and behind sessions' last turns, of which there are eight, and not behind each turn: a keeper that
+/// looks again and again would have some two hundred.
 #[test]
 fn keepers_sleep_while_nothing_is_due(rt: HostRuntime) -> Result<(), Fail> {
-    let alloc = rt.alloc();
     let watch = Watch::new();
     watch.turns.store(1000, SeqCst);
-    let Some(sum) = run(&rt, alloc, 8, u64::MAX, &watch)? else {
+    let Some(seen) = run(&rt, rt.alloc(), 8, u64::MAX, &watch)? else {
         return Ok(());
     };
-    assert_eq!(rt; sum.ones, 7 + 8 * TURNS);
-    assert!(rt; sum.noted == u64::MAX && sum.looks >= 1 && sum.looks <= TURNS);
+    drop(watch);
+    assert_eq!(rt; seen.ones, 7 + 8 * TURNS);
+    assert!(rt; seen.noted == u64::MAX && seen.looks >= 1 && seen.looks <= 20);
     Ok(())
 }

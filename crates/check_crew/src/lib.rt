@@ -1,0 +1,5 @@
+//! Checks of crews on threads.
+#![tactic(auto)]
+
+#[cfg(test)]
+mod crew;
