@@ -290,18 +290,17 @@ telling_risen TooLong before after t h = tt
 -- the disk failed at a line
 pub bench_faulted : (plan : Plan) (before after : World) (left : List (List ℕ)) (lines : ℕ) (front : List (List ℕ)) (answers : List Answer) (plain : Plain) (acks : List Ack) (journal : ℕ) → script_of plan ≡ front ++ left → lines ≡ length front
     → Served (start_of plan) plan.rows before.disk after.disk DiskFault front answers acks journal plain → IsUnasked before after → sink_of after ≡ sink_of before → Rose before.disk.faults after.disk.faults → BenchRun plan before after DiskFault lines acks journal
-bench_faulted plan before after left lines front answers plain acks journal parts count served unasked ungiven rose =
-    bench_late plan before after DiskFault lines acks journal tt unasked rose (λ e. cc) (record {
-      front = front;
-      left = left;
-      parts = parts;
-      count = count;
-      through = tt;
-      answers = answers;
-      plain = plain;
-      served = served;
-      written = ungiven;
-    })
+bench_faulted plan before after left lines front answers plain acks journal parts count served unasked ungiven rose = bench_late plan before after DiskFault lines acks journal tt unasked rose (λ e. cc) (record {
+  front = front;
+  left = left;
+  parts = parts;
+  count = count;
+  through = tt;
+  answers = answers;
+  plain = plain;
+  served = served;
+  written = ungiven;
+})
 
 -- why no line was taken
 abbrev no_line : LineEnd → Result (Unit {0}) LineEnd

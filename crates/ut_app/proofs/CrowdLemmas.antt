@@ -241,6 +241,7 @@ module _ (plan : Plan) (entry mid now : View) (status : Status) (script : List (
     });
     asks = c.asks p begun.runs;
     kept = λ t. kept_of (start_of plan) entry mid now begun.first.journal q.journal (acks_in book) (begun.kept t) (holding (told ∙ t));
+    timely = λ t. c.timely (told ∙ t);
     answered = λ e. c.answered (all_of status stopped new.down all ends c.cause e);
   }
   booked_by (Failed n q down answers rose holding) = record {
@@ -269,6 +270,7 @@ module _ (plan : Plan) (entry mid now : View) (status : Status) (script : List (
     });
     asks = c.asks p begun.runs;
     kept = λ t. kept_of (start_of plan) entry mid now begun.first.journal q.journal (acks_in book) (begun.kept t) (holding (told ∙ t));
+    timely = λ t. c.timely (told ∙ t);
     answered = λ e. c.answered (all_of status stopped new.down all ends c.cause e);
   }
 

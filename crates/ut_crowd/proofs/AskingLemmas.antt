@@ -137,8 +137,7 @@ one_line p Comment here q r a b = a.1 ∙ sym b.1
 one_line p Stranger here q r a b = a.1 ∙ sym b.1
 one_line p (Bad session) here q r a b = a.1 ∙ sym b.1
 one_line p (Good session st) here q r a b =
-    let same : b.reply ≡ a.reply = ap first_reply (sym b.is ∙ a.is) in
-    one_may p session st a.reply q r a.may (subst (λ (reply : Reply). MayAnswer p session st reply r) same b.may)
+    let same : b.reply ≡ a.reply = ap first_reply (sym b.is ∙ a.is) in one_may p session st a.reply q r a.may (subst (λ (reply : Reply). MayAnswer p session st reply r) same b.may)
 
 -- the answers to a line are as many, whatever stands behind them
 record Parted (here here' rest rest' : List Answer) : Type 0 where

@@ -28,6 +28,7 @@ starts store disk name lines l1 range runs = record {
   moment = refl;
   faults = refl;
   since = λ t c left. left;
+  keeps = λ t c left. left;
   some = runs;
   runs = λ p r. r;
   loan = refl;
@@ -40,6 +41,7 @@ crowded store new disk now name name' lines queues book job l1 l last all stoppe
   weaves = s.weaves;
   course = s.course;
   asks = s.asks;
+  timely = s.timely;
   told = s.told;
   faults = s.faults;
   answered = λ a. all_answered lines queues book s.weaves (none a);

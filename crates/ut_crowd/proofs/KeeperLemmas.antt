@@ -32,7 +32,7 @@ use Rattle.ut_crowd.specs.declared.book.Turn.{Turn}
 use Rattle.ut_crowd.specs.declared.merger.Ripe.{Ripe}
 use Rattle.ut_crowd.specs.declared.merger.Ripe.TheVariants.{First, Second}
 use Rattle.ut_crowd.specs.Asking.{StoreAsks, Merges, Ends, Saves, first_full, second_full, kind_of_merge, merge_of, merge_due, table_at, progress_in, piece_next, waits}
-use Rattle.ut_crowd.specs.Keepers.{is_refusal, kept_after, woken, HasAsked, AsksOnce, AsksDue, KeepsUp, IsShared, IsMergeDue, IsSaveDue, IsWaiting, unless_waiting}
+use Rattle.ut_crowd.specs.Keepers.{is_refusal, kept_after, woken, HasAsked, AsksOnce, AsksDue, BringsJob, KeepsUp, IsShared, IsMergeDue, IsSaveDue, IsWaiting, unless_waiting}
 use Rattle.ut_crowd.specs.Queues.{left_of, IsOver}
 use Rattle.ut_crowd.specs.Ripe.{ripe_of}
 use Rattle.ut_crowd.specs.Saving.{due_piece}
@@ -67,11 +67,6 @@ no_both : {A : Type 0} (b : Bool) → b ≡ true → b ≡ false → A
 no_both true h k = cc
 no_both false h k = cc
 
-pub not_over : (stopped : Bool) (store : Logged) (queues : List (List (List ℕ))) (session : ℕ) → stopped ≡ false → store.down ≡ false → session < 17 → (left_of queues session ≡ [] → ⊥) → IsOver stopped store queues → ⊥
-not_over stopped store queues session going up lt some (inl h) = no_both stopped h going
-not_over stopped store queues session going up lt some (inr (inl h)) = no_both store.down h up
-not_over stopped store queues session going up lt some (inr (inr none)) = some (none session lt)
-
 -- ---- a keeper's turn
 
 pub keeps_by : (over : Type 0) (due : Option Statement → Type 0) (brings : Statement → Type 0) (stopped down : Bool) (before after : List Turn) (kept : Kept) → (over → ⊥) → AsksDue due brings stopped down before after kept → KeepsUp over due brings stopped down before after kept
@@ -90,14 +85,6 @@ shared_once st stopped stopped' down before after kept kept' (inl s) h =
     subst (λ (k : Kept). AsksOnce st stopped' down before after k) (sym s.0) (subst (λ (b : Bool). AsksOnce st b down before after kept) (sym s.1) h)
 shared_once st stopped stopped' down before after kept kept' (inr s) h = subst (λ (k : Kept). AsksOnce st stopped' down before after k) (sym s.0) (inl s.1)
 
-pub over_by : (reply : Reply) (down : Bool) → IsTrue (is_refusal reply) ⊎ IsTrue down → kept_after reply down ≡ kepts.Over
-over_by reply down (inl r) = ap (λ (b : Bool). cond (down || b) kepts.Over kepts.Did) r ∙ either down
-  where
-    either : (d : Bool) → cond (d || true) kepts.Over kepts.Did ≡ kepts.Over
-    either true = refl
-    either false = refl
-over_by reply down (inr d) = ap (λ (b : Bool). cond (b || is_refusal reply) kepts.Over kepts.Did) d
-
 pub begin_over : (e : BeginError) (down : Bool) → down ≡ is_fault (Err e) → IsTrue (is_refusal (begin_reply (Err e))) ⊎ IsTrue down
 begin_over errors.Name down is = inl refl
 begin_over (errors.Busy n) down is = inl refl
@@ -107,60 +94,15 @@ begin_over errors.Disk down is = inr is
 
 -- ---- what is due to the merger
 
-unless_none : (w : Bool) → unless_waiting w None ≡ None
-unless_none true = refl
-unless_none false = refl
-
 unless_l1 : (w : Bool) (name : List ℕ) (n : ℕ) → unless_waiting w (Some (statements.MergeL1 name n)) ≡ Some (statements.MergeL1 name n)
 unless_l1 true name n = refl
 unless_l1 false name n = refl
-
--- a merge of a table that is ripe
-abbrev merge_by : ℕ → Plain → Option Ripe → Option Statement
-merge_by l1 p None = None
-merge_by l1 p (Some (First place)) = Some (statements.MergeL1 (table_at p place) l1)
-merge_by l1 p (Some (Second place)) = Some (statements.MergeBegin (table_at p place) (kind_of_merge ((current p.journal).merges + 1)))
-
-of_ripe : (l1 : ℕ) (p : Plain) (first second : Option ℕ) → merge_of l1 p first second ≡ merge_by l1 p (ripe_of first second)
-of_ripe l1 p (Some n) second = refl
-of_ripe l1 p None (Some n) = refl
-of_ripe l1 p None None = refl
 
 none_is : {A : Type 0} (o : Option A) → is_some o ≡ false → o ≡ None
 none_is None h = refl
 none_is (Some x) h = cc
 
 module _ (l1 : ℕ) (store : Logged) (disk : View) where
-  pub pending_none : (w : Bool) → is_some store.store.counts.pending ≡ true → IsMergeDue l1 w store disk None
-  pending_none w h p runs =
-      ap (λ (o : Option PendingMerge). unless_waiting w (cond (is_some o) None (merge_of l1 p (first_full l1 p.stages) (second_full l1 p.stages)))) (sym runs.stands.counts.pending)
-      ∙ ap (λ (b : Bool). unless_waiting w (cond b None (merge_of l1 p (first_full l1 p.stages) (second_full l1 p.stages)))) h
-      ∙ unless_none w
-
-  module _ (ripe : Option Ripe) (free : is_some store.store.counts.pending ≡ false) (each : (p : Plain) → StandsFor store.store p → ripe ≡ ripe_of (first_full l1 p.stages) (second_full l1 p.stages)) where
-    merge_ripe : (p : Plain) → Runs store disk p → merge_due l1 p ≡ merge_by l1 p ripe
-    merge_ripe p runs =
-        ap (λ (o : Option PendingMerge). cond (is_some o) None (merge_of l1 p (first_full l1 p.stages) (second_full l1 p.stages))) (sym runs.stands.counts.pending)
-        ∙ ap (λ (b : Bool). cond b None (merge_of l1 p (first_full l1 p.stages) (second_full l1 p.stages))) free
-        ∙ of_ripe l1 p (first_full l1 p.stages) (second_full l1 p.stages)
-        ∙ ap (λ (r : Option Ripe). merge_by l1 p r) (sym (each p runs.stands))
-
-    pub ripe_none : (w : Bool) → ripe ≡ None → IsMergeDue l1 w store disk None
-    ripe_none w is p runs = ap (unless_waiting w) (merge_ripe p runs ∙ ap (λ (r : Option Ripe). merge_by l1 p r) is) ∙ unless_none w
-
-    pub ripe_first : (place : ℕ) → ripe ≡ Some (First place) → (p : Plain) → Runs store disk p → merge_due l1 p ≡ Some (statements.MergeL1 (table_at p place) l1)
-    ripe_first place is p runs = merge_ripe p runs ∙ ap (λ (r : Option Ripe). merge_by l1 p r) is
-
-    pub ripe_second : (place : ℕ) → ripe ≡ Some (Second place) → (p : Plain) → Runs store disk p → merge_due l1 p ≡ Some (statements.MergeBegin (table_at p place) (kind_of_merge (store.store.counts.merges + 1)))
-    ripe_second place is p runs =
-        merge_ripe p runs ∙ ap (λ (r : Option Ripe). merge_by l1 p r) is
-        ∙ ap (λ (n : ℕ). Some (statements.MergeBegin (table_at p place) (kind_of_merge (n + 1)))) (sym runs.stands.counts.merges)
-
-    pub ripe_waits : (place : ℕ) (w : Bool) → ripe ≡ Some (Second place) → w ≡ true → IsMergeDue l1 w store disk None
-    ripe_waits place w is waited p runs =
-        ap (unless_waiting w) (ripe_second place is p runs)
-        ∙ ap (λ (b : Bool). unless_waiting b (Some (statements.MergeBegin (table_at p place) (kind_of_merge (store.store.counts.merges + 1))))) waited
-
   module _ (place : ℕ) (name : List ℕ) (named : (p : Plain) → StandsFor store.store p → name_at (current p.journal).tables place ≡ Some name) where
     table_is : (p : Plain) → Runs store disk p → table_at p place ≡ name
     table_is p runs = ap (λ (o : Option (List ℕ)). unwrap_or o []) (named p runs.stands)
@@ -177,6 +119,11 @@ module _ (l1 : ℕ) (store : Logged) (disk : View) where
     pub begin_is_due : (n : ℕ) (w : Bool) → w ≡ false → ((p : Plain) → Runs store disk p → merge_due l1 p ≡ Some (statements.MergeBegin (table_at p place) (kind_of_merge n))) → IsMergeDue l1 w store disk (Some (statements.MergeBegin name (kind_of_merge n)))
     begin_is_due n w now due p runs =
         ap (unless_waiting w) (begin_due n due p runs) ∙ ap (λ (b : Bool). unless_waiting b (Some (statements.MergeBegin name (kind_of_merge n)))) now
+
+    -- a begin that was due found no room
+    pub begin_lost : (n : ℕ) (w down : Bool) (before after : List Turn) → w ≡ false → ((p : Plain) → Runs store disk p → merge_due l1 p ≡ Some (statements.MergeBegin (table_at p place) (kind_of_merge n)))
+        → AsksDue (IsMergeDue l1 w store disk) (BringsJob None) true down before after kepts.Over
+    begin_lost n w down before after now due = (statements.MergeBegin name (kind_of_merge n), begin_is_due n w now due, inl refl, λ goes. absurd (goes refl))
 
   pub may_merge : (last : Begun) (st : Statement) → ((p : Plain) → Runs store disk p → merge_due l1 p ≡ Some st) → (p : Plain) → Runs store disk p → StoreAsks l1 last p st
   may_merge last st due p runs = Merges (due p runs)

@@ -4,5 +4,6 @@ pub mod WeaveLemmas
 pub mod AskingLemmas
 pub mod RipeLemmas
 pub mod KeeperLemmas
+pub mod DatingLemmas
 pub mod StandLemmas
 pub mod EndLemmas

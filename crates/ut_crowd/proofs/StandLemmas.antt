@@ -33,6 +33,8 @@ use Rattle.ut_crowd.specs.Queues.{Takes, TakesNone, left_of}
 use Rattle.ut_crowd.specs.Sorting.{Sorted}
 use Rattle.ut_crowd.specs.Asking.{StoreAsks, IsAsked, Asks, begun_by, begun_first, begun_in}
 use Rattle.ut_crowd.specs.Standing.{IsHeld, StandsOn, Starts}
+use Rattle.ut_crowd.specs.Dating.{WasLeft, AreTimely}
+use Rattle.ut_crowd.proofs.DatingLemmas.{SeenStays, left_now, strangers_timely, timely_turn}
 use Rattle.ut_crowd.proofs.AskingLemmas.{running_at, asks_more, begun_more, asks_none, begun_none}
 use Rattle.ut_crowd.proofs.SortLemmas.{by_nobodys, refused_tell, refused_kept}
 use Rattle.ut_crowd.proofs.TextLaws.{store_line_read}
@@ -60,8 +62,7 @@ module _ (p : Plain) (disk : View) (book : List Turn) (was : View) (old : Logged
   course_turn : OnlyNow now → CountsNow now → now.told ≡ was.told → disk.faults ≤ was.faults → turn_now session asked t old new now → old.down ≡ false → Comes old was (said asked) (Some session) t.reply new now
       → Course p disk (lines_in book) (answers_in book) (acks_in book) was old → Course p disk (lines_in (book ++ t ∷ [])) (answers_in (book ++ t ∷ [])) (acks_in (book ++ t ∷ [])) now new
   course_turn only counts same le turn up comes course =
-      let n = length_after t.reply old.store.counts.entries new.store.counts.entries in
-      course_by
+      let n = length_after t.reply old.store.counts.entries new.store.counts.entries in course_by
       (lines_in book ++ said asked ∷ [])
       (answers_in book ++ record { session = Some session; reply = t.reply } ∷ [])
       (acks_in book ++ record { journal = n; moment = now.moment } ∷ [])
@@ -121,11 +122,20 @@ module _ (g : Ground) (queues : List (List (List ℕ))) (book : List Turn) (name
       ∙ ap (λ (x : Asked). begun_by (begun_in (begun_first p) book) x t.reply t.journal) (sym is)
       ∙ sym (begun_more (begun_first p) book t)
 
+-- no turn has a later moment than its own, one turn more
+timely_on : (g : Ground) (queues : List (List (List ℕ))) (book : List Turn) (name : GName) (was now : View) (old new : Logged) (job : Option JobValue) (l1 : ℕ) (last : Begun) (session : ℕ) (asked : Asked) (line : Parsed) (t : Turn) → turn_now session asked t old new now → CountsNow now → SeenStays now → old.down ≡ false
+    → Comes old was line (Some session) t.reply new now → StandsOn g queues book name was old job l1 last → IsTold g.disk → AreTimely now (book ++ t ∷ [])
+timely_on g queues book name was now old new job l1 last session asked line t turn counts stays up comes s told =
+    let p = s.some in
+    let q = running p.0 g.disk (lines_in book) (answers_in book) (acks_in book) was old up (s.course p.0 p.1) in
+    let here : IsTold was = s.told ∙ told in
+    timely_turn q.0 line session was now old new t turn.3 turn.2 counts stays here (comes.told ∙ here) book (comes.each q.0 q.1) (s.timely told)
+
 -- a line more was answered
 stands_more : (g : Ground) (queues left : List (List (List ℕ))) (book : List Turn) (name name' : GName) (was now : View) (old new : Logged) (job : Option JobValue) (l1 : ℕ) (last : Begun) (session : ℕ) (line : List ℕ) (t : Turn) → turn_now session (Line line) t old new now
-    → Takes queues session line left → Comes old was (parsed true line) (Some session) t.reply new now → name' ≡ name → old.down ≡ false → OnlyNow now → CountsNow now
+    → Takes queues session line left → Comes old was (parsed true line) (Some session) t.reply new now → name' ≡ name → old.down ≡ false → OnlyNow now → CountsNow now → SeenStays now
     → StandsOn g queues book name was old job l1 last → StandsOn g left (book ++ t ∷ []) name' now new job l1 last
-stands_more g queues left book name name' was now old new job l1 last session line t turn takes comes same up only counts s = record {
+stands_more g queues left book name name' was now old new job l1 last session line t turn takes comes same up only counts stays s = record {
   weaves = weaves_more g.lines queues left book session line t turn.0 turn.1 takes s.weaves;
   some = s.some;
   course = λ p from. course_turn p g.disk book was old t session (Line line) now new only counts comes.told s.faults turn up comes (s.course p from);
@@ -133,6 +143,7 @@ stands_more g queues left book name name' was now old new job l1 last session li
   last_is = last_on g queues book name was old job l1 last t (Line line) turn.1 s last refl;
   l1_is = s.l1_is;
   range = s.range;
+  timely = timely_on g queues book name was now old new job l1 last session (Line line) (parsed true line) t turn counts stays up comes s;
   told = comes.told ∙ s.told;
   faults = omega (arith, s.faults, comes.later);
   loan = s.loan ∙ ap Some (sym same);
@@ -146,9 +157,9 @@ read_as old was st t new now of spelled comes = subst (λ (line : Parsed). Comes
 -- a statement of the store was answered; which job the hall has then
 stands_asked : (g : Ground) (queues : List (List (List ℕ))) (book : List Turn) (name name' : GName) (was now : View) (old new : Logged) (job job' : Option JobValue) (l1 : ℕ) (last last' : Begun) (st : Statement) (t : Turn) → IsTrue (is_of_store st) → IsTrue (is_spelled st)
     → ((q : Plain) → Runs old was q → StoreAsks l1 last q st) → last' ≡ begun_by last (Store st) t.reply t.journal → IsHeld job' new
-    → turn_now 0 (Store st) t old new now → Comes old was (Good 0 st) (Some 0) t.reply new now → name' ≡ name → old.down ≡ false → OnlyNow now → CountsNow now
+    → turn_now 0 (Store st) t old new now → Comes old was (Good 0 st) (Some 0) t.reply new now → name' ≡ name → old.down ≡ false → OnlyNow now → CountsNow now → SeenStays now
     → StandsOn g queues book name was old job l1 last → StandsOn g queues (book ++ t ∷ []) name' now new job' l1 last'
-stands_asked g queues book name name' was now old new job job' l1 last last' st t of spelled may last_is held turn comes same up only counts s = record {
+stands_asked g queues book name name' was now old new job job' l1 last last' st t of spelled may last_is held turn comes same up only counts stays s = record {
   weaves = weaves_stored g.lines queues book st t of turn.0 turn.1 s.weaves;
   some = s.some;
   course = λ p from. course_turn p g.disk book was old t 0 (Store st) now new only counts comes.told s.faults turn up (read_as old was st t new now of spelled comes) (s.course p from);
@@ -156,6 +167,7 @@ stands_asked g queues book name name' was now old new job job' l1 last last' st 
   last_is = last_on g queues book name was old job l1 last t (Store st) turn.1 s last' last_is;
   l1_is = s.l1_is;
   range = s.range;
+  timely = timely_on g queues book name was now old new job l1 last 0 (Store st) (Good 0 st) t turn counts stays up comes s;
   told = comes.told ∙ s.told;
   faults = omega (arith, s.faults, comes.later);
   loan = s.loan ∙ ap Some (sym same);
@@ -165,33 +177,31 @@ stands_asked g queues book name name' was now old new job job' l1 last last' st 
 -- ---- the same, by the turn that the code makes
 
 pub stands_line : (g : Ground) (queues left : List (List (List ℕ))) (book : List Turn) (name name' : GName) (was now : View) (old new : Logged) (job : Option JobValue) (l1 : ℕ) (last : Begun) (session before : ℕ) (line : List ℕ) (reply : Reply) (t : Turn) → t ≡ turn_with session (Line line) before reply new now → before ≡ old.store.counts.entries
-    → Takes queues session line left → Comes old was (parsed true line) (Some session) reply new now → name' ≡ name → old.down ≡ false → OnlyNow now → CountsNow now
+    → Takes queues session line left → Comes old was (parsed true line) (Some session) reply new now → name' ≡ name → old.down ≡ false → OnlyNow now → CountsNow now → SeenStays now
     → StandsOn g queues book name was old job l1 last → StandsOn g left (book ++ t ∷ []) name' now new job l1 last
-stands_line g queues left book name name' was now old new job l1 last session before line reply t e f takes comes same up only counts s =
-    stands_more g queues left book name name' was now old new job l1 last session line t (turn_is session (Line line) before reply t old new now e f) takes
-    (subst (λ (r : Reply). Comes old was (parsed true line) (Some session) r new now) (sym (reply_is session (Line line) before reply t new now e)) comes) same up only counts s
+stands_line g queues left book name name' was now old new job l1 last session before line reply t e f takes comes same up only counts stays s = stands_more g queues left book name name' was now old new job l1 last session line t (turn_is session (Line line) before reply t old new now e f) takes
+    (subst (λ (r : Reply). Comes old was (parsed true line) (Some session) r new now) (sym (reply_is session (Line line) before reply t new now e)) comes) same up only counts stays s
 
 -- one that neither begins a merge nor ends it
 pub stands_said : (g : Ground) (queues : List (List (List ℕ))) (book : List Turn) (name name' : GName) (was now : View) (old new : Logged) (job : Option JobValue) (l1 : ℕ) (last last' : Begun) (before : ℕ) (st : Statement) (reply : Reply) (t : Turn) → t ≡ turn_with 0 (Store st) before reply new now → before ≡ old.store.counts.entries
     → IsTrue (is_of_store st) → IsTrue (is_spelled st) → is_of_merge st ≡ false → ((q : Plain) → Runs old was q → StoreAsks l1 last q st) → last' ≡ begun_by last t.asked t.reply t.journal
-    → Comes old was (Good 0 st) (Some 0) reply new now → name' ≡ name → old.down ≡ false → OnlyNow now → CountsNow now
+    → Comes old was (Good 0 st) (Some 0) reply new now → name' ≡ name → old.down ≡ false → OnlyNow now → CountsNow now → SeenStays now
     → StandsOn g queues book name was old job l1 last → StandsOn g queues (book ++ t ∷ []) name' now new job l1 last'
-stands_said g queues book name name' was now old new job l1 last last' before st reply t e f of spelled none may last_is comes same up only counts s =
+stands_said g queues book name name' was now old new job l1 last last' before st reply t e f of spelled none may last_is comes same up only counts stays s =
     let turn = turn_is 0 (Store st) before reply t old new now e f in
-    let says : Comes old was (Good 0 st) (Some 0) t.reply new now = subst (λ (r : Reply). Comes old was (Good 0 st) (Some 0) r new now) (sym (reply_is 0 (Store st) before reply t new now e)) comes in
-    stands_asked g queues book name name' was now old new job job l1 last last' st t of spelled may
+    let says : Comes old was (Good 0 st) (Some 0) t.reply new now = subst (λ (r : Reply). Comes old was (Good 0 st) (Some 0) r new now) (sym (reply_is 0 (Store st) before reply t new now e)) comes in stands_asked g queues book name name' was now old new job job l1 last last' st t of spelled may
     (last_is ∙ ap (λ (x : Asked). begun_by last x t.reply t.journal) turn.1)
     (held_more g queues book name was now old new job l1 last (Good 0 st) (Some 0) t none up says s)
-    turn says same up only counts s
+    turn says same up only counts stays s
 
 -- one that does; the last savepoint that began stays, and behind it the hall has no job
 pub stands_jobless : (g : Ground) (queues : List (List (List ℕ))) (book : List Turn) (name name' : GName) (was now : View) (old new : Logged) (job : Option JobValue) (l1 : ℕ) (last : Begun) (before : ℕ) (st : Statement) (reply : Reply) (t : Turn) → t ≡ turn_with 0 (Store st) before reply new now → before ≡ old.store.counts.entries
     → IsTrue (is_of_store st) → IsTrue (is_spelled st) → ((q : Plain) → Runs old was q → StoreAsks l1 last q st) → last ≡ begun_by last (Store st) t.reply t.journal
-    → Comes old was (Good 0 st) (Some 0) reply new now → name' ≡ name → old.down ≡ false → OnlyNow now → CountsNow now
+    → Comes old was (Good 0 st) (Some 0) reply new now → name' ≡ name → old.down ≡ false → OnlyNow now → CountsNow now → SeenStays now
     → StandsOn g queues book name was old job l1 last → StandsOn g queues (book ++ t ∷ []) name' now new None l1 last
-stands_jobless g queues book name name' was now old new job l1 last before st reply t e f of spelled may last_is comes same up only counts s =
+stands_jobless g queues book name name' was now old new job l1 last before st reply t e f of spelled may last_is comes same up only counts stays s =
     stands_asked g queues book name name' was now old new job None l1 last last st t of spelled may last_is tt (turn_is 0 (Store st) before reply t old new now e f)
-    (subst (λ (r : Reply). Comes old was (Good 0 st) (Some 0) r new now) (sym (reply_is 0 (Store st) before reply t new now e)) comes) same up only counts s
+    (subst (λ (r : Reply). Comes old was (Good 0 st) (Some 0) r new now) (sym (reply_is 0 (Store st) before reply t new now e)) comes) same up only counts stays s
 
 -- there was no line to take
 pub stands_same : (g : Ground) (queues left : List (List (List ℕ))) (book : List Turn) (name : GName) (now : View) (store : Logged) (job : Option JobValue) (l1 : ℕ) (last : Begun) (session : ℕ) → TakesNone queues session left → StandsOn g queues book name now store job l1 last → StandsOn g left book name now store job l1 last
@@ -203,6 +213,7 @@ stands_same g queues left book name now store job l1 last session none s = recor
   last_is = s.last_is;
   l1_is = s.l1_is;
   range = s.range;
+  timely = s.timely;
   told = s.told;
   faults = s.faults;
   loan = s.loan;
@@ -214,9 +225,9 @@ stands_same g queues left book name now store job l1 last session none s = recor
 abbrev pub begun_at : ℕ → Begun
 begun_at n = record { entries = n; pages = 0 }
 
-pub starts_stand : (g : Ground) (lines : List (List ℕ)) (queues : List (List (List ℕ))) (book : List Turn) (n m : ℕ) (name : GName) (now : View) (store : Logged) (l1 : ℕ) → n ≡ store.store.counts.entries → m ≡ now.moment → OnlyNow now → Sorted lines queues book n m
+pub starts_stand : (g : Ground) (lines : List (List ℕ)) (queues : List (List (List ℕ))) (book : List Turn) (n m : ℕ) (name : GName) (now : View) (store : Logged) (l1 : ℕ) → n ≡ store.store.counts.entries → m ≡ now.moment → OnlyNow now → CountsNow now → SeenStays now → Sorted lines queues book n m
     → Starts g lines name now store l1 → StandsOn g queues book name now store None l1 (begun_at n)
-starts_stand g lines queues book n m name now store l1 e f only sorted s = record {
+starts_stand g lines queues book n m name now store l1 e f only counts stays sorted s = record {
   weaves = record {
     each = λ k. ap (λ l. l ++ left_of queues k) (by_nobodys k book n m sorted.turns) ∙ sorted.each k ∙ ap (lines_of_session k) (sym s.lines_are);
     first = book;
@@ -233,6 +244,11 @@ starts_stand g lines queues book n m name now store l1 e f only sorted s = recor
   last_is = λ p from. ap begun_at (e ∙ (s.runs p from).stands.counts.entries) ∙ sym (begun_none (begun_first p) book n m sorted.turns);
   l1_is = s.l1_is;
   range = s.range;
+  timely = λ told.
+      let p = s.some in
+      let runs = s.runs p.0 p.1 in
+      let left = left_now store now p.0 counts stays runs (s.told ∙ told) in
+      strangers_timely now book n m f (subst (λ (k : ℕ). WasLeft now k m) (sym (e ∙ runs.stands.counts.entries)) (subst (λ (k : ℕ). WasLeft now (journal_len p.0.journal) k) (sym f) left)) sorted.turns;
   told = s.told;
   faults = let k = s.faults in omega (arith, k);
   loan = s.loan;
@@ -253,5 +269,6 @@ starts_stand g lines queues book n m name now store l1 e f only sorted s = recor
             later = let k = s.moment in omega (arith, k);
             each = λ c left. whole c (subst (λ (t : ℕ). now.crash_states_since t c) (sym s.moment) left);
             before = λ t c le left. inl (s.since t c left);
+            keeps = λ t c le left. s.keeps t c left;
           };
         })

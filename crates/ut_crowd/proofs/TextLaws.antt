@@ -46,8 +46,7 @@ piece_more b bytes h =
 pieces_front : (word rest : List ℕ) → list_all is_plain word ≡ true → pieces_of false (word ++ 32 ∷ rest) ≡ word ∷ pieces_of false rest
 pieces_front [] rest h = refl
 pieces_front (b ∷ word) rest h =
-    let k = both (is_plain b) (list_all is_plain word) h in
-    piece_more b (word ++ 32 ∷ rest) k.0 ∙ ap (onto_piece b) (pieces_front word rest k.1)
+    let k = both (is_plain b) (list_all is_plain word) h in piece_more b (word ++ 32 ∷ rest) k.0 ∙ ap (onto_piece b) (pieces_front word rest k.1)
 
 pieces_last : (word : List ℕ) → list_all is_plain word ≡ true → pieces_of false word ≡ word ∷ []
 pieces_last [] h = refl

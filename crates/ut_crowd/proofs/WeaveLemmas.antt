@@ -46,21 +46,28 @@ each_by s session false lines queues now line is takes =
     differ : (s session : ℕ) → s ≡ session → nat_eq session s ≡ false → ⊥
     differ s session e is = absurd (grind (arith, common_steps, e, is))
 
--- a line was answered
-pub weaves_more : (lines : List (List ℕ)) (queues now : List (List (List ℕ))) (book : List Turn) (session : ℕ) (line : List ℕ) (t : Turn) → t.session ≡ Some session → t.asked ≡ Line line → Takes queues session line now → Weaves lines queues book → Weaves lines now (book ++ t ∷ [])
-weaves_more lines queues now book session line t who asked takes w = record {
-  each = λ s.
-      ap (λ l. l ++ left_of now s) (by_more s book t ∙ ap (λ l. lines_by s book ++ l) (ap (λ (o : Option ℕ). line_by s o t.asked) who ∙ ap (λ (a : Asked). line_by s (Some session) a) asked))
-      ∙ each_by s session (nat_eq session s) (lines_by s book) queues now line refl takes
-      ∙ w.each s;
+-- a turn of some session was answered, and the lines of each are still as they were
+weaves_turn : (lines : List (List ℕ)) (queues now : List (List (List ℕ))) (book : List Turn) (t : Turn) (session : ℕ) → t.session ≡ Some session → IsStores t.session t.asked
+    → ((s : ℕ) → lines_by s (book ++ t ∷ []) ++ left_of now s ≡ lines_by s book ++ left_of queues s) → Weaves lines queues book → Weaves lines now (book ++ t ∷ [])
+weaves_turn lines queues now book t session who stores each w = record {
+  each = λ s. each s ∙ w.each s;
   first = w.first;
   rest = w.rest ++ t ∷ [];
   parts = ap (λ l. l ++ t ∷ []) w.parts ∙ append_assoc w.first w.rest (t ∷ []);
   nobodys = w.nobodys;
   all = w.all;
   somebodys = All-push IsSomebodys w.rest t w.somebodys (session, who);
-  stores = All-push (λ (u : Turn). IsStores u.session u.asked) book t w.stores (subst (λ (a : Asked). IsStores t.session a) (sym asked) tt);
+  stores = All-push (λ (u : Turn). IsStores u.session u.asked) book t w.stores stores;
 }
+
+-- a line was answered
+pub weaves_more : (lines : List (List ℕ)) (queues now : List (List (List ℕ))) (book : List Turn) (session : ℕ) (line : List ℕ) (t : Turn) → t.session ≡ Some session → t.asked ≡ Line line → Takes queues session line now → Weaves lines queues book → Weaves lines now (book ++ t ∷ [])
+weaves_more lines queues now book session line t who asked takes w =
+    weaves_turn lines queues now book t session who (subst (λ (a : Asked). IsStores t.session a) (sym asked) tt)
+    (λ s.
+    ap (λ l. l ++ left_of now s) (by_more s book t ∙ ap (λ l. lines_by s book ++ l) (ap (λ (o : Option ℕ). line_by s o t.asked) who ∙ ap (λ (a : Asked). line_by s (Some session) a) asked))
+    ∙ each_by s session (nat_eq session s) (lines_by s book) queues now line refl takes)
+    w
 
 -- there was no line to take
 pub weaves_same : (lines : List (List ℕ)) (queues now : List (List (List ℕ))) (book : List Turn) (session : ℕ) → TakesNone queues session now → Weaves lines queues book → Weaves lines now book
@@ -77,18 +84,9 @@ weaves_same lines queues now book session none w = record {
 
 -- a statement of the store was answered
 pub weaves_stored : (lines : List (List ℕ)) (queues : List (List (List ℕ))) (book : List Turn) (st : Statement) (t : Turn) → IsTrue (is_of_store st) → t.session ≡ Some 0 → t.asked ≡ Store st → Weaves lines queues book → Weaves lines queues (book ++ t ∷ [])
-weaves_stored lines queues book st t of who asked w = record {
-  each = λ s.
-      ap (λ l. l ++ left_of queues s) (by_more s book t ∙ ap (λ l. lines_by s book ++ l) (ap (λ (a : Asked). line_by s t.session a) asked) ∙ append-nil (lines_by s book))
-      ∙ w.each s;
-  first = w.first;
-  rest = w.rest ++ t ∷ [];
-  parts = ap (λ l. l ++ t ∷ []) w.parts ∙ append_assoc w.first w.rest (t ∷ []);
-  nobodys = w.nobodys;
-  all = w.all;
-  somebodys = All-push IsSomebodys w.rest t w.somebodys (0, who);
-  stores = All-push (λ (u : Turn). IsStores u.session u.asked) book t w.stores (subst (λ (a : Asked). IsStores t.session a) (sym asked) (who, of));
-}
+weaves_stored lines queues book st t of who asked w = weaves_turn lines queues queues book t 0 who (subst (λ (a : Asked). IsStores t.session a) (sym asked) (who, of))
+    (λ s. ap (λ l. l ++ left_of queues s) (by_more s book t ∙ ap (λ l. lines_by s book ++ l) (ap (λ (a : Asked). line_by s t.session a) asked) ∙ append-nil (lines_by s book)))
+    w
 
 -- no line is left
 pub all_answered : (lines : List (List ℕ)) (queues : List (List (List ℕ))) (book : List Turn) → Weaves lines queues book → HasNone queues → HasAnswered lines book

@@ -1,6 +1,7 @@
 pub mod Book
 pub mod Queues
 pub mod Ground
+pub mod Dating
 pub mod Standing
 pub mod Sorting
 pub mod Saving

@@ -1,7 +1,7 @@
 -- What is true of a hall on its ground.
 use base.Fml.{GName}
 use Rattle.std.specs.Prelude.{ℕ, ◌≡◌, ◌≤◌, List, Option, None, Some}
-use Rattle.ut_outside.specs.Disk.{View, Image}
+use Rattle.ut_outside.specs.Disk.{View, Image, IsTold}
 use Rattle.ut_plain.specs.Plain.{Plain}
 use Rattle.ut_merge.specs.Jobs.{JobValue}
 use Rattle.ut_store.specs.Jobs.{pending_job}
@@ -13,6 +13,7 @@ use Rattle.ut_crowd.specs.declared.book.Turn.{Turn}
 use Rattle.ut_crowd.specs.Ground.{Ground}
 use Rattle.ut_crowd.specs.Book.{lines_in, answers_in, acks_in}
 use Rattle.ut_crowd.specs.Asking.{AsksFrom, begun_first, begun_in}
+use Rattle.ut_crowd.specs.Dating.{AreTimely}
 use Rattle.ut_crowd.specs.Queues.{Weaves}
 
 -- a job that a hall has is that of the pending merge, of a store whose disk failed too
@@ -35,6 +36,8 @@ pub record StandsOn
   pub range : (1 ≤ l1) × (l1 ≤ 1048576)
   pub told : now.told ≡ g.disk.told
   pub faults : g.disk.faults ≤ now.faults
+  -- no turn has a later moment than its own
+  pub timely : IsTold g.disk → AreTimely now book
   pub loan : g.loan ≡ Some name
   pub held : IsHeld job store
 
@@ -48,6 +51,7 @@ pub record Starts (g : Ground) (lines : List (List ℕ)) (name : GName) (now : V
   pub moment : now.moment ≡ g.disk.moment
   pub faults : now.faults ≡ g.disk.faults
   pub since : (t : ℕ) (c : Image) → now.crash_states_since t c → g.disk.crash_states_since t c
+  pub keeps : (t : ℕ) (c : Image) → g.disk.crash_states_since t c → now.crash_states_since t c
   pub some : (p : Plain) × g.from p
   pub runs : (p : Plain) → g.from p → Runs store now p
   pub loan : g.loan ≡ Some name

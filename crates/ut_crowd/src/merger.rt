@@ -64,6 +64,8 @@ impl<'a, 'd, D: Disk + Send, O: Opening + Send, B: Build, H: Hook> Builds<Hall<'
 
     ghost ready = { λ m. B.ready m.builder.now };
 
+    ghost unbuilt = { λ _ _. Unit {0} };
+
     fn build(&self, job: &Job) -> Option<EndJob> {
         self.hook.reach(Point::JobTaken);
         match self.builder.build(self.alloc, job) {

@@ -1,7 +1,8 @@
 //! A saver's turns: the pieces of a savepoint, one after the other.
-ghost use Rattle.std.specs.Prelude.{◌≡◌, false, IsTrue, IfSome};
+ghost use Rattle.std.specs.Prelude.{◌≡◌, false, is_some, IsTrue, IfSome};
 ghost use Rattle.ut_plain.specs.Spelled.{is_spelled};
 ghost use Rattle.ut_store.specs.Standing.{is_of_store};
+ghost use Rattle.ut_engine.specs.Savepoints.{progress_of};
 ghost use Rattle.ut_gate.specs.Turns.{AddsOne};
 ghost use Rattle.ut_course.specs.Coming.{is_of_merge};
 ghost use Rattle.ut_crowd.specs.Asking.{waits};
@@ -65,13 +66,8 @@ impl<'d, D: Disk, O: Opening> Hall<'d, D, O> {
             return Kept::Over;
         }
         let waited = self.save_waits;
-        let piece = due_piece(
-            self.engine.phase(),
-            self.engine.journal_len(),
-            self.last.entries,
-            self.last.pages,
-        );
-        self.save_waits = waits(self.engine.pending().is_some(), &piece);
+        let piece = self.next_piece();
+        self.save_waits = self.has_to_wait(&piece);
         if self.save_waits {
             return Kept::Idle;
         }
@@ -79,6 +75,29 @@ impl<'d, D: Disk, O: Opening> Hall<'d, D, O> {
             Some(piece) => woken(waited, self.ask(piece)),
             None => Kept::Idle,
         }
+    }
+
+    // The piece of a savepoint that comes next, where one does.
+    fn next_piece(&self) -> Option<Statement>
+        requires up { self.now.engine.store.down ≡ false }
+        ensures next { result ≡ due_piece (progress_of self.now.engine.store.saving) self.now.engine.store.store.counts.entries self.now.last.entries self.now.last.pages }
+        ensures stores { IfSome result (λ st. IsTrue (is_of_store st)) }
+        ensures spelled { IfSome result (λ st. IsTrue (is_spelled st)) }
+        ensures no_merge { IfSome result (λ st. is_of_merge st ≡ false) }
+    {
+        due_piece(
+            self.engine.phase(),
+            self.engine.journal_len(),
+            self.last.entries,
+            self.last.pages,
+        )
+    }
+
+    // Whether the piece that comes next waits for the end of a merge.
+    fn has_to_wait(&self, piece: &Option<Statement>) -> bool
+        ensures { result ≡ waits (is_some self.now.engine.store.store.counts.pending) piece.now }
+    {
+        waits(self.engine.pending().is_some(), piece)
     }
 
     /// Whether a saver that sleeps would do something at its turn: none does so while a savepoint is written.

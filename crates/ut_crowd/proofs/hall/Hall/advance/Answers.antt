@@ -30,4 +30,4 @@ returns-clause-stands g c =
     let comes : Comes old was (parsed true line) (Some c.args.session) reply new now = subst (λ (l : List ℕ). Comes old was (parsed true l) (Some c.args.session) reply new now) c.as_slice.ensures c.answer_line-reply.ensures.comes in
     subst (λ (book : List Turn). StandsOn g.O.Opening.ground c.take_line.new.queues.items book c.answer_line-reply.new.engine.loan now new c.args.self.now.job c.args.self.now.l1 c.args.self.now.last) (sym (c.push_reserved.ensures.items ∙ ap (λ (b : List Turn). b ++ t ∷ []) c.reserve.ensures.items))
     (stands_line g.O.Opening.ground c.args.self.now.queues.items c.take_line.new.queues.items c.args.self.now.book.items c.args.self.now.engine.loan c.answer_line-reply.new.engine.loan was now old new c.args.self.now.job c.args.self.now.l1 c.args.self.now.last c.args.session c.journal_len-before.result line reply t
-    c.turn_of-turn.ensures c.journal_len-before.ensures c.in-Some.ensures comes c.answer_line-reply.ensures.loan (sym c.down.ensures ∙ c.if-down.false) (g.met.D.Disk.only_now c.answer_line-reply.new.engine.disk) (g.met.D.Disk.counts_now c.answer_line-reply.new.engine.disk) c.requires.stands)
+    c.turn_of-turn.ensures c.journal_len-before.ensures c.in-Some.ensures comes c.answer_line-reply.ensures.loan (sym c.down.ensures ∙ c.if-down.false) (g.met.D.Disk.only_now c.answer_line-reply.new.engine.disk) (g.met.D.Disk.counts_now c.answer_line-reply.new.engine.disk) (g.met.D.Disk.seen_stays c.answer_line-reply.new.engine.disk) c.requires.stands)

@@ -16,7 +16,7 @@ returns-clause-stands g c =
     let t : Turn = c.turn_of-turn.result in
     subst (λ (book : List Turn). StandsOn g.O.Opening.ground c.args.self.now.queues.items book c.answer_statement-reply.new.engine.loan now new c.args.self.now.job c.args.self.now.l1 c.begun_by-self.result) (sym (c.push_reserved.ensures.items ∙ ap (λ (b : List Turn). b ++ t ∷ []) c.reserve.ensures.items))
     (stands_said g.O.Opening.ground c.args.self.now.queues.items c.args.self.now.book.items c.args.self.now.engine.loan c.answer_statement-reply.new.engine.loan was now old new c.args.self.now.job c.args.self.now.l1 c.args.self.now.last c.begun_by-self.result c.journal_len-before.result c.args.st c.answer_statement-reply.result t
-    c.turn_of-turn.ensures c.journal_len-before.ensures c.requires.stores c.requires.spelled c.requires.no_merge c.requires.may c.begun_by-self.ensures c.answer_statement-reply.ensures.comes c.answer_statement-reply.ensures.loan c.requires.up (g.met.D.Disk.only_now c.answer_statement-reply.new.engine.disk) (g.met.D.Disk.counts_now c.answer_statement-reply.new.engine.disk) c.requires.stands)
+    c.turn_of-turn.ensures c.journal_len-before.ensures c.requires.stores c.requires.spelled c.requires.no_merge c.requires.may c.begun_by-self.ensures c.answer_statement-reply.ensures.comes c.answer_statement-reply.ensures.loan c.requires.up (g.met.D.Disk.only_now c.answer_statement-reply.new.engine.disk) (g.met.D.Disk.counts_now c.answer_statement-reply.new.engine.disk) (g.met.D.Disk.seen_stays c.answer_statement-reply.new.engine.disk) c.requires.stands)
 
 pub returns-clause-kept : goal.returns-clause-kept
 returns-clause-kept g c =

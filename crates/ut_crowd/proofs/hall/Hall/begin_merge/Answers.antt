@@ -1,4 +1,4 @@
-use Rattle.std.proofs.Common.{inl, ◌≡◌, ◌+◌, Bool, List, ℕ, [], ◌∷◌, ◌++◌, None, Some, Option, refl, sym, subst, ap, ◌∙◌}
+use Rattle.std.proofs.Common.{◌≡◌, ◌+◌, Bool, List, ℕ, [], ◌∷◌, ◌++◌, None, Some, Option, refl, sym, subst, ap, ◌∙◌}
 use Rattle.std.specs.Prelude.{IsTrue}
 use Rattle.ut_value.specs.Text.{is_name}
 use Rattle.ut_value.specs.declared.entry.MergeKind.{MergeKind}
@@ -12,7 +12,7 @@ use Rattle.ut_crew.specs.declared.role.Kept.{Kept}
 use Rattle.ut_crowd.specs.Asking.{Merges, kind_of_merge, merge_due}
 use Rattle.ut_crowd.specs.Keepers.{AsksOnce, IsMergeDue, kept_after}
 use Rattle.ut_crowd.specs.Standing.{StandsOn}
-use Rattle.ut_crowd.proofs.KeeperLemmas.{asks_once, begin_due, begin_is_due, shared_once}
+use Rattle.ut_crowd.proofs.KeeperLemmas.{asks_once, begin_due, begin_is_due, begin_lost, shared_once}
 use Rattle.ut_crowd.proofs.StandLemmas.{stands_jobless}
 use Rattle.ut_crowd.proofs.hall.Hall.begin_merge.Goals as goal
 
@@ -37,31 +37,17 @@ share-requires-clause-stands g c =
     subst (λ (job : Option JobValue). StandsOn g.O.Opening.ground c.args.self.now.queues.items c.push_reserved.new.self.items c.begin-reply.new.engine.loan now new job l1 last) (sym c.requires.none)
     (subst (λ (book : List Turn). StandsOn g.O.Opening.ground c.args.self.now.queues.items book c.begin-reply.new.engine.loan now new None l1 last) (sym (c.push_reserved.ensures.items ∙ ap (λ (b : List Turn). b ++ t ∷ []) c.reserve.ensures.items))
     (stands_jobless g.O.Opening.ground c.args.self.now.queues.items c.args.self.now.book.items c.args.self.now.engine.loan c.begin-reply.new.engine.loan was now old new c.args.self.now.job l1 last c.journal_len-before.result (statements.MergeBegin table kind) c.begin-reply.result.0 t
-    c.turn_of-turn.ensures c.journal_len-before.ensures refl spelled (λ p runs. Merges (due p runs)) refl c.begin-reply.ensures.comes c.begin-reply.ensures.loan c.requires.up (g.met.D.Disk.only_now c.begin-reply.new.engine.disk) (g.met.D.Disk.counts_now c.begin-reply.new.engine.disk) c.requires.stands))
+    c.turn_of-turn.ensures c.journal_len-before.ensures refl spelled (λ p runs. Merges (due p runs)) refl c.begin-reply.ensures.comes c.begin-reply.ensures.loan c.requires.up (g.met.D.Disk.only_now c.begin-reply.new.engine.disk) (g.met.D.Disk.counts_now c.begin-reply.new.engine.disk) (g.met.D.Disk.seen_stays c.begin-reply.new.engine.disk) c.requires.stands))
 
 pub returns-in_default-clause-kept : goal.returns-in_default-clause-kept
 returns-in_default-clause-kept g c =
-    let old = c.args.self.now.engine.store in
-    let was = g.D.Disk.view c.args.self.now.engine.disk in
-    let name : List ℕ = c.table_name.result.now in
-    let n = old.store.counts.merges + 1 in (
-      statements.MergeBegin name (kind_of_merge n),
-      begin_is_due c.args.self.now.l1 old was c.args.place name c.table_name.ensures.plain n c.args.self.now.save_waits c.requires.now c.requires.due,
-      inl refl,
-      λ goes. absurd (goes refl),
-    )
+    let self = c.args.self.now in
+    begin_lost self.l1 self.engine.store (g.D.Disk.view self.engine.disk) c.args.place c.table_name.result.now c.table_name.ensures.plain (self.engine.store.store.counts.merges + 1) self.save_waits self.engine.store.down self.book.items self.book.items c.requires.now c.requires.due
 
 pub returns-then-is_err-clause-kept : goal.returns-then-is_err-clause-kept
 returns-then-is_err-clause-kept g c =
-    let old = c.args.self.now.engine.store in
-    let was = g.D.Disk.view c.args.self.now.engine.disk in
-    let name : List ℕ = c.table_name.result.now in
-    let n = old.store.counts.merges + 1 in (
-      statements.MergeBegin name (kind_of_merge n),
-      begin_is_due c.args.self.now.l1 old was c.args.place name c.table_name.ensures.plain n c.args.self.now.save_waits c.requires.now c.requires.due,
-      inl refl,
-      λ goes. absurd (goes refl),
-    )
+    let self = c.args.self.now in
+    begin_lost self.l1 self.engine.store (g.D.Disk.view self.engine.disk) c.args.place c.table_name.result.now c.table_name.ensures.plain (self.engine.store.store.counts.merges + 1) self.save_waits self.engine.store.down self.book.items c.reserve.new.self.items c.requires.now c.requires.due
 
 pub returns-clause-kept : goal.returns-clause-kept
 returns-clause-kept g c =

@@ -16,4 +16,4 @@ returns-clause-stands g c =
     let t : Turn = c.turn_of-turn.result in
     subst (λ (book : List Turn). StandsOn g.O.Opening.ground c.args.self.now.queues.items book c.end_merge-reply.new.engine.loan now new None c.args.self.now.l1 c.args.self.now.last) (sym (c.push_reserved.ensures.items ∙ ap (λ (b : List Turn). b ++ t ∷ []) c.reserve.ensures.items))
     (stands_jobless g.O.Opening.ground c.args.self.now.queues.items c.args.self.now.book.items c.args.self.now.engine.loan c.end_merge-reply.new.engine.loan was now old new c.args.self.now.job c.args.self.now.l1 c.args.self.now.last c.journal_len-before.result statements.MergeEnd c.end_merge-reply.result t
-    c.turn_of-turn.ensures c.journal_len-before.ensures refl refl (may_end c.args.self.now.l1 c.args.self.now.last old was c.args.built (subst (λ (j : Option JobValue). IsHeld j old) c.requires.job c.requires.stands.held)) refl c.end_merge-reply.ensures.comes c.end_merge-reply.ensures.loan (sym c.down.ensures ∙ c.if-down.false) (g.met.D.Disk.only_now c.end_merge-reply.new.engine.disk) (g.met.D.Disk.counts_now c.end_merge-reply.new.engine.disk) c.requires.stands)
+    c.turn_of-turn.ensures c.journal_len-before.ensures refl refl (may_end c.args.self.now.l1 c.args.self.now.last old was c.args.built (subst (λ (j : Option JobValue). IsHeld j old) c.requires.job c.requires.stands.held)) refl c.end_merge-reply.ensures.comes c.end_merge-reply.ensures.loan (sym c.down.ensures ∙ c.if-down.false) (g.met.D.Disk.only_now c.end_merge-reply.new.engine.disk) (g.met.D.Disk.counts_now c.end_merge-reply.new.engine.disk) (g.met.D.Disk.seen_stays c.end_merge-reply.new.engine.disk) c.requires.stands)
