@@ -9,9 +9,11 @@ use std::thread::Threads;
 use ut_app::Status;
 use ut_outside::MemDisk;
 
-/// What may be wrong with a crowd.
+/// What may be wrong with a run or a crowd.
 #[derive(Clone, Copy, Debug, PartialEq, Eq)]
 pub enum Wrong {
+    /// The last line of a run that was answered should have another reply.
+    Reply,
     /// A turn of its book, or a turn behind the one in which the disk failed.
     Turn,
     /// The lines that have a turn.
@@ -22,7 +24,7 @@ pub enum Wrong {
     Left,
 }
 
-/// What a crowd came to.
+/// What a run or a crowd came to.
 #[derive(Clone, Copy)]
 pub struct Verdict {
     status: Status,
@@ -30,6 +32,10 @@ pub struct Verdict {
 }
 
 impl Verdict {
+    pub fn new(status: Status, wrong: Option<Wrong>) -> Verdict {
+        Verdict { status, wrong }
+    }
+
     pub fn is_right(&self) -> bool {
         self.wrong.is_none()
     }
@@ -50,10 +56,7 @@ pub fn verdict_on(rt: &(impl Threads + Wait + Sync), alloc: Global) -> Result<Ve
     let mut disk = MemDisk::of(alloc, &[], &[], &[])?;
     let came = run_crowd(rt, alloc, CROWD_NEW, OF_THREE, &mut disk)?;
     let wrong = wrong_in(rt, alloc, &came, &mut disk)?;
-    Ok(Verdict {
-        status: came.status,
-        wrong,
-    })
+    Ok(Verdict::new(came.status, wrong))
 }
 
 fn wrong_in(

@@ -89,7 +89,7 @@ fn book_by(
 }
 
 /// How many lines of a book begin so.
-fn lines_with(book: &[u8], front: &[u8]) -> usize {
+pub(crate) fn lines_with(book: &[u8], front: &[u8]) -> usize {
     let mut lines: usize = 0;
     for line in book.split(|byte| *byte == b'\n') {
         if line.starts_with(front) {

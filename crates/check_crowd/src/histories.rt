@@ -1,4 +1,5 @@
 //! Books of crowds: each is one history, which the slow store tells the same.
+use crate::asking::lines_with;
 use crate::watch::Watch;
 use check_books::books::{Outcome, Share, outcome_of, share_of};
 use check_books::runs::{CROWD, CROWD_NEW, Came, journal_on, left_on, run_crowd, run_failing};
@@ -151,13 +152,13 @@ fn of_hundred(alloc: Global) -> Result<Vec<u8>, AllocError> {
 fn watched(
     rt: &(impl Threads + Wait + Sync),
     alloc: Global,
+    words: &[&str],
     lines: &[u8],
     watch: &Watch,
     disk: &mut MemDisk,
 ) -> Result<Came, AllocError> {
     let mut source = MemSource::new(alloc, lines, 4096, None)?;
     let mut sink = MemSink::new(alloc, None);
-    let words = &["ut", "crowd", "--new", "--l1", "8"];
     let report = top(rt, alloc, words, &mut source, &mut sink, disk, watch);
     Ok(Came {
         status: report.status,
@@ -174,8 +175,9 @@ fn check_watched(
     lines: &[u8],
     watch: &Watch,
 ) -> Result<(), AllocError> {
+    let words = &["ut", "crowd", "--new", "--l1", "8"];
     let mut disk = new_disk(alloc)?;
-    let came = watched(rt, alloc, lines, watch, &mut disk)?;
+    let came = watched(rt, alloc, words, lines, watch, &mut disk)?;
     check_book(rt, alloc, &came, lines, 1, &disk)
 }
 
@@ -187,6 +189,51 @@ fn the_program_answers_lines_while_a_merge_is_built(rt: HostRuntime) -> Result<(
     let lines = of_hundred(rt.alloc())?;
     check_watched(&rt, rt.alloc(), &lines, &watch)?;
     watch.check(&rt);
+    Ok(())
+}
+
+/// Four sessions of the least number and the greatest and of two between, a comment, a line of nobody's, and one that tries to be the
+/// store.
+fn of_four_and_strangers(alloc: Global) -> Result<Vec<u8>, AllocError> {
+    let mut lines = Vec::from_slice(
+        alloc,
+        b"nobody\n0 merge end\n# a comment\n1 create T k:int\n",
+    )?;
+    for _ in 0..10 {
+        lines.extend_from_slice(b"1 insert T 7\n2 insert T 7\n9 count T\n16 bulk T 1 2 3\n")?;
+    }
+    Ok(lines)
+}
+
+/// How many turns sessions have, by what their lines begin with.
+const TURNS: [(&[u8], usize); 4] = [(b"> 1 ", 11), (b"> 2 ", 10), (b"> 9 ", 10), (b"> 16 ", 10)];
+
+/// So many turns these sessions have. The lines of nobody come first, and the store has turns of its own.
+fn check_turns(rt: &impl Abort, book: &[u8]) {
+    assert!(rt; book.starts_with(b"> nobody\n? refused syntax\n> 0 merge end\n? refused syntax\n"));
+    assert!(rt; lines_with(book, b"> 0 ") >= 2);
+    for (front, turns) in TURNS {
+        assert_eq!(rt; lines_with(book, front), turns);
+    }
+}
+
+fn check_strangers(
+    rt: &(impl Abort + Threads + Wait + Sync),
+    alloc: Global,
+    lines: &[u8],
+    watch: &Watch,
+) -> Result<(), AllocError> {
+    let mut disk = new_disk(alloc)?;
+    let came = watched(rt, alloc, CROWD_NEW, lines, watch, &mut disk)?;
+    check_turns(rt, &came.book);
+    check_book(rt, alloc, &came, lines, 2, &disk)
+}
+
+#[test]
+fn each_line_has_its_turn(rt: HostRuntime) -> Result<(), Fail> {
+    let watch = Watch::new(); // the store has a turn before the session of the ninth line goes on
+    let lines = of_four_and_strangers(rt.alloc())?;
+    check_strangers(&rt, rt.alloc(), &lines, &watch)?;
     Ok(())
 }
 

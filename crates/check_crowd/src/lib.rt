@@ -4,7 +4,7 @@
 #[cfg(test)]
 mod asking;
 #[cfg(test)]
-mod crowds;
+mod calls;
 #[cfg(test)]
 mod faults;
 #[cfg(test)]

@@ -14,4 +14,6 @@ mod pages;
 #[cfg(test)]
 mod pieces;
 #[cfg(test)]
+mod planned;
+#[cfg(test)]
 mod redo;

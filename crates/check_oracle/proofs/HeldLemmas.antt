@@ -99,8 +99,7 @@ as_far (steps.Writing d q) b at done pages captured image e = record { length = 
 as_far (steps.Sealed q) b at done pages captured image e = absurd cc
 
 copied : (p copy : Plain) (g k : Progress) (b at done pages : ℕ) (captured image : Directory) → copy ≡ p → copy.phase ≡ phase_of k b captured → p.phase ≡ phase_of g at image → g ≡ steps.Writing done pages → IsSame b at captured image
-copied p copy g k b at done pages captured image same behind is writes =
-    as_far k b at done pages captured image (sym behind ∙ ap (λ (p : Plain). p.phase) same ∙ is ∙ ap (λ g. phase_of g at image) writes)
+copied p copy g k b at done pages captured image same behind is writes = as_far k b at done pages captured image (sym behind ∙ ap (λ (p : Plain). p.phase) same ∙ is ∙ ap (λ g. phase_of g at image) writes)
 
 pub write_goes_on : (p copy : Plain) (g k : Progress) (b at done pages n next : ℕ) (captured image : Directory) → copy ≡ p → copy.phase ≡ phase_of k b captured → p.phase ≡ phase_of g at image → g ≡ steps.Writing done pages → next ≡ min pages (done + n)
     → Gives (save_written p n p.phase) (replies.Saving next pages) (record copy { phase = Writing b next pages captured })

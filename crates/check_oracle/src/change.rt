@@ -47,30 +47,26 @@ pub(crate) fn make(
     }
     match change.taken {
         Some(id) => refused(alloc, held, Refusal::Conflict(id)),
-        None => made(alloc, held, commits, session, change),
+        None => {
+            let reply = said_changed(held.own(session), commits, change.rows);
+            let held = made(alloc, held, session, change)?;
+            Ok(Outcome { reply, held })
+        }
     }
 }
 
-fn made(
-    alloc: Global,
-    held: &Held,
-    commits: u32,
-    session: u8,
-    change: Change,
-) -> Result<Outcome, AllocError>
+fn made(alloc: Global, held: &Held, session: u8, change: Change) -> Result<Held, AllocError>
     requires plain { IsPlain (plain_of held.now) }
     requires seat { session < 17 }
     requires room { IsTrue (has_ops_room (view (plain_of held.now) session) change.ops) }
-    requires counted { commits ≤ 1073741824 }
-    ensures { IfOk result (λ out. Gives (record { reply = said_changed (open_at held.now.sessions.items session) commits change.rows; plain = changed_by (plain_of held.now) session change.bulk change.ops }) out.reply (plain_of out.held)) }
+    ensures { IfOk result (λ next. plain_of next ≡ changed_by (plain_of held.now) session change.bulk change.ops) }
 {
     let stages = stages_after(alloc, held, change.bulk, change.ops.as_slice())?;
     let next_id = next_after(held, session, change.ops.as_slice());
-    let reply = said_changed(held.own(session), commits, change.rows);
     let mut next = with_made(alloc, held, session, change.ops)?;
     next.next_id = next_id;
     next.stages = stages;
-    Ok(Outcome { reply, held: next })
+    Ok(next)
 }
 
 fn stages_after(

@@ -2,10 +2,11 @@
 ghost use Rattle.std.specs.Prelude.{◌≡◌, ◌↔◌, IfOk, IsNone};
 ghost use Rattle.ut_run.specs.declared.report.Status.TheVariants.{Done};
 
-use crate::run::Ran;
 use crate::told::Script;
+use check_run::run::Ran;
 use check_told::has_told;
 use std::alloc::{AllocError, Global};
+use ut_app::Status;
 
 /// A line of a script, and the first lines of the two outputs that differ.
 #[derive(Drop)]
@@ -21,31 +22,40 @@ pub(crate) fn apart_from(
     script: &Script,
     ran: &Ran,
 ) -> Result<Option<Apart>, AllocError>
-    ensures same { IfOk result (λ apart. IsNone apart ↔ (ran.now.status ≡ Done) × (ran.now.told.items ≡ script.now.replies.items)) }
+    ensures same { IfOk result (λ apart. IsNone apart ↔ (ran.now.status ≡ Done) × (ran.now.replies.items ≡ script.now.replies.items)) }
 {
-    if has_told(ran.status, ran.told.as_slice(), script.replies.as_slice()) {
+    if has_told(
+        ran.status,
+        ran.replies.as_slice(),
+        script.replies.as_slice(),
+    ) {
         return Ok(None);
     }
     Ok(Some(place_of(alloc, script, ran)?))
 }
 
 fn place_of(alloc: Global, script: &Script, ran: &Ran) -> Result<Apart, AllocError> {
-    let place = alike(&script.replies, &ran.told);
-    let number = script
-        .ends
-        .as_slice()
-        .iter()
-        .take_while(|end| **end <= place)
-        .count();
-    let line = text(alloc, nth_line(&script.lines, number))?;
+    let place = alike(&script.replies, &ran.replies);
+    let number = lines_before(&script.ends, place);
     let wanted = text(alloc, line_at(&script.replies, place))?;
-    let told = text(alloc, line_at(&ran.told, place))?;
-    let status = ran.status;
-    Ok(Apart {
-        line: format!(in alloc; "line {number}: {line}")?,
-        wanted,
-        told: format!(in alloc; "{told} (it ended with {status:?})")?,
-    })
+    let line = numbered(alloc, number, nth_line(&script.lines, number))?;
+    let told = ended(alloc, line_at(&ran.replies, place), ran.status)?;
+    Ok(Apart { line, wanted, told })
+}
+
+// How many lines end before a place of the replies.
+fn lines_before(ends: &[usize], place: usize) -> usize {
+    ends.iter().take_while(|end| **end <= place).count()
+}
+
+fn numbered(alloc: Global, number: usize, bytes: &[u8]) -> Result<String, AllocError> {
+    let line = text(alloc, bytes)?;
+    format!(in alloc; "line {number}: {line}")
+}
+
+fn ended(alloc: Global, bytes: &[u8], status: Status) -> Result<String, AllocError> {
+    let told = text(alloc, bytes)?;
+    format!(in alloc; "{told} (it ended with {status:?})")
 }
 
 // So many bytes are the same.

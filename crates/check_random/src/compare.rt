@@ -1,9 +1,9 @@
 //! One random script on the program and on the slow store.
 use crate::apart::{Apart, apart_from};
 use crate::crash::crash_apart;
-use crate::run::{RUN, RUN_NEW, run_on};
 use crate::told::Script;
 use check_oracle::Oracle;
+use check_run::run::{RUN, RUN_NEW, run_on};
 use check_scripts::{LINES, StoreLines, script_line};
 use std::alloc::{AllocError, Global};
 use std::sync::Wait;
@@ -31,6 +31,15 @@ pub(crate) struct Halves {
     pub cut: u32,
 }
 
+impl Halves {
+    /// A line of the script.
+    pub(crate) fn line(self, alloc: Global, number: u32) -> Result<Vec<u8>, AllocError> {
+        let mut line = Vec::new(alloc);
+        script_line(self.of_store, self.seed, number, &mut line)?;
+        Ok(line)
+    }
+}
+
 // Of every second script the store is opened again in its middle, behind one of its lines. A script has merges into main of
 // all kinds, and two of four scripts have savepoints besides.
 fn halves_of(seed: u64) -> Halves {
@@ -54,18 +63,8 @@ pub(crate) fn first_apart(
     alloc: Global,
     seed: u64,
 ) -> Result<Option<Apart>, AllocError> {
-    let halves = halves_of(seed);
     let mut both = Both::new(alloc)?;
-    if let Some(apart) = both.run(rt, alloc, RUN_NEW, halves, 0, halves.cut)? {
-        return Ok(Some(apart));
-    }
-    if let Some(apart) = both.run(rt, alloc, RUN, halves, halves.cut, LINES)? {
-        return Ok(Some(apart));
-    }
-    if let Some(apart) = crash_apart(rt, alloc, halves, &both.disk, &both.acks)? {
-        return Ok(Some(apart));
-    }
-    apart_in_questions(rt, alloc, &mut both.store, &mut both.disk)
+    both.apart(rt, alloc, halves_of(seed))
 }
 
 /// A script's two sides: the slow store, and the program's disk with what was acknowledged over it.
@@ -85,6 +84,26 @@ impl Both {
         })
     }
 
+    // Where the two answer a script otherwise, what a crash leaves of it, or the questions behind it. These calls hold one value
+    // each, so that their proofs are short.
+    fn apart(
+        &mut self,
+        rt: &(impl Threads + Wait + Sync),
+        alloc: Global,
+        halves: Halves,
+    ) -> Result<Option<Apart>, AllocError> {
+        if let Some(apart) = self.run(rt, alloc, RUN_NEW, halves, 0, halves.cut)? {
+            return Ok(Some(apart));
+        }
+        if let Some(apart) = self.run(rt, alloc, RUN, halves, halves.cut, LINES)? {
+            return Ok(Some(apart));
+        }
+        if let Some(apart) = crash_apart(rt, alloc, halves, &self.disk, &self.acks)? {
+            return Ok(Some(apart));
+        }
+        apart_in_questions(rt, alloc, &mut self.store, &mut self.disk)
+    }
+
     // Where the two answer those lines of a script otherwise. The slow store is opened again behind them.
     fn run(
         &mut self,
@@ -96,10 +115,20 @@ impl Both {
         to: u32,
     ) -> Result<Option<Apart>, AllocError> {
         let script = lines_of(alloc, halves, from, to, &mut self.store)?;
+        self.compared(rt, alloc, words, &script)
+    }
+
+    fn compared(
+        &mut self,
+        rt: &(impl Threads + Wait + Sync),
+        alloc: Global,
+        words: &[&str],
+        script: &Script,
+    ) -> Result<Option<Apart>, AllocError> {
         self.store = self.store.reopened(alloc, AMPLE)?;
         let ran = run_on(rt, alloc, words, &script.lines, &mut self.disk)?;
         self.acks.extend_from_slice(ran.acks.as_slice())?;
-        apart_from(alloc, &script, &ran)
+        apart_from(alloc, script, &ran)
     }
 }
 
@@ -110,12 +139,17 @@ pub(crate) fn apart_in_questions(
     store: &mut Oracle,
     disk: &mut MemDisk,
 ) -> Result<Option<Apart>, AllocError> {
+    let questions = questions(alloc, store)?;
+    let ran = run_on(rt, alloc, RUN, &questions.lines, disk)?;
+    apart_from(alloc, &questions, &ran)
+}
+
+fn questions(alloc: Global, store: &mut Oracle) -> Result<Script, AllocError> {
     let mut questions = Script::new(alloc);
     for line in QUESTIONS {
         questions.ask(alloc, line.as_bytes(), store)?;
     }
-    let ran = run_on(rt, alloc, RUN, &questions.lines, disk)?;
-    apart_from(alloc, &questions, &ran)
+    Ok(questions)
 }
 
 fn lines_of(
@@ -127,9 +161,18 @@ fn lines_of(
 ) -> Result<Script, AllocError> {
     let mut script = Script::new(alloc);
     for number in from..to {
-        let mut line = Vec::new(alloc);
-        script_line(halves.of_store, halves.seed, number, &mut line)?;
-        script.ask(alloc, &line, store)?;
+        ask_line(alloc, halves, number, &mut script, store)?;
     }
     Ok(script)
+}
+
+fn ask_line(
+    alloc: Global,
+    halves: Halves,
+    number: u32,
+    script: &mut Script,
+    store: &mut Oracle,
+) -> Result<(), AllocError> {
+    let line = halves.line(alloc, number)?;
+    script.ask(alloc, &line, store)
 }

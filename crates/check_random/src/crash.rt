@@ -1,9 +1,9 @@
 //! A crash of a random script, and what is opened then, on the program and on the slow store.
 use crate::apart::Apart;
 use crate::compare::{AMPLE, Halves, apart_in_questions};
-use crate::run::{RUN, run_on};
 use check_oracle::Oracle;
-use check_scripts::{Answers, LINES, script_line};
+use check_run::run::{RUN, run_on};
+use check_scripts::{Answers, LINES};
 use std::alloc::{AllocError, Global};
 use std::sync::Wait;
 use std::thread::Threads;
@@ -80,16 +80,29 @@ fn apart_behind(
 // The slow store, opened again behind so many lines of a script.
 fn store_behind(alloc: Global, halves: Halves, count: u32) -> Result<Oracle, AllocError> {
     let mut store = Oracle::new(alloc, AMPLE)?;
-    let mut replies = Vec::new(alloc);
     for number in 0..count.min(LINES) {
-        if number == halves.cut {
-            store = store.reopened(alloc, AMPLE)?;
-        }
-        let mut line = Vec::new(alloc);
-        script_line(halves.of_store, halves.seed, number, &mut line)?;
-        store.answer(alloc, &line, &mut replies)?;
+        follow_line(alloc, halves, number, &mut store)?;
     }
     store.reopened(alloc, AMPLE)
+}
+
+// The slow store goes on by a line, opened again before the one behind the cut.
+fn follow_line(
+    alloc: Global,
+    halves: Halves,
+    number: u32,
+    store: &mut Oracle,
+) -> Result<(), AllocError> {
+    if number == halves.cut {
+        *store = store.reopened(alloc, AMPLE)?;
+    }
+    let line = halves.line(alloc, number)?;
+    answer_line(alloc, &line, store)
+}
+
+fn answer_line(alloc: Global, line: &[u8], store: &mut Oracle) -> Result<(), AllocError> {
+    let mut reply = Vec::new(alloc);
+    store.answer(alloc, line, &mut reply)
 }
 
 // A difference, with the crash that showed it.

@@ -2,9 +2,10 @@
 //!
 //! A line that was answered by `refused memory` has changed nothing: the slow store passes over it.
 use crate::compare::{AMPLE, apart_in_questions};
-use crate::run::{RUN, RUN_NEW, Ran, run_on};
 use crate::worked::lines_of;
+use check_books::judge::{Verdict, Wrong};
 use check_oracle::Oracle;
+use check_run::run::{RUN, RUN_NEW, Ran, run_on};
 use check_scripts::Answers;
 use std::alloc::{AllocError, Global};
 use std::fmt;
@@ -13,44 +14,28 @@ use std::thread::Threads;
 use ut_app::Status;
 use ut_outside::MemDisk;
 
-/// What may be wrong with a run.
-#[derive(Clone, Copy, Debug, PartialEq, Eq)]
-pub(crate) enum Wrong {
-    /// The last line that was answered should have another reply.
-    Reply,
-    /// It shouldn't have ended so.
-    End,
-    /// The store that is opened again has other rows than were told.
-    Left,
-}
-
 /// What a run came to.
 #[derive(Clone, Copy)]
-pub(crate) struct Verdict {
-    status: Status,
+pub(crate) struct Judged {
+    verdict: Verdict,
     answered: usize,
     refused: usize,
-    wrong: Option<Wrong>,
 }
 
-impl Verdict {
+impl Judged {
     pub fn is_right(&self) -> bool {
-        self.wrong.is_none()
+        self.verdict.is_right()
     }
 }
 
-impl fmt::Display for Verdict {
+impl fmt::Display for Judged {
     fn fmt<W: fmt::Write>(&self, f: &mut fmt::Formatter<W>) -> fmt::Result {
-        let status = self.status;
+        let verdict = self.verdict;
         let answered = self.answered;
         let refused = self.refused;
-        match self.wrong {
-            None => write!(f, "right, ")?,
-            Some(wrong) => write!(f, "WRONG {wrong:?}, ")?,
-        }
         write!(
             f,
-            "{status:?} after {answered} lines, {refused} of them refused memory"
+            "{verdict} after {answered} lines, {refused} of them refused memory"
         )
     }
 }
@@ -218,12 +203,29 @@ pub(crate) fn verdict_on(
     rt: &(impl Threads + Wait + Sync),
     alloc: Global,
     number: usize,
-) -> Result<Verdict, AllocError> {
+) -> Result<Judged, AllocError> {
     let lines = lines_of(alloc, number)?;
+    verdict_of(rt, alloc, &lines)
+}
+
+fn verdict_of(
+    rt: &(impl Threads + Wait + Sync),
+    alloc: Global,
+    lines: &[&str],
+) -> Result<Judged, AllocError> {
     let mut disk = MemDisk::of(alloc, &[], &[], &[])?;
-    let script = script_of(alloc, &lines)?;
-    let ran = run_on(rt, alloc, RUN_NEW, &script, &mut disk)?;
-    judged(rt, alloc, &lines, &ran, &mut disk)
+    let ran = ran_of(rt, alloc, lines, &mut disk)?;
+    judged_by(rt, alloc, lines, &ran, &mut disk)
+}
+
+fn ran_of(
+    rt: &(impl Threads + Wait + Sync),
+    alloc: Global,
+    lines: &[&str],
+    disk: &mut MemDisk,
+) -> Result<Ran, AllocError> {
+    let script = script_of(alloc, lines)?;
+    run_on(rt, alloc, RUN_NEW, &script, disk)
 }
 
 fn script_of(alloc: Global, lines: &[&str]) -> Result<Vec<u8>, AllocError> {
@@ -236,19 +238,18 @@ fn script_of(alloc: Global, lines: &[&str]) -> Result<Vec<u8>, AllocError> {
 }
 
 // The verdict on what a run of those lines told and left on its disk.
-fn judged(
+fn judged_by(
     rt: &(impl Threads + Wait + Sync),
     alloc: Global,
     lines: &[&str],
     ran: &Ran,
     disk: &mut MemDisk,
-) -> Result<Verdict, AllocError> {
-    let mut follower = Follower::new(alloc, &ran.told)?;
+) -> Result<Judged, AllocError> {
+    let mut follower = Follower::new(alloc, &ran.replies)?;
     let wrong = follower.wrong_in(rt, alloc, lines, ran.status, disk)?;
-    Ok(Verdict {
-        status: ran.status,
+    Ok(Judged {
+        verdict: Verdict::new(ran.status, wrong),
         answered: follower.answered,
         refused: follower.refused,
-        wrong,
     })
 }

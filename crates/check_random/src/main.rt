@@ -9,7 +9,6 @@ mod apart;
 mod compare;
 mod crash;
 mod judge;
-mod run;
 mod told;
 mod worked;
 
@@ -56,10 +55,14 @@ fn task_of(rt: &HostRuntime) -> Result<Task> {
     let Some(first) = words.next() else {
         return Ok(Task::Few);
     };
+    task_in(first, words.next())
+}
+
+fn task_in(first: String, second: Option<String>) -> Result<Task> {
     if first.as_str() == "crowd" {
         return Ok(Task::Crowd);
     }
-    let second = words.next().context("two words are wanted")?;
+    let second = second.context("two words are wanted")?;
     if first.as_str() == "refuse" {
         let number = second.as_str().parse::<usize>()?;
         return Ok(Task::Refuse { number });

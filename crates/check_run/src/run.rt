@@ -11,7 +11,7 @@ pub const RUN: &[&str] = &["ut", "run"];
 pub const RUN_NEW: &[&str] = &["ut", "run", "--new"];
 
 /// The bytes that a source gives in one call.
-const PIECE: usize = 4096;
+pub const PIECE: usize = 4096;
 
 /// How a run ended, and what it wrote.
 #[derive(Drop)]
@@ -19,6 +19,7 @@ pub struct Ran {
     pub status: Status,
     pub replies: Vec<u8>,
     pub acks: AckList,
+    pub journal: u64,
 }
 
 /// A run, and the disk that it leaves.
@@ -33,6 +34,7 @@ pub fn new_disk(alloc: Global) -> Result<MemDisk, AllocError> {
     MemDisk::of(alloc, &[], &[], &[])
 }
 
+/// Runs a script on a disk.
 pub fn run_on(
     rt: &(impl Threads + Wait + Sync),
     alloc: Global,
@@ -40,8 +42,9 @@ pub fn run_on(
     script: &[u8],
     disk: &mut MemDisk,
 ) -> Result<Ran, AllocError> {
-    let source = MemSource::new(alloc, script, PIECE, None)?;
-    run_between(rt, alloc, words, source, MemSink::new(alloc, None), disk)
+    let mut source = MemSource::new(alloc, script, PIECE, None)?;
+    let sink = MemSink::new(alloc, None);
+    run_between(rt, alloc, words, &mut source, sink, disk)
 }
 
 /// A run on a new disk.
@@ -56,19 +59,21 @@ pub fn run_new(
     Ok(Run { ran, disk })
 }
 
+/// Runs the program between a source and a sink.
 pub fn run_between(
     rt: &(impl Threads + Wait + Sync),
     alloc: Global,
     words: &[&str],
-    mut source: MemSource,
+    source: &mut MemSource,
     mut sink: MemSink,
     disk: &mut MemDisk,
 ) -> Result<Ran, AllocError> {
-    let report = top(rt, alloc, words, &mut source, &mut sink, disk, &NoHook);
+    let report = top(rt, alloc, words, source, &mut sink, disk, &NoHook);
     Ok(Ran {
         status: report.status,
         replies: Vec::from_slice(alloc, sink.bytes())?,
         acks: report.acks,
+        journal: report.journal,
     })
 }
 

@@ -16,6 +16,34 @@ const FIRST: [&str; 6] = [
     "2 begin",
 ];
 
+// From here on texts that dice choose from, each as often as it comes.
+
+const TEXTS: &[&str] = &[" 'a'", " 'b'"];
+
+const NUMBERS: &[&str] = &[" 2", " -3"];
+
+const COMPARISONS: &[&str] = &[" <>", " <", " <=", " >", " >=", " =", " =", " ="];
+
+const KINDS: &[&str] = &[
+    " classic", " resort", " partial", " partial", " extend", " extend", " extend", " extend",
+];
+
+const TRANSACTIONS: &[&str] = &[" abort", " commit", " commit", " begin", " begin", " begin"];
+
+const JOINS: &[&str] = &[
+    " join U v U v",
+    " join T v U k",
+    " join T k U k",
+    " join T k U k",
+];
+
+const ANY_SAVE: &[&str] = &[
+    "drop", "begin", "seal", "seal", "flip", "flip", "step 1", "step 1",
+];
+
+/// What four lines of a script do with a savepoint, and then the next four.
+const NEXT_SAVE: &[&str] = &["begin", "step 9", "seal", "flip"];
+
 /// Which statements of the store a script has.
 #[derive(Clone, Copy, Debug, PartialEq, Eq)]
 pub enum StoreLines {
@@ -117,6 +145,19 @@ fn put(out: &mut Vec<u8>, text: &str) -> Result<(), AllocError> {
     out.extend_from_slice(text.as_bytes())
 }
 
+// Puts one of the texts of as many sides, each as often as it stands among them.
+fn put_one_of(
+    dice: &mut Dice,
+    sides: u8,
+    texts: &[&str],
+    out: &mut Vec<u8>,
+) -> Result<(), AllocError>
+    requires { 0 < sides }
+{
+    let side = dice.digit(sides);
+    put(out, texts.get(usize::from(side)).copied().unwrap_or(""))
+}
+
 fn put_digit(out: &mut Vec<u8>, digit: u8) -> Result<(), AllocError> {
     out.push(b'0' + digit % 10)?;
     Ok(())
@@ -147,12 +188,7 @@ fn put_value(dice: &mut Dice, table: Table, out: &mut Vec<u8>) -> Result<(), All
         Table::T => !is_right,
         Table::U => is_right,
     };
-    match (is_text, dice.digit(2)) {
-        (true, 0) => put(out, " 'a'"),
-        (true, _) => put(out, " 'b'"),
-        (false, 0) => put(out, " 2"),
-        (false, _) => put(out, " -3"),
-    }
+    put_one_of(dice, 2, if is_text { TEXTS } else { NUMBERS }, out)
 }
 
 fn put_key(dice: &mut Dice, out: &mut Vec<u8>) -> Result<(), AllocError> {
@@ -163,14 +199,7 @@ fn put_key(dice: &mut Dice, out: &mut Vec<u8>) -> Result<(), AllocError> {
 fn put_comparison(dice: &mut Dice, table: Table, out: &mut Vec<u8>) -> Result<(), AllocError> {
     let is_of_key = !dice.is_once_in(4);
     put(out, if is_of_key { " k" } else { " v" })?;
-    match dice.digit(8) {
-        0 => put(out, " <>")?,
-        1 => put(out, " <")?,
-        2 => put(out, " <=")?,
-        3 => put(out, " >")?,
-        4 => put(out, " >=")?,
-        _ => put(out, " =")?,
-    }
+    put_one_of(dice, 8, COMPARISONS, out)?;
     if is_of_key {
         put_key(dice, out)
     } else {
@@ -238,25 +267,13 @@ fn put_save_or_main(dice: &mut Dice, number: u32, out: &mut Vec<u8>) -> Result<(
 
 // Four lines of a script begin a savepoint, the next four write its pages, and so on.
 fn put_next_save(number: u32, out: &mut Vec<u8>) -> Result<(), AllocError> {
-    match number / 4 % 4 {
-        0 => put(out, "begin"),
-        1 => put(out, "step 9"),
-        2 => put(out, "seal"),
-        _ => put(out, "flip"),
-    }
+    let next = number / 4 % 4;
+    put(out, NEXT_SAVE.get(next as usize).copied().unwrap_or(""))
 }
 
 // A statement of a savepoint, whatever its phase.
 fn put_any_save(dice: &mut Dice, out: &mut Vec<u8>) -> Result<(), AllocError> {
-    match dice.digit(8) {
-        0 => put(out, "drop"),
-        1 => put(out, "begin"),
-        2 => put(out, "seal"),
-        3 => put(out, "seal"),
-        4 => put(out, "flip"),
-        5 => put(out, "flip"),
-        _ => put(out, "step 1"),
-    }
+    put_one_of(dice, 8, ANY_SAVE, out)
 }
 
 // A merge mostly of one table and of a kind that leaves parts as they are, so that there are several.
@@ -268,22 +285,11 @@ fn put_merge(dice: &mut Dice, out: &mut Vec<u8>) -> Result<(), AllocError> {
     };
     put(out, "0 merge begin")?;
     put_table(dice, table, out)?;
-    match dice.digit(8) {
-        0 => put(out, " classic"),
-        1 => put(out, " resort"),
-        2 => put(out, " partial"),
-        3 => put(out, " partial"),
-        _ => put(out, " extend"),
-    }
+    put_one_of(dice, 8, KINDS, out)
 }
 
 fn put_transaction(dice: &mut Dice, out: &mut Vec<u8>) -> Result<(), AllocError> {
-    match dice.digit(6) {
-        0 => put(out, " abort"),
-        1 => put(out, " commit"),
-        2 => put(out, " commit"),
-        _ => put(out, " begin"),
-    }
+    put_one_of(dice, 6, TRANSACTIONS, out)
 }
 
 fn put_question(dice: &mut Dice, out: &mut Vec<u8>) -> Result<(), AllocError> {
@@ -297,11 +303,7 @@ fn put_question(dice: &mut Dice, out: &mut Vec<u8>) -> Result<(), AllocError> {
 }
 
 fn put_join(dice: &mut Dice, out: &mut Vec<u8>) -> Result<(), AllocError> {
-    match dice.digit(4) {
-        0 => put(out, " join U v U v"),
-        1 => put(out, " join T v U k"),
-        _ => put(out, " join T k U k"),
-    }
+    put_one_of(dice, 4, JOINS, out)
 }
 
 fn put_best(dice: &mut Dice, out: &mut Vec<u8>) -> Result<(), AllocError> {

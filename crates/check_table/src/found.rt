@@ -15,8 +15,8 @@ use ut_stamps::Fates;
 use ut_table::Table;
 use ut_value::{Column, Value, key_of, same_bytes, value_keeps_rule};
 
-/// A comparison by the place of its column.
-pub(crate) fn placed(rt: &impl Abort, columns: &[Column], pred: &Pred) -> ColumnPred
+// A comparison by the place of its column.
+fn placed(rt: &impl Abort, columns: &[Column], pred: &Pred) -> ColumnPred
     ensures { Compiles columns.now (pred.now ∷ []) (result ∷ []) }
 {
     let known = has_column(columns, pred.column.as_slice());

@@ -46,11 +46,10 @@ fn row(rt: &impl Abort, alloc: Global, id: u32, number: i64, text: &[u8]) -> Res
 }
 
 // A row enters the first stage.
-fn insert(rt: &impl Abort, table: &mut Table, id: u32, row: Row) -> Result<(), AllocError>
-    requires same { row.id ≡ id }
-    requires rest { IsAtRest id table.old.stages }
-    requires small { id < 100 }
-    ensures { OnOk result (IsAtRest (id + 1) table.new.stages) }
+fn insert(rt: &impl Abort, table: &mut Table, row: Row) -> Result<(), AllocError>
+    requires rest { IsAtRest row.id table.old.stages }
+    requires small { row.id < 100 }
+    ensures { OnOk result (IsAtRest (row.id + 1) table.new.stages) }
 {
     table.room(1)?;
     assert!(rt; fits_columns(table.columns(), row.values.as_slice()));
@@ -63,11 +62,10 @@ fn insert(rt: &impl Abort, table: &mut Table, id: u32, row: Row) -> Result<(), A
 }
 
 // A row enters the second stage.
-fn load(rt: &impl Abort, table: &mut Table, id: u32, row: Row) -> Result<(), AllocError>
-    requires same { row.id ≡ id }
-    requires rest { IsAtRest id table.old.stages }
-    requires small { id < 100 }
-    ensures { OnOk result (IsAtRest (id + 1) table.new.stages) }
+fn load(rt: &impl Abort, table: &mut Table, row: Row) -> Result<(), AllocError>
+    requires rest { IsAtRest row.id table.old.stages }
+    requires small { row.id < 100 }
+    ensures { OnOk result (IsAtRest (row.id + 1) table.new.stages) }
 {
     table.room(1)?;
     assert!(rt; fits_columns(table.columns(), row.values.as_slice()));
@@ -99,8 +97,8 @@ pub(crate) fn add(
 {
     let row = row(rt, alloc, id, number, text)?;
     match stage {
-        Stage::First => insert(rt, table, id, row),
-        Stage::Second => load(rt, table, id, row),
+        Stage::First => insert(rt, table, row),
+        Stage::Second => load(rt, table, row),
     }
 }
 

@@ -4,12 +4,9 @@ ghost use Rattle.ut_table.specs.Numbered.{AreNumbered, IsAtRest};
 ghost use Rattle.ut_table.specs.Pending.{pending_job};
 
 use crate::found::finds_each;
-use crate::rows::three_rows;
 use std::alloc::{AllocError, Global};
 use std::process::Abort;
-use std::test::Fail;
-use ut_merge::{Build, Builder, Job};
-use ut_outside::NoHook;
+use ut_merge::{Build, Job};
 use ut_plain::PendingMerge;
 use ut_stamps::Fates;
 use ut_table::Table;
@@ -127,38 +124,4 @@ pub(crate) fn in_two_parts<B: Build>(
     finds_each(rt, alloc, table, fates, 4)?;
     merge(rt, builder, alloc, table, fates, MergeKind::Partial, 4)?;
     has_shape(rt, alloc, table, 0, 0, &[2, 1])
-}
-
-// All rows stand in one part, with both numbers in its dictionary.
-fn is_one_part(rt: &impl Abort, alloc: Global, table: &Table) -> Result<(), AllocError> {
-    has_shape(rt, alloc, table, 0, 0, &[3])?;
-    assert!(rt; table.columns().len() == 2);
-    assert!(rt; table.main_keys(alloc, 0)?.len() == 2);
-    Ok(())
-}
-
-// Rows in two parts, and then in one.
-fn in_one_part<B: Build>(
-    rt: &impl Abort,
-    builder: &B,
-    alloc: Global,
-    table: &mut Table,
-    fates: &Fates,
-) -> Result<(), AllocError>
-    requires ready { B.ready builder.now }
-    requires rest { IsAtRest 4 table.old.stages }
-{
-    in_two_parts(rt, builder, alloc, table, fates)?;
-    merge(rt, builder, alloc, table, fates, MergeKind::Classic, 4)?;
-    is_one_part(rt, alloc, table)
-}
-
-#[test]
-fn rows_are_found_in_each_stage_and_behind_merges(rt: HostRuntime) -> Result<(), Fail> {
-    let alloc = rt.alloc();
-    let fates = Fates::new(alloc)?;
-    let mut table = three_rows(&rt, alloc)?;
-    let builder = Builder::alone(&rt, &NoHook);
-    in_one_part(&rt, &builder, alloc, &mut table, &fates)?;
-    Ok(())
 }

@@ -262,8 +262,8 @@ fn works(rt: &impl Abort, rows: &mut Rows, work: Work<'_>, l1: u32, l2: u32) -> 
 fn writes_alone(
     rt: &impl Abort,
     alloc: Global,
-    rows: &mut Rows,
     columns: &Seq<Column>,
+    rows: &mut Rows,
 ) -> Result<(), Fail>
     requires { rows.old.rows.staged ≡ no_rows columns.now ∷ [] }
 {
@@ -281,9 +281,9 @@ fn writes_alone(
 
 fn loads_alone(
     rt: &impl Abort,
-    rows: &mut Rows,
-    columns: &Seq<Column>,
     bulk: Bulk<'_>,
+    columns: &Seq<Column>,
+    rows: &mut Rows,
 ) -> Result<(), Fail>
     requires { rows.old.rows.staged ≡ no_rows columns.now ∷ [] }
 {
@@ -301,10 +301,10 @@ fn work_is_done_alone(rt: HostRuntime) -> Result<(), Fail> {
     let alloc = rt.alloc();
     let columns = columns(&rt, alloc)?;
     let mut rows = bare(&rt, alloc, &columns)?;
-    writes_alone(&rt, alloc, &mut rows, &columns)?;
+    writes_alone(&rt, alloc, &columns, &mut rows)?;
     let mut rows = bare(&rt, alloc, &columns)?;
     let values = numbers(alloc)?;
-    loads_alone(&rt, &mut rows, &columns, bulk(&values))
+    loads_alone(&rt, bulk(&values), &columns, &mut rows)
 }
 
 // A merge begins, hands its job out again, and ends.

@@ -34,8 +34,8 @@ fn run_into(
     sink: MemSink,
     disk: &mut MemDisk,
 ) -> Result<Ran, AllocError> {
-    let source = MemSource::new(alloc, LINES, 7, None)?;
-    run_between(rt, alloc, words, source, sink, disk)
+    let mut source = MemSource::new(alloc, LINES, 7, None)?;
+    run_between(rt, alloc, words, &mut source, sink, disk)
 }
 
 /// The same, into a sink that takes all.
@@ -198,9 +198,9 @@ fn told_unread(
     alloc: Global,
     disk: &mut MemDisk,
 ) -> Result<Told, AllocError> {
-    let source = MemSource::new(alloc, LINES, 7, Some(3))?;
+    let mut source = MemSource::new(alloc, LINES, 7, Some(3))?;
     let sink = MemSink::new(alloc, None);
-    let ran = run_between(rt, alloc, CROWD, source, sink, disk)?;
+    let ran = run_between(rt, alloc, CROWD, &mut source, sink, disk)?;
     Ok(told_in(&ran))
 }
 

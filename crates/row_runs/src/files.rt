@@ -4,13 +4,33 @@ use anyhow::Result;
 use check_told::Tally;
 use row_files::{Row, rows_of};
 use std::alloc::Global;
-use std::fs;
-use std::rt::Files;
+use std::process::ExitCode;
+use std::rt::{Env, Files};
 use std::sync::Wait;
 use std::thread::Threads;
+use std::{env, fs};
 
-/// Runs the rows of a file, and says what they came to. Whether all are answered as expected.
-pub fn check_file(
+/// Runs the files that are named behind the program's own name, and says what they came to. It fails where a row is answered otherwise
+/// than expected, where a file can't be read as rows, and where none is named.
+pub fn check_named(
+    rt: &(impl AllocGlobal + Env + Print + Files + Threads + Wait + Sync),
+    alloc: Global,
+) -> Result<ExitCode> {
+    let mut names = env::args(rt)?;
+    let _program = names.next();
+    let mut is_right = false; // without a file there is nothing to be right
+    for (place, name) in names.enumerate() {
+        is_right = check_file(rt, alloc, name.as_str())? && (is_right || place == 0);
+    }
+    Ok(if is_right {
+        ExitCode::SUCCESS
+    } else {
+        ExitCode::FAILURE
+    })
+}
+
+// Runs the rows of a file, and says what they came to. Whether all are answered as expected.
+fn check_file(
     rt: &(impl AllocGlobal + Print + Files + Threads + Wait + Sync),
     alloc: Global,
     name: &str,

@@ -7,4 +7,4 @@ mod program;
 mod slow;
 mod wrong;
 
-pub use files::check_file;
+pub use files::check_named;

@@ -1,9 +1,10 @@
 //! Rows on the program's top call, over a disk and streams in memory.
 use crate::wrong::say_wrong;
 use anyhow::Result;
+use check_run::run::copy_of;
 use check_told::Tally;
 use row_files::Row;
-use row_tries::{Found, check_row, copy_of};
+use row_tries::{Found, check_row};
 use std::alloc::{AllocError, Global};
 use std::sync::Wait;
 use std::thread::Threads;

@@ -1,7 +1,8 @@
 //! Crashes amid the run of a row: what is opened then has each entry that was told, and the root that was selected.
 use crate::left::{Base, Must, meets, moment_of};
-use crate::scene::{RUN, RUN_NEW, Ran, Scene, run_on};
+use crate::scene::Scene;
 use crate::tries::Trouble;
+use check_run::run::{RUN, RUN_NEW, run_on};
 use row_files::{Place, Wanted};
 use std::alloc::{AllocError, Global};
 use std::sync::Wait;

@@ -1,13 +1,14 @@
 //! Faults of the disk amid the run of a row: what was told is told, the fault is, and what was told is there again.
 use crate::crashes::{base_of, torn, torn_each};
 use crate::left::{Base, Must, replies_by};
-use crate::program::End;
-use crate::scene::{RUN, Run, Scene, run_on};
+use crate::scene::Scene;
 use crate::tries::Trouble;
+use check_run::run::{RUN, Run, run_on};
 use row_files::{Row, Wanted};
 use std::alloc::{AllocError, Global};
 use std::sync::Wait;
 use std::thread::Threads;
+use ut_app::Status;
 use ut_outside::{Ack, Disk, MemDisk, Tear};
 
 /// An opening and a commit have as many calls of the disk, so a run of fewer tries nothing.
@@ -125,7 +126,8 @@ fn look(
 }
 
 fn is_told(row: &Row<'_>, acks: &[Ack], failed: &Run, call: u64) -> bool {
-    failed.ran.end == End::DiskFault && is_front(row, acks, failed.ran.replies.as_slice(), call)
+    failed.ran.status == Status::DiskFault
+        && is_front(row, acks, failed.ran.replies.as_slice(), call)
 }
 
 // Whether the replies are those that had begun before the call, and one that says that the disk failed. A run whose lines aren't the

@@ -8,8 +8,31 @@ use std::sync::Wait;
 use std::thread::Threads;
 use ut_outside::{MemDisk, Which};
 
-/// What is put at each place of a file.
-const BYTES: [u8; 5] = [0x00, 0x01, 0x33, 0xA7, 0xFF];
+/// What is done to a file at a place.
+#[derive(Clone, Copy)]
+pub(crate) enum Harm {
+    Cut,
+    Byte(u8),
+}
+
+impl Harm {
+    fn at(self, place: usize) -> Change<'static> {
+        match self {
+            Harm::Cut => Change::Cut(place),
+            Harm::Byte(byte) => Change::Byte(place, byte),
+        }
+    }
+}
+
+pub(crate) const CUT: &[Harm] = &[Harm::Cut];
+
+pub(crate) const BYTES: &[Harm] = &[
+    Harm::Byte(0x00),
+    Harm::Byte(0x01),
+    Harm::Byte(0x33),
+    Harm::Byte(0xA7),
+    Harm::Byte(0xFF),
+];
 
 /// Whether bytes are those that a text of bytes says.
 pub(crate) fn are_spelled(bytes: &[u8], hex: &str) -> bool {
@@ -151,56 +174,23 @@ pub(crate) fn opened_with_two(
     }
 }
 
-/// What is opened where a file is cut at each length.
-pub(crate) fn each_cut(
+/// What is opened where each of these things is done at each place of a file.
+pub(crate) fn each_place(
     rt: &(impl Threads + Wait + Sync),
     alloc: Global,
     scene: Scene<'_, '_>,
     disk: &MemDisk,
     file: Which,
+    harms: &[Harm],
     wanted: Wanted,
 ) -> Result<Option<Trouble>, AllocError> {
-    for len in 0..disk.bytes(file).len() {
-        let change = Change::Cut(len);
-        let patch = Patch { file, change };
-        if let Some(trouble) = opened_with(rt, alloc, scene, disk, patch, wanted)? {
-            return Ok(Some(trouble));
-        }
-    }
-    Ok(None)
-}
-
-/// What is opened where each byte of a file is changed.
-pub(crate) fn each_byte(
-    rt: &(impl Threads + Wait + Sync),
-    alloc: Global,
-    scene: Scene<'_, '_>,
-    disk: &MemDisk,
-    file: Which,
-    wanted: Wanted,
-) -> Result<Option<Trouble>, AllocError> {
-    for at in 0..disk.bytes(file).len() {
-        if let Some(trouble) = changed_at(rt, alloc, scene, disk, file, at, wanted)? {
-            return Ok(Some(trouble));
-        }
-    }
-    Ok(None)
-}
-
-fn changed_at(
-    rt: &(impl Threads + Wait + Sync),
-    alloc: Global,
-    scene: Scene<'_, '_>,
-    disk: &MemDisk,
-    file: Which,
-    at: usize,
-    wanted: Wanted,
-) -> Result<Option<Trouble>, AllocError> {
-    for byte in BYTES {
-        let change = Change::Byte(at, byte);
-        let patch = Patch { file, change };
-        if let Some(trouble) = opened_with(rt, alloc, scene, disk, patch, wanted)? {
-            return Ok(Some(trouble));
+    for place in 0..disk.bytes(file).len() {
+        for harm in harms {
+            let change = harm.at(place);
+            let patch = Patch { file, change };
+            if let Some(trouble) = opened_with(rt, alloc, scene, disk, patch, wanted)? {
+                return Ok(Some(trouble));
+            }
         }
     }
     Ok(None)

@@ -1,7 +1,7 @@
 //! What a store must be that is opened again.
-use crate::program::End;
-use crate::scene::Ran;
+use check_run::run::Ran;
 use row_files::{Row, Wanted};
+use ut_app::Status;
 use ut_outside::Ack;
 
 /// Which roots a store may be opened with.
@@ -112,9 +112,9 @@ pub(crate) fn meets(row: &Row<'_>, ran: &Ran, must: Must) -> bool {
 }
 
 fn has_kept(row: &Row<'_>, ran: &Ran, kept: Kept) -> bool {
-    match ran.end {
-        End::NoStore => kept.may_lack && kept.entries == 0,
-        End::Done => has(row, ran, kept.entries, kept.root) || has_one_more(row, ran, kept),
+    match ran.status {
+        Status::NoStore => kept.may_lack && kept.entries == 0,
+        Status::Done => has(row, ran, kept.entries, kept.root) || has_one_more(row, ran, kept),
         _ => false,
     }
 }
@@ -143,13 +143,13 @@ fn is_of(is_saved: bool, root: Root) -> bool {
 }
 
 fn is(row: &Row<'_>, ran: &Ran, wanted: Wanted) -> bool {
-    let is_done = ran.end == End::Done;
-    let is_damaged = ran.end == End::Damaged;
+    let is_done = ran.status == Status::Done;
+    let is_damaged = ran.status == Status::Damaged;
     match wanted {
         Wanted::Opened => is_done,
         Wanted::Damaged => is_damaged,
         Wanted::OpenedOrDamaged => is_done || is_damaged,
-        Wanted::NoStore => ran.end == End::NoStore,
+        Wanted::NoStore => ran.status == Status::NoStore,
         Wanted::Left(entries) => is_done && has(row, ran, entries, Root::First),
         Wanted::Saved(entries) => is_done && has(row, ran, entries, Root::Saved),
     }

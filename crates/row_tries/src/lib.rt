@@ -5,12 +5,10 @@ mod crashes;
 mod faults;
 mod files;
 mod left;
-mod program;
 mod rows;
 mod scene;
 mod streams;
 mod tries;
 
-pub use program::End;
-pub use rows::{Found, check_row, copy_of};
+pub use rows::{Found, check_row};
 pub use tries::Trouble;

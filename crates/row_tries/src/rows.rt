@@ -2,13 +2,14 @@
 ghost use Rattle.std.specs.Prelude.{◌≡◌, ◌↔◌, IsTrue};
 
 use crate::files::patched;
-use crate::program::End;
-use crate::scene::{Ran, Scene};
+use crate::scene::Scene;
 use crate::tries::{Trouble, tried};
+use check_run::run::{Ran, copy_of};
 use row_files::{Patch, Row};
 use std::alloc::{AllocError, Global};
 use std::sync::Wait;
 use std::thread::Threads;
+use ut_app::Status;
 use ut_outside::{MemDisk, Which};
 
 /// What a row comes to.
@@ -21,16 +22,6 @@ pub enum Found {
     Told(Vec<u8>),
     /// What a line of the file tries isn't as it must be.
     Tried { line: usize, trouble: Trouble },
-}
-
-/// A disk with the same files, all of it durable.
-pub fn copy_of(alloc: Global, disk: &MemDisk) -> Result<MemDisk, AllocError> {
-    MemDisk::of(
-        alloc,
-        disk.bytes(Which::Redo),
-        disk.bytes(Which::Redo2),
-        disk.bytes(Which::Pages),
-    )
 }
 
 /// Runs a row on a disk, and tries what it says.
@@ -243,18 +234,21 @@ fn are_alike(one: &MemDisk, other: &MemDisk) -> bool {
 // files, another one says so.
 fn told_in(alloc: Global, ran: &Ran, is_kept: bool) -> Result<Vec<u8>, AllocError> {
     let mut told = Vec::from_slice(alloc, ran.replies.as_slice())?;
-    let end = ran.end;
-    if end != End::Done {
-        let line = format!(in alloc; "status {end:?}\n")?;
+    let status = ran.status;
+    if status != Status::Done {
+        let line = format!(in alloc; "status {status:?}\n")?;
         told.extend_from_slice(line.as_bytes())?;
     }
-    if has_no_store(end) && !is_kept {
+    if has_no_store(status) && !is_kept {
         told.extend_from_slice(b"and the files changed\n")?;
     }
     Ok(told)
 }
 
 // Whether a run ends so before its first line, where it leaves the files as they are.
-fn has_no_store(end: End) -> bool {
-    matches!(end, End::Usage | End::NoStore | End::Exists | End::Damaged)
+fn has_no_store(status: Status) -> bool {
+    matches!(
+        status,
+        Status::Usage | Status::NoStore | Status::Exists | Status::Damaged
+    )
 }

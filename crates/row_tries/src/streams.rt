@@ -1,11 +1,12 @@
 //! Sources that give a row's script in pieces, comments behind it, and streams that fail.
-use crate::program::End;
-use crate::scene::{Ran, Scene, run_between};
+use crate::scene::Scene;
 use crate::tries::Trouble;
+use check_run::run::{Ran, run_between};
 use row_files::Row;
 use std::alloc::{AllocError, Global};
 use std::sync::Wait;
 use std::thread::Threads;
+use ut_app::Status;
 use ut_outside::{Ask, MemSink, MemSource};
 
 /// The script and the script without its last line end, given in pieces of so many bytes: the answers are the same, and each is given
@@ -35,7 +36,7 @@ fn given_in(
     }
     let mut source = MemSource::new(alloc, script, len, None)?;
     let ran = run_from(rt, alloc, scene, &mut source)?;
-    let is_told = ends(scene.row, &ran, End::Done);
+    let is_told = ends(scene.row, &ran, Status::Done);
     if is_told
         && source
             .asks()
@@ -48,8 +49,8 @@ fn given_in(
 }
 
 // Whether a run ended so, with all answers of the row.
-fn ends(row: &Row<'_>, ran: &Ran, end: End) -> bool {
-    ran.end == end && ran.replies.as_slice() == row.answers.as_slice()
+fn ends(row: &Row<'_>, ran: &Ran, end: Status) -> bool {
+    ran.status == end && ran.replies.as_slice() == row.answers.as_slice()
 }
 
 // Whether the sink had taken the answers to the lines that were given, where a source was asked. A last line without its end is
@@ -99,7 +100,7 @@ fn unread(
 ) -> Result<Option<Trouble>, AllocError> {
     let mut source = MemSource::new(alloc, scene.script, 1, Some(call))?;
     let ran = run_from(rt, alloc, scene, &mut source)?;
-    if ran.end == End::ReadFault && scene.row.answers.starts_with(&ran.replies) {
+    if ran.status == Status::ReadFault && scene.row.answers.starts_with(&ran.replies) {
         return Ok(None);
     }
     Ok(Some(Trouble::of(call, &ran)))
@@ -116,7 +117,10 @@ pub(crate) fn unwritten(
     let mut disk = scene.disk(alloc)?;
     let sink = MemSink::new(alloc, Some(call));
     let ran = scene.run_into(rt, alloc, sink, &mut disk)?;
-    if ran.end == End::WriteFault && is_front(scene.row, &ran, call) && ran.acks.len() == replies {
+    if ran.status == Status::WriteFault
+        && is_front(scene.row, &ran, call)
+        && ran.acks.len() == replies
+    {
         return Ok(None);
     }
     Ok(Some(Trouble::of(call, &ran)))
@@ -137,7 +141,7 @@ pub(crate) fn commented(
     alloc: Global,
     scene: Scene<'_, '_>,
     len: usize,
-    end: End,
+    end: Status,
 ) -> Result<Option<Trouble>, AllocError> {
     let script = with_comment(alloc, scene.script, len)?;
     let ran = ran_with(rt, alloc, scene, &script)?;

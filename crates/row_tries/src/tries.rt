@@ -1,15 +1,16 @@
 //! What is tried with a row that was run.
 use crate::crashes::{crash_in, each_crash, moment_at, torn};
 use crate::faults::{each_fault, fault_at, two_faults};
-use crate::files::{are_spelled, each_byte, each_cut, hold, opened_with, opened_with_two};
+use crate::files::{BYTES, CUT, are_spelled, each_place, hold, opened_with, opened_with_two};
 use crate::left::Must;
-use crate::program::End;
-use crate::scene::{Ran, Scene};
+use crate::scene::Scene;
 use crate::streams::{commented, each_unread, in_pieces, unwritten};
+use check_run::run::Ran;
 use row_files::{Try, number_in};
 use std::alloc::{AllocError, Global};
 use std::sync::Wait;
 use std::thread::Threads;
+use ut_app::Status;
 use ut_outside::{Ack, Disk, MemDisk, Tear};
 
 /// What isn't as it must be: the call, moment or place where it is tried, the tear of a crash, and how the run ended, with so many
@@ -18,7 +19,7 @@ use ut_outside::{Ack, Disk, MemDisk, Tear};
 pub struct Trouble {
     pub at: u64,
     pub tear: Option<Tear>,
-    pub end: Option<End>,
+    pub end: Option<Status>,
     pub entries: u64,
 }
 
@@ -37,7 +38,7 @@ impl Trouble {
         Trouble {
             at,
             tear: None,
-            end: Some(ran.end),
+            end: Some(ran.status),
             entries: ran.journal,
         }
     }
@@ -73,32 +74,52 @@ pub(crate) fn tried(
         Try::FaultEach => each_fault(rt, alloc, scene, acks, disk.calls(), None),
         Try::FaultEachAnd(more) => { each_fault(rt, alloc, scene, acks, disk.calls(), Some(more)) }
         Try::FaultAnd(call, more) => two_faults(rt, alloc, scene, acks, call, more),
-        _ => tried_beside(rt, alloc, scene, acks, disk, one),
+        Try::SourceEach
+        | Try::Sink(_, _)
+        | Try::Pieces(_)
+        | Try::CommentDone(_)
+        | Try::CommentTooLong(_) => tried_streams(rt, alloc, scene, one),
+        Try::Patched(_, _)
+        | Try::PatchedTwice(_, _, _)
+        | Try::CutEach(_, _)
+        | Try::ByteEach(_, _) => tried_files(rt, alloc, scene, disk, one),
+        _ => Ok(Trouble::unless(is_so(acks, disk, one))),
     }
 }
 
-// Tries streams, and files that are changed.
-fn tried_beside(
+// Tries streams.
+fn tried_streams(
     rt: &(impl Threads + Wait + Sync),
     alloc: Global,
     scene: Scene<'_, '_>,
-    acks: &[Ack],
-    disk: &MemDisk,
     one: Try<'_>,
 ) -> Result<Option<Trouble>, AllocError> {
     match one {
         Try::SourceEach => each_unread(rt, alloc, scene),
         Try::Sink(call, replies) => unwritten(rt, alloc, scene, call, replies),
         Try::Pieces(len) => in_pieces(rt, alloc, scene, len),
-        Try::CommentDone(len) => commented(rt, alloc, scene, len, End::Done),
-        Try::CommentTooLong(len) => commented(rt, alloc, scene, len, End::TooLong),
+        Try::CommentDone(len) => commented(rt, alloc, scene, len, Status::Done),
+        Try::CommentTooLong(len) => commented(rt, alloc, scene, len, Status::TooLong),
+        _ => Ok(Trouble::unless(false)),
+    }
+}
+
+// Tries files that are changed.
+fn tried_files(
+    rt: &(impl Threads + Wait + Sync),
+    alloc: Global,
+    scene: Scene<'_, '_>,
+    disk: &MemDisk,
+    one: Try<'_>,
+) -> Result<Option<Trouble>, AllocError> {
+    match one {
         Try::Patched(patch, wanted) => opened_with(rt, alloc, scene, disk, patch, wanted),
         Try::PatchedTwice(first, second, wanted) => {
             opened_with_two(rt, alloc, scene, disk, first, second, wanted)
         }
-        Try::CutEach(file, wanted) => each_cut(rt, alloc, scene, disk, file, wanted),
-        Try::ByteEach(file, wanted) => each_byte(rt, alloc, scene, disk, file, wanted),
-        _ => Ok(Trouble::unless(is_so(acks, disk, one))),
+        Try::CutEach(file, wanted) => each_place(rt, alloc, scene, disk, file, CUT, wanted),
+        Try::ByteEach(file, wanted) => each_place(rt, alloc, scene, disk, file, BYTES, wanted),
+        _ => Ok(Trouble::unless(false)),
     }
 }
 

@@ -1,7 +1,6 @@
 //! What random scripts are made of, and what they meet on the slow store.
-use crate::answers::{Answers, first_apart};
-use crate::scripts::{LINES, StoreLines, script_line};
 use check_oracle::Oracle;
+use check_scripts::{Answers, LINES, StoreLines, first_apart, script_line};
 use std::alloc::{AllocError, Global};
 use std::process::Abort;
 use std::test::Fail;
