@@ -56,15 +56,15 @@ fn put(alloc: Global, lines: &mut VecDeque<Seq<u8>>, line: &[u8]) -> Result<(), 
     }
 }
 
-fn of_two(alloc: Global) -> Result<VecDeque<Seq<u8>>, AllocError> {
+pub(crate) fn lines_of(alloc: Global, all: &[&[u8]]) -> Result<VecDeque<Seq<u8>>, AllocError> {
     let mut lines = VecDeque::new(alloc);
-    for line in LINES {
+    for line in all {
         put(alloc, &mut lines, line)?;
     }
     Ok(lines)
 }
 
-fn made<D: Disk>(alloc: Global, disk: &mut D) -> Result<Engine<'_, D>, OpenError>
+pub(crate) fn made<D: Disk>(alloc: Global, disk: &mut D) -> Result<Engine<'_, D>, OpenError>
     ensures { IfOk result (λ e. (p : Plain) × Runs e.store (D.view e.disk) p) }
 {
     match Engine::make(alloc, disk, AMPLE) {
@@ -122,7 +122,7 @@ fn run_new(
     run(rt, alloc, &mut disk, lines)
 }
 
-fn text_of(alloc: Global, book: &[Turn]) -> Result<Vec<u8>, AllocError> {
+pub(crate) fn text_of(alloc: Global, book: &[Turn]) -> Result<Vec<u8>, AllocError> {
     let mut text = Vec::new(alloc);
     put_book(&mut text, book)?;
     Ok(text)
@@ -140,7 +140,7 @@ fn check_told(rt: &impl Abort, alloc: Global, book: &[Turn]) -> Result<(), Alloc
 /// Two tables are made, and a row is put into each of them.
 #[test]
 fn two_sessions_are_answered(rt: HostRuntime) -> Result<(), Fail> {
-    let lines = of_two(rt.alloc())?;
+    let lines = lines_of(rt.alloc(), &LINES)?;
     let came = run_new(&rt, rt.alloc(), lines)?;
     assert!(rt; came.all && came.book.len() == LINES.len());
     assert_eq!(rt; came.entries, 4);

@@ -122,7 +122,7 @@ module _ (g : Ground) (queues : List (List (List ℕ))) (book : List Turn) (name
       ∙ ap (λ (x : Asked). begun_by (begun_in (begun_first p) book) x t.reply t.journal) (sym is)
       ∙ sym (begun_more (begun_first p) book t)
 
--- no turn has a later moment than its own, one turn more
+-- no turn's moment is past the next entry of the log, one turn more
 timely_on : (g : Ground) (queues : List (List (List ℕ))) (book : List Turn) (name : GName) (was now : View) (old new : Logged) (job : Option JobValue) (l1 : ℕ) (last : Begun) (session : ℕ) (asked : Asked) (line : Parsed) (t : Turn) → turn_now session asked t old new now → CountsNow now → SeenStays now → old.down ≡ false
     → Comes old was line (Some session) t.reply new now → StandsOn g queues book name was old job l1 last → IsTold g.disk → AreTimely now (book ++ t ∷ [])
 timely_on g queues book name was now old new job l1 last session asked line t turn counts stays up comes s told =

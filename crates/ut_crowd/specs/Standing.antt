@@ -36,7 +36,7 @@ pub record StandsOn
   pub range : (1 ≤ l1) × (l1 ≤ 1048576)
   pub told : now.told ≡ g.disk.told
   pub faults : g.disk.faults ≤ now.faults
-  -- no turn has a later moment than its own
+  -- no turn's moment is past the next entry of the log
   pub timely : IsTold g.disk → AreTimely now book
   pub loan : g.loan ≡ Some name
   pub held : IsHeld job store

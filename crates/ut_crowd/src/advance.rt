@@ -16,9 +16,10 @@ use ut_gate::{Act, Slip};
 use ut_merge::Job;
 use ut_outside::{Disk, Hook, Point};
 
-/// Answers the next line of a session. It is over once the hall is, or the session has no line left.
+/// Answers the next line of a session. It is over exactly where the hall is, where there was no room for the turn, or where the session
+/// has no line left.
 #[derive(Drop)]
-pub(crate) struct Advance<'a, H> {
+pub struct Advance<'a, H> {
     pub session: u8,
     pub hook: &'a H,
 }
@@ -34,7 +35,7 @@ impl<'a, 'd, D: Disk + Send, O: Opening + Send, H: Hook> Act<Hall<'d, D, O>> for
 
     ghost relates = { λ a _ x y _ _ answer.
         (goes_on answer ≡ false → IsDone a.session y.stopped y.engine.store y.queues.items)
-        × (IsTrue (goes_on answer) → HasTurn a.session (λ _. Unit {0}) x.book.items y.book.items)
+        × (IsTrue (goes_on answer) → (IsDone a.session x.stopped x.engine.store x.queues.items → ⊥) × HasTurn a.session (λ _. Unit {0}) x.book.items y.book.items)
         × IsDated (D.view y.engine.disk).moment x.book.items y.book.items
         × (y.save_waits ≡ x.save_waits) };
 
@@ -68,13 +69,13 @@ impl<'a, H: Hook> Between for Advance<'a, H> {
 
 impl<'d, D: Disk, O: Opening> Hall<'d, D, O> {
     /// Answers the next line of a session.
-    pub fn advance(&mut self, session: u8) -> bool
+    pub(crate) fn advance(&mut self, session: u8) -> bool
         requires stands { StandsOn O.ground self.old.queues.items self.old.book.items self.old.engine.loan (D.view self.old.engine.disk) self.old.engine.store self.old.job self.old.l1 self.old.last }
         ensures stands { StandsOn O.ground self.new.queues.items self.new.book.items self.new.engine.loan (D.view self.new.engine.disk) self.new.engine.store self.new.job self.new.l1 self.new.last }
         ensures book { AddsOne self.old.book.items self.new.book.items }
         ensures job { self.new.job ≡ self.old.job }
         ensures done { result ≡ false → IsDone session self.new.stopped self.new.engine.store self.new.queues.items }
-        ensures turn { IsTrue result → HasTurn session (λ _. Unit {0}) self.old.book.items self.new.book.items }
+        ensures turn { IsTrue result → (IsDone session self.old.stopped self.old.engine.store self.old.queues.items → ⊥) × HasTurn session (λ _. Unit {0}) self.old.book.items self.new.book.items }
         ensures dated { IsDated (D.view self.new.engine.disk).moment self.old.book.items self.new.book.items }
         ensures waits { self.new.save_waits ≡ self.old.save_waits }
     {

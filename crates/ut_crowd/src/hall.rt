@@ -29,7 +29,7 @@ use ut_plain::{Reply, Statement};
 use ut_value::Seq;
 
 /// Names the ground of one run. It has no calls, and its types have no bytes.
-pub(crate) trait Opening {
+pub trait Opening {
     ghost use Rattle.ut_crowd.specs.Ground.{Ground};
 
     ghost ground: { Ground };
@@ -43,21 +43,21 @@ impl Opening for Brand {
 
 /// A store that sessions share: their lines that are left, by session, and the book of those that were answered.
 #[derive(Drop)]
-pub(crate) struct Hall<'d, D: Disk, O: Opening> {
-    pub alloc: Global,
+pub struct Hall<'d, D: Disk, O: Opening> {
+    pub(crate) alloc: Global,
     pub engine: Engine<'d, D>,
-    pub queues: Vec<Queue>,
+    pub(crate) queues: Vec<Queue>,
     pub book: Vec<Turn>,
     /// So many rows of a stage at least are merged.
-    pub l1: u32,
+    pub(crate) l1: u32,
     /// A share of the job that a merger builds.
-    pub job: Option<Job>,
-    pub last: Begun,
+    pub(crate) job: Option<Job>,
+    pub(crate) last: Begun,
     /// Whether a savepoint waits for the end of the merge that is pending.
-    pub save_waits: bool,
+    pub(crate) save_waits: bool,
     /// There was no memory for a turn.
-    pub stopped: bool,
-    pub of: PhantomData<O>,
+    pub(crate) stopped: bool,
+    pub(crate) of: PhantomData<O>,
 }
 
 impl<'d, D: Disk + Send, O: Opening + Send> Held for Hall<'d, D, O> {
@@ -79,7 +79,7 @@ impl<'d, D: Disk + Send, O: Opening + Send> Held for Hall<'d, D, O> {
 }
 
 /// A hall in which nothing was answered yet but the lines of strangers. Where there is no memory the store is handed back.
-pub(crate) fn hall_of<'d, D: Disk, O: Opening>(
+pub fn hall_of<'d, D: Disk, O: Opening>(
     alloc: Global,
     engine: Engine<'d, D>,
     lines: VecDeque<Seq<u8>>,
@@ -114,7 +114,7 @@ pub(crate) fn hall_of<'d, D: Disk, O: Opening>(
 
 impl<'d, D: Disk, O: Opening> Hall<'d, D, O> {
     /// Whether it was stopped, the disk failed, or all lines were answered.
-    pub fn is_over(&self) -> bool
+    pub(crate) fn is_over(&self) -> bool
         ensures over { IsTrue result → IsOver self.now.stopped self.now.engine.store self.now.queues.items }
         ensures on { result ≡ false → IsOver self.now.stopped self.now.engine.store self.now.queues.items → ⊥ }
         ensures up { result ≡ false → (self.now.stopped ≡ false) × (self.now.engine.store.down ≡ false) }
@@ -129,7 +129,7 @@ impl<'d, D: Disk, O: Opening> Hall<'d, D, O> {
     }
 
     /// The store itself asks what it may, in a turn of its own, and not for a merge into main.
-    pub fn ask(&mut self, st: Statement) -> Kept
+    pub(crate) fn ask(&mut self, st: Statement) -> Kept
         requires up { self.old.engine.store.down ≡ false }
         requires going { self.old.stopped ≡ false }
         requires stores { IsTrue (is_of_store st) }

@@ -11,6 +11,10 @@ mod saver;
 mod sort;
 mod text;
 
+pub use advance::Advance;
 pub use book::{Asked, Turn};
+pub use hall::{Hall, Opening, hall_of};
+pub use merger::{EndJob, Merger};
 pub use run::{Ended, crowd};
+pub use saver::Saver;
 pub use text::put_book;

@@ -30,7 +30,7 @@ use ut_value::{MergeKind, Name};
 
 /// Moves rows of a first stage that is full, or begins a merge of a second one; then it builds, outside the turns.
 #[derive(Drop)]
-pub(crate) struct Merger<'a, B: Build, H> {
+pub struct Merger<'a, B: Build, H> {
     pub alloc: Global,
     pub builder: &'a B,
     pub hook: &'a H,
@@ -77,7 +77,7 @@ impl<'a, 'd, D: Disk + Send, O: Opening + Send, B: Build, H: Hook> Builds<Hall<'
 
 /// Ends the merge whose job was built.
 #[derive(Drop)]
-pub(crate) struct EndJob {
+pub struct EndJob {
     pub built: Option<Built>,
 }
 
@@ -117,7 +117,7 @@ enum Ripe {
 impl<'d, D: Disk, O: Opening> Hall<'d, D, O> {
     /// A merge of the first table whose first stage is full, or else its second; of the latter the job is handed out. None into main
     /// begins while a savepoint waits for its turn.
-    pub fn take_job(&mut self) -> (Kept, Option<Job>)
+    pub(crate) fn take_job(&mut self) -> (Kept, Option<Job>)
         requires stands { StandsOn O.ground self.old.queues.items self.old.book.items self.old.engine.loan (D.view self.old.engine.disk) self.old.engine.store self.old.job self.old.l1 self.old.last }
         ensures stands { StandsOn O.ground self.new.queues.items self.new.book.items self.new.engine.loan (D.view self.new.engine.disk) self.new.engine.store self.new.job self.new.l1 self.new.last }
         ensures book { AddsOne self.old.book.items self.new.book.items }
@@ -145,7 +145,7 @@ impl<'d, D: Disk, O: Opening> Hall<'d, D, O> {
     }
 
     /// Whether a merger that sleeps would do something at its turn.
-    pub fn calls_merger(&self) -> bool
+    pub(crate) fn calls_merger(&self) -> bool
         requires up { self.now.engine.store.down ≡ false }
     {
         if self.engine.pending().is_some() {
@@ -244,7 +244,7 @@ impl<'d, D: Disk, O: Opening> Hall<'d, D, O> {
     }
 
     /// Ends the pending merge with what was built of its job. The job stays where there is no turn for it.
-    pub fn end_job(&mut self, built: Built) -> Kept
+    pub(crate) fn end_job(&mut self, built: Built) -> Kept
         requires job { self.old.job ≡ Some built }
         requires stands { StandsOn O.ground self.old.queues.items self.old.book.items self.old.engine.loan (D.view self.old.engine.disk) self.old.engine.store self.old.job self.old.l1 self.old.last }
         ensures stands { StandsOn O.ground self.new.queues.items self.new.book.items self.new.engine.loan (D.view self.new.engine.disk) self.new.engine.store self.new.job self.new.l1 self.new.last }

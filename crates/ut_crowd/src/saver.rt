@@ -29,7 +29,7 @@ const PAGES: u32 = 8;
 
 /// Has the store begin a savepoint once there is enough to save, write its pages, and select it.
 #[derive(Drop)]
-pub(crate) struct Saver;
+pub struct Saver;
 
 impl<'d, D: Disk + Send, O: Opening + Send> Act<Hall<'d, D, O>> for Saver {
     ghost use Rattle.ut_crowd.specs.Keepers.{IsDated, IsSaveDue, IsWaiting, KeepsUp};
@@ -53,7 +53,7 @@ impl<'d, D: Disk + Send, O: Opening + Send> Act<Hall<'d, D, O>> for Saver {
 impl<'d, D: Disk, O: Opening> Hall<'d, D, O> {
     /// Asks for the piece that is due. A savepoint doesn't begin while a merge is pending: of its rows, which stand in the delta that it
     /// closed, it would spell each, and of the part that the merge makes a savepoint behind it needs only the bytes.
-    pub fn save_piece(&mut self) -> Kept
+    pub(crate) fn save_piece(&mut self) -> Kept
         requires stands { StandsOn O.ground self.old.queues.items self.old.book.items self.old.engine.loan (D.view self.old.engine.disk) self.old.engine.store self.old.job self.old.l1 self.old.last }
         ensures stands { StandsOn O.ground self.new.queues.items self.new.book.items self.new.engine.loan (D.view self.new.engine.disk) self.new.engine.store self.new.job self.new.l1 self.new.last }
         ensures book { AddsOne self.old.book.items self.new.book.items }
@@ -101,7 +101,7 @@ impl<'d, D: Disk, O: Opening> Hall<'d, D, O> {
     }
 
     /// Whether a saver that sleeps would do something at its turn: none does so while a savepoint is written.
-    pub fn calls_saver(&self) -> bool
+    pub(crate) fn calls_saver(&self) -> bool
         requires up { self.now.engine.store.down ≡ false }
     {
         let progress = self.engine.phase();
