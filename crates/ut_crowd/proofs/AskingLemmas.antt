@@ -41,8 +41,7 @@ use Rattle.ut_crowd.specs.declared.book.Begun.{Begun}
 use Rattle.ut_crowd.specs.declared.book.Turn.{Turn}
 use Rattle.ut_crowd.specs.Book.{lines_in, answer_of, answers_in, IsStores}
 use Rattle.ut_crowd.specs.Sorting.{IsRefused}
-use Rattle.ut_crowd.specs.Asking.{IsAsked, Asks, begun_by, begun_in}
-use Rattle.ut_crowd.specs.Keepers.{is_refusal}
+use Rattle.ut_crowd.specs.Asking.{IsAsked, IsTaken, Asks, begun_by, begun_in, is_refusal}
 
 -- ---- no effect is told as a refusal
 
@@ -190,11 +189,12 @@ running_at p disk lines answers acks was old up (Failed journal r down told rose
 
 -- ---- a turn more
 
-pub asks_more : (l1 : ℕ) (last : Begun) (p : Plain) (book : List Turn) (t : Turn) → Asks l1 last p book → ((q : Plain) → Answers p (lines_in book) (answers_in book) q → IsAsked l1 (begun_in last book) q t.asked) → Asks l1 last p (book ++ t ∷ [])
-asks_more l1 last p [] t asks given = (given p (refl, refl), λ q a. tt)
-asks_more l1 last p (u ∷ book) t asks given = (
+pub asks_more : (l1 : ℕ) (last : Begun) (p : Plain) (book : List Turn) (t : Turn) → Asks l1 last p book → ((q : Plain) → Answers p (lines_in book) (answers_in book) q → IsAsked l1 (begun_in last book) q t.asked) → IsTaken t.asked t.reply → Asks l1 last p (book ++ t ∷ [])
+asks_more l1 last p [] t asks given taken = (given p (refl, refl), taken, λ q a. tt)
+asks_more l1 last p (u ∷ book) t asks given taken = (
   asks.0,
-  λ q a. asks_more l1 (begun_by last u.asked u.reply u.journal) q book t (asks.1 q a) (λ r answers. given r (answer_of u ∷ [], answers_in book, q, refl, a, answers)),
+  asks.1,
+  λ q a. asks_more l1 (begun_by last u.asked u.reply u.journal) q book t (asks.2 q a) (λ r answers. given r (answer_of u ∷ [], answers_in book, q, refl, a, answers)) taken,
 )
 
 pub begun_more : (last : Begun) (book : List Turn) (t : Turn) → begun_in last (book ++ t ∷ []) ≡ begun_by (begun_in last book) t.asked t.reply t.journal
@@ -207,6 +207,10 @@ line_asked : (l1 : ℕ) (last : Begun) (p : Plain) (who : Option ℕ) (asked : A
 line_asked l1 last p who (Line bytes) e s = tt
 line_asked l1 last p who (Store st) e s = let no : ◌≡◌ {A = Option ℕ} None (Some 0) = sym e ∙ s.0 in cc
 
+line_taken : (who : Option ℕ) (asked : Asked) (reply : Reply) → who ≡ None → IsStores who asked → IsTaken asked reply
+line_taken who (Line bytes) reply e s = tt
+line_taken who (Store st) reply e s = let no : ◌≡◌ {A = Option ℕ} None (Some 0) = sym e ∙ s.0 in cc
+
 line_begun : (last : Begun) (who : Option ℕ) (asked : Asked) (reply : Reply) (journal : ℕ) → who ≡ None → IsStores who asked → begun_by last asked reply journal ≡ last
 line_begun last who (Line bytes) reply journal e s = refl
 line_begun last who (Store st) reply journal e s = let no : ◌≡◌ {A = Option ℕ} None (Some 0) = sym e ∙ s.0 in cc
@@ -215,7 +219,7 @@ pub asks_none : (l1 : ℕ) (last : Begun) (p : Plain) (book : List Turn) (n m : 
 asks_none l1 last p [] n m h = tt
 asks_none l1 last p (t ∷ book) n m h =
     let first : IsRefused n m t = All-head (IsRefused n m) t book h in
-    (line_asked l1 last p t.session t.asked first.nobody first.stores, λ q a. asks_none l1 (begun_by last t.asked t.reply t.journal) q book n m (All-tail (IsRefused n m) t book h))
+    (line_asked l1 last p t.session t.asked first.nobody first.stores, line_taken t.session t.asked t.reply first.nobody first.stores, λ q a. asks_none l1 (begun_by last t.asked t.reply t.journal) q book n m (All-tail (IsRefused n m) t book h))
 
 pub begun_none : (last : Begun) (book : List Turn) (n m : ℕ) → All (IsRefused n m) book → begun_in last book ≡ last
 begun_none last [] n m h = refl

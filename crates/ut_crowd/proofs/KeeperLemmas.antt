@@ -9,6 +9,7 @@ use Rattle.ut_plain.specs.declared.stage.Progress.TheVariants as steps
 use Rattle.ut_plain.specs.declared.statement.Statement.{Statement}
 use Rattle.ut_plain.specs.declared.statement.Statement.TheVariants as statements
 use Rattle.ut_plain.specs.declared.reply.Reply.{Reply}
+use Rattle.ut_plain.specs.declared.reply.Reply.TheVariants as replies
 use Rattle.ut_plain.specs.Journal.{current}
 use Rattle.ut_plain.specs.Plain.{Plain, Phase, Idle, Writing, Sealed}
 use Rattle.ut_durable.specs.Saving.{Saving, IsSaving}
@@ -20,7 +21,7 @@ use Rattle.ut_store.specs.Stands.{StandsFor}
 use Rattle.ut_engine.specs.declared.error.BeginError.{BeginError}
 use Rattle.ut_engine.specs.declared.error.BeginError.TheVariants as errors
 use Rattle.ut_engine.specs.Logged.{Logged}
-use Rattle.ut_engine.specs.Merging.{begin_reply, is_fault}
+use Rattle.ut_engine.specs.Merging.{EndsMerge, begin_reply, is_fault}
 use Rattle.ut_engine.specs.Runs.{Runs}
 use Rattle.ut_engine.specs.Savepoints.{progress_of}
 use Rattle.ut_engine.specs.Tables.{name_at}
@@ -31,8 +32,8 @@ use Rattle.ut_crowd.specs.declared.book.Begun.{Begun}
 use Rattle.ut_crowd.specs.declared.book.Turn.{Turn}
 use Rattle.ut_crowd.specs.declared.merger.Ripe.{Ripe}
 use Rattle.ut_crowd.specs.declared.merger.Ripe.TheVariants.{First, Second}
-use Rattle.ut_crowd.specs.Asking.{StoreAsks, Merges, Ends, Saves, first_full, second_full, kind_of_merge, merge_of, merge_due, table_at, progress_in, piece_next, waits}
-use Rattle.ut_crowd.specs.Keepers.{is_refusal, kept_after, woken, HasAsked, AsksOnce, AsksDue, BringsJob, KeepsUp, IsShared, IsMergeDue, IsSaveDue, IsWaiting, unless_waiting}
+use Rattle.ut_crowd.specs.Asking.{StoreAsks, Merges, Ends, Saves, first_full, second_full, kind_of_merge, merge_of, merge_due, table_at, progress_in, piece_next, waits, is_refusal}
+use Rattle.ut_crowd.specs.Keepers.{kept_after, woken, ended, HasAsked, AsksOnce, AsksDue, BringsJob, KeepsUp, EndsJob, IsShared, IsMergeDue, IsSaveDue, IsWaiting, unless_waiting}
 use Rattle.ut_crowd.specs.Queues.{left_of, IsOver}
 use Rattle.ut_crowd.specs.Ripe.{ripe_of}
 use Rattle.ut_crowd.specs.Saving.{due_piece}
@@ -69,21 +70,33 @@ no_both false h k = cc
 
 -- ---- a keeper's turn
 
-pub keeps_by : (over : Type 0) (due : Option Statement → Type 0) (brings : Statement → Type 0) (stopped down : Bool) (before after : List Turn) (kept : Kept) → (over → ⊥) → AsksDue due brings stopped down before after kept → KeepsUp over due brings stopped down before after kept
-keeps_by over due brings stopped down before after kepts.Did on h = (on, h)
-keeps_by over due brings stopped down before after kepts.Due on h = (on, h)
-keeps_by over due brings stopped down before after kepts.Idle on h = absurd h.2
-keeps_by over due brings stopped down before after kepts.Over on h = inr h
+pub keeps_by : (over : Type 0) (due : Option Statement → Type 0) (brings : Statement → Type 0) (was stopped down : Bool) (before after : List Turn) (kept : Kept) → (over → ⊥) → AsksDue due brings stopped down before after kept → KeepsUp over due brings was stopped down before after kept
+keeps_by over due brings was stopped down before after kepts.Did on h = (on, h)
+keeps_by over due brings was stopped down before after kepts.Due on h = (on, h)
+keeps_by over due brings was stopped down before after kepts.Idle on h = absurd h.2
+keeps_by over due brings was stopped down before after kepts.Over on h = inr (on, h)
 
 -- a turn of the saver's, which wakes the merger where that waited
-pub keeps_woken : (over : Type 0) (due : Option Statement → Type 0) (stopped down : Bool) (before after : List Turn) (w : Bool) (kept : Kept) (st : Statement) → (over → ⊥) → due (Some st) → AsksOnce st stopped down before after kept
-    → KeepsUp over due (λ st. Unit {0}) stopped down before after (woken w kept)
-keeps_woken over due stopped down before after w kept st on is h = keeps_by over due (λ st. Unit {0}) stopped down before after (woken w kept) on (st, is, woken_once st stopped down before after w kept h, λ goes. tt)
+pub keeps_woken : (over : Type 0) (due : Option Statement → Type 0) (was stopped down : Bool) (before after : List Turn) (w : Bool) (kept : Kept) (st : Statement) → (over → ⊥) → due (Some st) → AsksOnce st stopped down before after kept
+    → KeepsUp over due (λ st. Unit {0}) was stopped down before after (woken w kept)
+keeps_woken over due was stopped down before after w kept st on is h = keeps_by over due (λ st. Unit {0}) was stopped down before after (woken w kept) on (st, is, woken_once st stopped down before after w kept h, λ goes. tt)
 
 pub shared_once : (st : Statement) (stopped stopped' down : Bool) (before after : List Turn) (kept kept' : Kept) → IsShared kept stopped kept' stopped' → AsksOnce st stopped down before after kept → AsksOnce st stopped' down before after kept'
 shared_once st stopped stopped' down before after kept kept' (inl s) h =
     subst (λ (k : Kept). AsksOnce st stopped' down before after k) (sym s.0) (subst (λ (b : Bool). AsksOnce st b down before after kept) (sym s.1) h)
 shared_once st stopped stopped' down before after kept kept' (inr s) h = subst (λ (k : Kept). AsksOnce st stopped' down before after k) (sym s.0) (inl s.1)
+
+-- the end of a merge that was pending is no refusal
+pub end_taken : (pending : Option PendingMerge) (reply : Reply) → EndsMerge pending reply → is_refusal reply ≡ false
+end_taken None reply (inl e) = cc
+end_taken (Some m) reply (inl e) = let same : reply ≡ replies.Merge m.number = cc in ap is_refusal same
+end_taken pending reply (inr e) = ap is_refusal e
+
+-- the turn behind which a job is gone
+pub ends_job : (stopped down : Bool) (before after : List Turn) (t : Turn) (reply : Reply) → after ≡ before ++ t ∷ [] → t.session ≡ Some 0 → t.asked ≡ Store statements.MergeEnd → t.reply ≡ reply → is_refusal reply ≡ false → stopped ≡ false
+    → EndsJob stopped down before after None (ended down)
+ends_job stopped true before after t reply more who asked says taken going = inr refl
+ends_job stopped false before after t reply more who asked says taken going = (record { turn = t; more = more; who = who; asked = asked }, ap is_refusal says ∙ taken, refl, going, refl)
 
 pub begin_over : (e : BeginError) (down : Bool) → down ≡ is_fault (Err e) → IsTrue (is_refusal (begin_reply (Err e))) ⊎ IsTrue down
 begin_over errors.Name down is = inl refl
@@ -98,7 +111,7 @@ unless_l1 : (w : Bool) (name : List ℕ) (n : ℕ) → unless_waiting w (Some (s
 unless_l1 true name n = refl
 unless_l1 false name n = refl
 
-none_is : {A : Type 0} (o : Option A) → is_some o ≡ false → o ≡ None
+pub none_is : {A : Type 0} (o : Option A) → is_some o ≡ false → o ≡ None
 none_is None h = refl
 none_is (Some x) h = cc
 

@@ -7,6 +7,7 @@ use Rattle.ut_outside.specs.declared.ack.Ack.{Ack}
 use Rattle.ut_plain.specs.declared.statement.Parsed.{Parsed}
 use Rattle.ut_plain.specs.declared.statement.Parsed.TheVariants.{Good}
 use Rattle.ut_plain.specs.declared.statement.Statement.{Statement}
+use Rattle.ut_plain.specs.declared.statement.Statement.TheVariants as statements
 use Rattle.ut_plain.specs.declared.reply.Reply.{Reply}
 use Rattle.ut_plain.specs.Journal.{journal_len}
 use Rattle.ut_plain.specs.Spelled.{is_spelled}
@@ -31,7 +32,7 @@ use Rattle.ut_crowd.specs.Ground.{Ground}
 use Rattle.ut_crowd.specs.Book.{said, lines_in, answer_of, answers_in, ack_of, acks_in, strangers, lines_of_session}
 use Rattle.ut_crowd.specs.Queues.{Takes, TakesNone, left_of}
 use Rattle.ut_crowd.specs.Sorting.{Sorted}
-use Rattle.ut_crowd.specs.Asking.{StoreAsks, IsAsked, Asks, begun_by, begun_first, begun_in}
+use Rattle.ut_crowd.specs.Asking.{StoreAsks, IsAsked, IsTaken, Asks, begun_by, begun_first, begun_in}
 use Rattle.ut_crowd.specs.Standing.{IsHeld, StandsOn, Starts}
 use Rattle.ut_crowd.specs.Dating.{WasLeft, AreTimely}
 use Rattle.ut_crowd.proofs.DatingLemmas.{SeenStays, left_now, strangers_timely, timely_turn}
@@ -108,13 +109,14 @@ turn_is session asked before reply t old new now e f = (
 
 -- what the store asks, and the last savepoint that began, one turn more
 module _ (g : Ground) (queues : List (List (List ℕ))) (book : List Turn) (name : GName) (was : View) (old : Logged) (job : Option JobValue) (l1 : ℕ) (last : Begun) (t : Turn) (asked : Asked) (is : t.asked ≡ asked) (s : StandsOn g queues book name was old job l1 last) where
-  asks_on : old.down ≡ false → ((q : Plain) → Runs old was q → IsAsked l1 last q asked) → (p : Plain) → g.from p → Asks g.l1 (begun_first p) p (book ++ t ∷ [])
-  asks_on up may p from =
+  asks_on : old.down ≡ false → ((q : Plain) → Runs old was q → IsAsked l1 last q asked) → IsTaken asked t.reply → (p : Plain) → g.from p → Asks g.l1 (begun_first p) p (book ++ t ∷ [])
+  asks_on up may taken p from =
       asks_more g.l1 (begun_first p) p book t (s.asks p from)
       (λ q a.
       let runs = running_at p g.disk (lines_in book) (answers_in book) (acks_in book) was old up (s.course p from) q a in
       subst (λ (x : Asked). IsAsked g.l1 (begun_in (begun_first p) book) q x) (sym is)
       (subst (λ (b : Begun). IsAsked g.l1 b q asked) (s.last_is p from) (subst (λ (n : ℕ). IsAsked n last q asked) s.l1_is (may q runs))))
+      (subst (λ (x : Asked). IsTaken x t.reply) (sym is) taken)
 
   last_on : (last' : Begun) → last' ≡ begun_by last asked t.reply t.journal → (p : Plain) → g.from p → last' ≡ begun_in (begun_first p) (book ++ t ∷ [])
   last_on last' e p from =
@@ -139,7 +141,7 @@ stands_more g queues left book name name' was now old new job l1 last session li
   weaves = weaves_more g.lines queues left book session line t turn.0 turn.1 takes s.weaves;
   some = s.some;
   course = λ p from. course_turn p g.disk book was old t session (Line line) now new only counts comes.told s.faults turn up comes (s.course p from);
-  asks = asks_on g queues book name was old job l1 last t (Line line) turn.1 s up (λ q runs. tt);
+  asks = asks_on g queues book name was old job l1 last t (Line line) turn.1 s up (λ q runs. tt) tt;
   last_is = last_on g queues book name was old job l1 last t (Line line) turn.1 s last refl;
   l1_is = s.l1_is;
   range = s.range;
@@ -156,14 +158,14 @@ read_as old was st t new now of spelled comes = subst (λ (line : Parsed). Comes
 
 -- a statement of the store was answered; which job the hall has then
 stands_asked : (g : Ground) (queues : List (List (List ℕ))) (book : List Turn) (name name' : GName) (was now : View) (old new : Logged) (job job' : Option JobValue) (l1 : ℕ) (last last' : Begun) (st : Statement) (t : Turn) → IsTrue (is_of_store st) → IsTrue (is_spelled st)
-    → ((q : Plain) → Runs old was q → StoreAsks l1 last q st) → last' ≡ begun_by last (Store st) t.reply t.journal → IsHeld job' new
+    → ((q : Plain) → Runs old was q → StoreAsks l1 last q st) → IsTaken (Store st) t.reply → last' ≡ begun_by last (Store st) t.reply t.journal → IsHeld job' new
     → turn_now 0 (Store st) t old new now → Comes old was (Good 0 st) (Some 0) t.reply new now → name' ≡ name → old.down ≡ false → OnlyNow now → CountsNow now → SeenStays now
     → StandsOn g queues book name was old job l1 last → StandsOn g queues (book ++ t ∷ []) name' now new job' l1 last'
-stands_asked g queues book name name' was now old new job job' l1 last last' st t of spelled may last_is held turn comes same up only counts stays s = record {
+stands_asked g queues book name name' was now old new job job' l1 last last' st t of spelled may taken last_is held turn comes same up only counts stays s = record {
   weaves = weaves_stored g.lines queues book st t of turn.0 turn.1 s.weaves;
   some = s.some;
   course = λ p from. course_turn p g.disk book was old t 0 (Store st) now new only counts comes.told s.faults turn up (read_as old was st t new now of spelled comes) (s.course p from);
-  asks = asks_on g queues book name was old job l1 last t (Store st) turn.1 s up may;
+  asks = asks_on g queues book name was old job l1 last t (Store st) turn.1 s up may taken;
   last_is = last_on g queues book name was old job l1 last t (Store st) turn.1 s last' last_is;
   l1_is = s.l1_is;
   range = s.range;
@@ -173,6 +175,27 @@ stands_asked g queues book name name' was now old new job job' l1 last last' st 
   loan = s.loan ∙ ap Some (sym same);
   held = held;
 }
+
+-- a statement that neither begins a merge nor ends one is no end
+taken_by : (st : Statement) (reply : Reply) → is_of_merge st ≡ false → IsTaken (Store st) reply
+taken_by (statements.Create table columns) reply h = tt
+taken_by (statements.Insert table values) reply h = tt
+taken_by (statements.Bulk table values) reply h = tt
+taken_by (statements.Ask query) reply h = tt
+taken_by (statements.Update table column value preds) reply h = tt
+taken_by (statements.Delete table preds) reply h = tt
+taken_by statements.Begin reply h = tt
+taken_by statements.Commit reply h = tt
+taken_by statements.Abort reply h = tt
+taken_by (statements.MergeL1 table n) reply h = tt
+taken_by (statements.MergeBegin table kind) reply h = tt
+taken_by statements.MergeEnd reply h = cc
+taken_by statements.SaveBegin reply h = tt
+taken_by (statements.SaveStep n) reply h = tt
+taken_by statements.SaveSeal reply h = tt
+taken_by statements.SaveFlip reply h = tt
+taken_by statements.SaveDrop reply h = tt
+taken_by (statements.Shape table) reply h = tt
 
 -- ---- the same, by the turn that the code makes
 
@@ -189,18 +212,19 @@ pub stands_said : (g : Ground) (queues : List (List (List ℕ))) (book : List Tu
     → StandsOn g queues book name was old job l1 last → StandsOn g queues (book ++ t ∷ []) name' now new job l1 last'
 stands_said g queues book name name' was now old new job l1 last last' before st reply t e f of spelled none may last_is comes same up only counts stays s =
     let turn = turn_is 0 (Store st) before reply t old new now e f in
-    let says : Comes old was (Good 0 st) (Some 0) t.reply new now = subst (λ (r : Reply). Comes old was (Good 0 st) (Some 0) r new now) (sym (reply_is 0 (Store st) before reply t new now e)) comes in stands_asked g queues book name name' was now old new job job l1 last last' st t of spelled may
+    let says : Comes old was (Good 0 st) (Some 0) t.reply new now = subst (λ (r : Reply). Comes old was (Good 0 st) (Some 0) r new now) (sym (reply_is 0 (Store st) before reply t new now e)) comes in stands_asked g queues book name name' was now old new job job l1 last last' st t of spelled may (taken_by st t.reply none)
     (last_is ∙ ap (λ (x : Asked). begun_by last x t.reply t.journal) turn.1)
     (held_more g queues book name was now old new job l1 last (Good 0 st) (Some 0) t none up says s)
     turn says same up only counts stays s
 
 -- one that does; the last savepoint that began stays, and behind it the hall has no job
 pub stands_jobless : (g : Ground) (queues : List (List (List ℕ))) (book : List Turn) (name name' : GName) (was now : View) (old new : Logged) (job : Option JobValue) (l1 : ℕ) (last : Begun) (before : ℕ) (st : Statement) (reply : Reply) (t : Turn) → t ≡ turn_with 0 (Store st) before reply new now → before ≡ old.store.counts.entries
-    → IsTrue (is_of_store st) → IsTrue (is_spelled st) → ((q : Plain) → Runs old was q → StoreAsks l1 last q st) → last ≡ begun_by last (Store st) t.reply t.journal
+    → IsTrue (is_of_store st) → IsTrue (is_spelled st) → ((q : Plain) → Runs old was q → StoreAsks l1 last q st) → IsTaken (Store st) reply → last ≡ begun_by last (Store st) t.reply t.journal
     → Comes old was (Good 0 st) (Some 0) reply new now → name' ≡ name → old.down ≡ false → OnlyNow now → CountsNow now → SeenStays now
     → StandsOn g queues book name was old job l1 last → StandsOn g queues (book ++ t ∷ []) name' now new None l1 last
-stands_jobless g queues book name name' was now old new job l1 last before st reply t e f of spelled may last_is comes same up only counts stays s =
-    stands_asked g queues book name name' was now old new job None l1 last last st t of spelled may last_is tt (turn_is 0 (Store st) before reply t old new now e f)
+stands_jobless g queues book name name' was now old new job l1 last before st reply t e f of spelled may taken last_is comes same up only counts stays s =
+    stands_asked g queues book name name' was now old new job None l1 last last st t of spelled may
+    (subst (λ (r : Reply). IsTaken (Store st) r) (sym (reply_is 0 (Store st) before reply t new now e)) taken) last_is tt (turn_is 0 (Store st) before reply t old new now e f)
     (subst (λ (r : Reply). Comes old was (Good 0 st) (Some 0) r new now) (sym (reply_is 0 (Store st) before reply t new now e)) comes) same up only counts stays s
 
 -- there was no line to take

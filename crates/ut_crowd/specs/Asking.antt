@@ -84,6 +84,16 @@ pub data StoreAsks (l1 : ℕ) (last : Begun) (p : Plain) (st : Statement) : Type
   Ends : IsTrue (is_some p.pending) → st ≡ MergeEnd → StoreAsks l1 last p st
   Saves : save_due last p ≡ Some st → StoreAsks l1 last p st
 
+-- whether a reply refuses
+abbrev pub is_refusal : Reply → Bool
+is_refusal (replies.Refused why) = true
+is_refusal _ = false
+
+-- The end of a merge isn't refused: it takes no memory, and the merge that it ends is pending.
+abbrev pub IsTaken : Asked → Reply → Type 0
+IsTaken (Store MergeEnd) reply = is_refusal reply ≡ false
+IsTaken asked reply = Unit {0}
+
 -- what is asked by no line is what the store may ask
 abbrev pub IsAsked : ℕ → Begun → Plain → Asked → Type 0
 IsAsked l1 last p (Line bytes) = Unit {0}
@@ -103,11 +113,13 @@ abbrev pub begun_in : Begun → List Turn → Begun
 begun_in last [] = last
 begun_in last (t ∷ book) = begun_in (begun_by last t.asked t.reply t.journal) book
 
--- Each statement of the store in a book is one that it may ask, in the state to which the turns before it come.
+-- Each statement of the store in a book is one that it may ask, in the state to which the turns before it come, and each end of a merge
+-- is taken.
 abbrev pub Asks : ℕ → Begun → Plain → List Turn → Type 0
 Asks l1 last p [] = Unit {0}
 Asks l1 last p (t ∷ book) =
     IsAsked l1 last p t.asked
+    × IsTaken t.asked t.reply
     × ((q : Plain) → AnswersLine p (said t.asked) (answer_of t ∷ []) q → Asks l1 (begun_by last t.asked t.reply t.journal) q book)
 
 -- the same of a book from its opening

@@ -4,7 +4,6 @@ use Rattle.ut_outside.specs.Disk.{View}
 use Rattle.ut_plain.specs.declared.statement.Statement.{Statement}
 use Rattle.ut_plain.specs.declared.statement.Statement.TheVariants.{MergeBegin, MergeEnd}
 use Rattle.ut_plain.specs.declared.reply.Reply.{Reply}
-use Rattle.ut_plain.specs.declared.reply.Reply.TheVariants.{Refused}
 use Rattle.ut_plain.specs.Plain.{Plain}
 use Rattle.ut_merge.specs.Jobs.{JobValue}
 use Rattle.ut_engine.specs.Logged.{Logged}
@@ -14,12 +13,7 @@ use Rattle.ut_crew.specs.declared.role.Kept.TheVariants.{Did, Due, Idle, Over}
 use Rattle.ut_crowd.specs.declared.book.Asked.TheVariants.{Store}
 use Rattle.ut_crowd.specs.declared.book.Begun.{Begun}
 use Rattle.ut_crowd.specs.declared.book.Turn.{Turn}
-use Rattle.ut_crowd.specs.Asking.{merge_due, save_due, save_waits}
-
--- whether a reply refuses
-abbrev pub is_refusal : Reply → Bool
-is_refusal (Refused why) = true
-is_refusal _ = false
+use Rattle.ut_crowd.specs.Asking.{is_refusal, merge_due, save_due, save_waits}
 
 -- what a keeper's turn came to whose statement was answered so: it is over where that was refused, or the disk failed
 abbrev pub kept_after : Reply → Bool → Kept
@@ -62,13 +56,14 @@ AsksDue due brings stopped down before after kept =
     (st : Statement) × due (Some st) × AsksOnce st stopped down before after kept × ((kept ≡ Over → ⊥) → brings st)
 
 -- A keeper's turn by what was due: it is idle exactly where the hall wasn't over and nothing was due, and over exactly where the hall was,
--- or what was due found no room, lost the disk, or was refused. Else it has asked what was due.
-abbrev pub KeepsUp : (over : Type 0) → (due : Option Statement → Type 0) → (brings : Statement → Type 0) → (stopped down : Bool) → List Turn → List Turn → Kept → Type 0
-KeepsUp over due brings stopped down before after Idle =
+-- so that nothing changes, or what was due found no room, lost the disk, or was refused. Else it has asked what was due.
+abbrev pub KeepsUp : (over : Type 0) → (due : Option Statement → Type 0) → (brings : Statement → Type 0) → (was stopped down : Bool) → List Turn → List Turn → Kept → Type 0
+KeepsUp over due brings was stopped down before after Idle =
     (over → ⊥) × due None × (after ≡ before) × (stopped ≡ false) × (down ≡ false)
-KeepsUp over due brings stopped down before after Over = over ⊎ AsksDue due brings stopped down before after Over
-KeepsUp over due brings stopped down before after Did = (over → ⊥) × AsksDue due brings stopped down before after Did
-KeepsUp over due brings stopped down before after Due = (over → ⊥) × AsksDue due brings stopped down before after Due
+KeepsUp over due brings was stopped down before after Over =
+    (over × (after ≡ before) × (stopped ≡ was)) ⊎ ((over → ⊥) × AsksDue due brings stopped down before after Over)
+KeepsUp over due brings was stopped down before after Did = (over → ⊥) × AsksDue due brings stopped down before after Did
+KeepsUp over due brings was stopped down before after Due = (over → ⊥) × AsksDue due brings stopped down before after Due
 
 -- no merge into main begins while a savepoint waits
 abbrev pub unless_waiting : Bool → Option Statement → Option Statement
@@ -91,13 +86,13 @@ IsWaiting last store disk waited = (p : Plain) → Runs store disk p → waited 
 abbrev pub IsShared : Kept → Bool → Kept → Bool → Type 0
 IsShared kept stopped kept_now stopped_now = ((kept_now ≡ kept) × (stopped_now ≡ stopped)) ⊎ ((kept_now ≡ Over) × IsTrue stopped_now)
 
--- The turn that ends a job: over exactly where there was no room or the disk failed; else the end was asked, and the job is gone.
+-- The turn that ends a job: over exactly where there was no room or the disk failed; else the merge ended, and the job is gone.
 abbrev pub EndsJob : (stopped down : Bool) → List Turn → List Turn → Option JobValue → Kept → Type 0
 EndsJob stopped down before after job Idle = ⊥
 EndsJob stopped down before after job Over = IsTrue stopped ⊎ IsTrue down
 EndsJob stopped down before after job Did = ⊥
 EndsJob stopped down before after job Due =
-    HasAsked MergeEnd before after × (job ≡ None) × (stopped ≡ false) × (down ≡ false)
+    (asked : HasAsked MergeEnd before after) × (is_refusal asked.turn.reply ≡ false) × (job ≡ None) × (stopped ≡ false) × (down ≡ false)
 
 -- what it came to, by whether the disk failed
 abbrev pub ended : Bool → Kept

@@ -40,6 +40,12 @@ pub record Weaves (lines : List (List ℕ)) (queues : List (List (List ℕ))) (b
 abbrev pub IsDone : ℕ → Bool → Logged → List (List (List ℕ)) → Type 0
 IsDone session stopped store queues = IsTrue stopped ⊎ IsTrue store.down ⊎ (left_of queues session ≡ [])
 
+-- The turn of a session that is over: nothing changes where the hall is done with it, or there was no room, and the hall is stopped.
+abbrev pub EndsSession : ℕ → (was stopped : Bool) → Logged → List (List (List ℕ)) → List Turn → List Turn → Type 0
+EndsSession session was stopped store queues before after =
+    (after ≡ before)
+    × ((IsDone session was store queues × (stopped ≡ was)) ⊎ ((IsDone session was store queues → ⊥) × IsTrue stopped))
+
 -- a hall is over: it was stopped, the disk failed, or all lines were answered
 abbrev pub IsOver : Bool → Logged → List (List (List ℕ)) → Type 0
 IsOver stopped store queues = IsTrue stopped ⊎ IsTrue store.down ⊎ HasNone queues

@@ -3,7 +3,7 @@ ghost use Rattle.std.specs.Prelude.{◌≡◌, false, IsTrue};
 ghost use Rattle.ut_gate.specs.Turns.{AddsOne};
 ghost use Rattle.ut_crowd.specs.Book.{HasTurn};
 ghost use Rattle.ut_crowd.specs.Standing.{StandsOn};
-ghost use Rattle.ut_crowd.specs.Queues.{IsDone};
+ghost use Rattle.ut_crowd.specs.Queues.{EndsSession, IsDone};
 ghost use Rattle.ut_crowd.specs.Going.{goes_on};
 ghost use Rattle.ut_crowd.specs.Keepers.{IsDated};
 
@@ -26,7 +26,7 @@ pub struct Advance<'a, H> {
 
 impl<'a, 'd, D: Disk + Send, O: Opening + Send, H: Hook> Act<Hall<'d, D, O>> for Advance<'a, H> {
     ghost use Rattle.ut_crowd.specs.Book.{HasTurn};
-    ghost use Rattle.ut_crowd.specs.Queues.{IsDone};
+    ghost use Rattle.ut_crowd.specs.Queues.{EndsSession, IsDone};
     ghost use Rattle.ut_crowd.specs.Going.{goes_on};
     ghost use Rattle.ut_crowd.specs.Keepers.{IsDated};
     ghost use Rattle.std.specs.Prelude.{◌≡◌, false, IsTrue};
@@ -34,8 +34,8 @@ impl<'a, 'd, D: Disk + Send, O: Opening + Send, H: Hook> Act<Hall<'d, D, O>> for
     type Answer = Went;
 
     ghost relates = { λ a _ x y _ _ answer.
-        (goes_on answer ≡ false → IsDone a.session y.stopped y.engine.store y.queues.items)
-        × (IsTrue (goes_on answer) → (IsDone a.session x.stopped x.engine.store x.queues.items → ⊥) × HasTurn a.session (λ _. Unit {0}) x.book.items y.book.items)
+        (goes_on answer ≡ false → EndsSession a.session x.stopped y.stopped x.engine.store x.queues.items x.book.items y.book.items)
+        × (IsTrue (goes_on answer) → (IsDone a.session x.stopped x.engine.store x.queues.items → ⊥) × (y.stopped ≡ false) × HasTurn a.session (λ _. Unit {0}) x.book.items y.book.items)
         × IsDated (D.view y.engine.disk).moment x.book.items y.book.items
         × (y.save_waits ≡ x.save_waits) };
 
@@ -74,8 +74,8 @@ impl<'d, D: Disk, O: Opening> Hall<'d, D, O> {
         ensures stands { StandsOn O.ground self.new.queues.items self.new.book.items self.new.engine.loan (D.view self.new.engine.disk) self.new.engine.store self.new.job self.new.l1 self.new.last }
         ensures book { AddsOne self.old.book.items self.new.book.items }
         ensures job { self.new.job ≡ self.old.job }
-        ensures done { result ≡ false → IsDone session self.new.stopped self.new.engine.store self.new.queues.items }
-        ensures turn { IsTrue result → (IsDone session self.old.stopped self.old.engine.store self.old.queues.items → ⊥) × HasTurn session (λ _. Unit {0}) self.old.book.items self.new.book.items }
+        ensures done { result ≡ false → EndsSession session self.old.stopped self.new.stopped self.old.engine.store self.old.queues.items self.old.book.items self.new.book.items }
+        ensures turn { IsTrue result → (IsDone session self.old.stopped self.old.engine.store self.old.queues.items → ⊥) × (self.new.stopped ≡ false) × HasTurn session (λ _. Unit {0}) self.old.book.items self.new.book.items }
         ensures dated { IsDated (D.view self.new.engine.disk).moment self.old.book.items self.new.book.items }
         ensures waits { self.new.save_waits ≡ self.old.save_waits }
     {

@@ -8,8 +8,8 @@ ghost use Rattle.ut_engine.specs.Runs.{Runs};
 ghost use Rattle.ut_gate.specs.Turns.{AddsOne};
 ghost use Rattle.ut_course.specs.Coming.{is_of_merge, length_after};
 ghost use Rattle.ut_crowd.specs.declared.book.Asked.TheVariants as asks;
-ghost use Rattle.ut_crowd.specs.Asking.{StoreAsks, begun_by};
-ghost use Rattle.ut_crowd.specs.Keepers.{AsksOnce, IsDated, is_refusal, kept_after, woken};
+ghost use Rattle.ut_crowd.specs.Asking.{StoreAsks, begun_by, is_refusal};
+ghost use Rattle.ut_crowd.specs.Keepers.{AsksOnce, IsDated, kept_after, woken};
 ghost use Rattle.ut_crowd.specs.Standing.{StandsOn, Starts};
 ghost use Rattle.ut_crowd.specs.Queues.{IsOver};
 
@@ -88,6 +88,7 @@ pub fn hall_of<'d, D: Disk, O: Opening>(
     requires starts { Starts O.ground lines.items engine.loan (D.view engine.disk) engine.store l1 }
     ensures stands { IfOk result (λ h. StandsOn O.ground h.queues.items h.book.items h.engine.loan (D.view h.engine.disk) h.engine.store h.job h.l1 h.last) }
     ensures job { IfOk result (λ h. h.job ≡ None) }
+    ensures fresh { IfOk result (λ h. (h.stopped ≡ false) × (h.save_waits ≡ false)) }
     ensures engine { IfOk result (λ h. h.engine ≡ engine.entry) }
     ensures err { IfErr result (λ b. b.value ≡ engine.entry) }
 {

@@ -2,7 +2,7 @@
 ghost use Rattle.std.specs.Prelude.{◌≡◌, ◌+◌, ◌<◌, ◌≤◌, false, None, Some, Err, length, ◌⊎◌, IsTrue, IsSome, IfOk, IfSome, IfNone};
 ghost use Rattle.ut_value.specs.Text.{is_name};
 ghost use Rattle.ut_plain.specs.declared.statement.Parsed.TheVariants.{Good};
-ghost use Rattle.ut_plain.specs.declared.statement.Statement.TheVariants.{MergeL1, MergeBegin};
+ghost use Rattle.ut_plain.specs.declared.statement.Statement.TheVariants.{MergeL1, MergeBegin, MergeEnd};
 ghost use Rattle.ut_plain.specs.Plain.{Plain};
 ghost use Rattle.ut_store.specs.Jobs.{pending_job};
 ghost use Rattle.ut_store.specs.Stands.{StandsFor};
@@ -10,8 +10,8 @@ ghost use Rattle.ut_gate.specs.Turns.{AddsOne, KeepsJob};
 ghost use Rattle.ut_engine.specs.Merging.{begin_reply};
 ghost use Rattle.ut_engine.specs.Runs.{Runs};
 ghost use Rattle.ut_course.specs.Coming.{Comes};
-ghost use Rattle.ut_crowd.specs.Asking.{first_full, kind_of_merge, merge_due, second_full, table_at};
-ghost use Rattle.ut_crowd.specs.Keepers.{AsksDue, BringsJob, EndsJob, IsDated, IsMergeDue, IsShared, KeepsUp, ended, is_refusal};
+ghost use Rattle.ut_crowd.specs.Asking.{first_full, is_refusal, kind_of_merge, merge_due, second_full, table_at};
+ghost use Rattle.ut_crowd.specs.Keepers.{AsksDue, BringsJob, EndsJob, IsDated, IsMergeDue, IsShared, KeepsUp, ended};
 ghost use Rattle.ut_crowd.specs.Queues.{IsOver};
 ghost use Rattle.ut_crowd.specs.Ripe.{place_of, ripe_of};
 ghost use Rattle.ut_crowd.specs.Standing.{StandsOn};
@@ -45,7 +45,7 @@ impl<'a, 'd, D: Disk + Send, O: Opening + Send, B: Build, H: Hook> Act<Hall<'d, 
     type Answer = Kept;
 
     ghost relates = { λ _ _ x y _ slip answer.
-        KeepsUp (IsOver x.stopped x.engine.store x.queues.items) (IsMergeDue x.l1 x.save_waits x.engine.store (D.view x.engine.disk)) (BringsJob slip.job) y.stopped y.engine.store.down x.book.items y.book.items answer
+        KeepsUp (IsOver x.stopped x.engine.store x.queues.items) (IsMergeDue x.l1 x.save_waits x.engine.store (D.view x.engine.disk)) (BringsJob slip.job) x.stopped y.stopped y.engine.store.down x.book.items y.book.items answer
         × IsDated (D.view y.engine.disk).moment x.book.items y.book.items
         × (y.save_waits ≡ x.save_waits) };
 
@@ -122,7 +122,7 @@ impl<'d, D: Disk, O: Opening> Hall<'d, D, O> {
         ensures stands { StandsOn O.ground self.new.queues.items self.new.book.items self.new.engine.loan (D.view self.new.engine.disk) self.new.engine.store self.new.job self.new.l1 self.new.last }
         ensures book { AddsOne self.old.book.items self.new.book.items }
         ensures job { KeepsJob self.old.job self.new.job None result.1 }
-        ensures kept { KeepsUp (IsOver self.old.stopped self.old.engine.store self.old.queues.items) (IsMergeDue self.old.l1 self.old.save_waits self.old.engine.store (D.view self.old.engine.disk)) (BringsJob result.1) self.new.stopped self.new.engine.store.down self.old.book.items self.new.book.items result.0 }
+        ensures kept { KeepsUp (IsOver self.old.stopped self.old.engine.store self.old.queues.items) (IsMergeDue self.old.l1 self.old.save_waits self.old.engine.store (D.view self.old.engine.disk)) (BringsJob result.1) self.old.stopped self.new.stopped self.new.engine.store.down self.old.book.items self.new.book.items result.0 }
         ensures dated { IsDated (D.view self.new.engine.disk).moment self.old.book.items self.new.book.items }
         ensures waits { self.new.save_waits ≡ self.old.save_waits }
     {
@@ -262,7 +262,7 @@ impl<'d, D: Disk, O: Opening> Hall<'d, D, O> {
             return Kept::Over;
         }
         let before = self.engine.journal_len();
-        let reply = end_merge(&mut self.engine, built);
+        let reply = end_pending(&mut self.engine, built);
         let turn = turn_of(
             &self.engine,
             0,
@@ -274,6 +274,17 @@ impl<'d, D: Disk, O: Opening> Hall<'d, D, O> {
         self.job = None;
         ended(self.engine.down())
     }
+}
+
+// The end of a pending merge with what was built of it, which isn't refused.
+fn end_pending<D: Disk>(engine: &mut Engine<'_, D>, built: Built) -> Reply
+    requires up { engine.old.store.down ≡ false }
+    requires built { pending_job engine.old.store.store ≡ Some built }
+    ensures comes { Comes engine.old.store (D.view engine.old.disk) (Good 0 MergeEnd) (Some 0) result engine.new.store (D.view engine.new.disk) }
+    ensures taken { is_refusal result ≡ false }
+    ensures loan { engine.new.loan ≡ engine.old.loan }
+{
+    end_merge(engine, built)
 }
 
 // The end of a merge lets the saver go on, which may have waited for it.

@@ -38,7 +38,7 @@ impl<'d, D: Disk + Send, O: Opening + Send> Act<Hall<'d, D, O>> for Saver {
     type Answer = Kept;
 
     ghost relates = { λ _ _ x y _ _ answer.
-        KeepsUp (IsOver x.stopped x.engine.store x.queues.items) (IsSaveDue x.last x.engine.store (D.view x.engine.disk)) (λ _. Unit {0}) y.stopped y.engine.store.down x.book.items y.book.items answer
+        KeepsUp (IsOver x.stopped x.engine.store x.queues.items) (IsSaveDue x.last x.engine.store (D.view x.engine.disk)) (λ _. Unit {0}) x.stopped y.stopped y.engine.store.down x.book.items y.book.items answer
         × ((IsOver x.stopped x.engine.store x.queues.items → ⊥) → IsWaiting x.last x.engine.store (D.view x.engine.disk) y.save_waits)
         × IsDated (D.view y.engine.disk).moment x.book.items y.book.items };
 
@@ -58,7 +58,7 @@ impl<'d, D: Disk, O: Opening> Hall<'d, D, O> {
         ensures stands { StandsOn O.ground self.new.queues.items self.new.book.items self.new.engine.loan (D.view self.new.engine.disk) self.new.engine.store self.new.job self.new.l1 self.new.last }
         ensures book { AddsOne self.old.book.items self.new.book.items }
         ensures job { self.new.job ≡ self.old.job }
-        ensures kept { KeepsUp (IsOver self.old.stopped self.old.engine.store self.old.queues.items) (IsSaveDue self.old.last self.old.engine.store (D.view self.old.engine.disk)) (λ _. Unit {0}) self.new.stopped self.new.engine.store.down self.old.book.items self.new.book.items result }
+        ensures kept { KeepsUp (IsOver self.old.stopped self.old.engine.store self.old.queues.items) (IsSaveDue self.old.last self.old.engine.store (D.view self.old.engine.disk)) (λ _. Unit {0}) self.old.stopped self.new.stopped self.new.engine.store.down self.old.book.items self.new.book.items result }
         ensures waits { (IsOver self.old.stopped self.old.engine.store self.old.queues.items → ⊥) → IsWaiting self.old.last self.old.engine.store (D.view self.old.engine.disk) self.new.save_waits }
         ensures dated { IsDated (D.view self.new.engine.disk).moment self.old.book.items self.new.book.items }
     {

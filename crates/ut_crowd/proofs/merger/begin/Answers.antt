@@ -6,7 +6,7 @@ use Rattle.ut_plain.specs.declared.reply.Reply.{Reply}
 use Rattle.ut_plain.specs.declared.reply.Reply.TheVariants as replies
 use Rattle.ut_course.specs.Coming.{Comes}
 use Rattle.ut_course.proofs.ComeLemmas.{comes_statement}
-use Rattle.ut_crowd.specs.Keepers.{is_refusal}
+use Rattle.ut_crowd.specs.Asking.{is_refusal}
 use Rattle.ut_crowd.proofs.KeeperLemmas.{begin_over}
 use Rattle.ut_crowd.proofs.merger.begin.Goals as goal
 

@@ -37,7 +37,7 @@ share-requires-clause-stands g c =
     subst (λ (job : Option JobValue). StandsOn g.O.Opening.ground c.args.self.now.queues.items c.push_reserved.new.self.items c.begin-reply.new.engine.loan now new job l1 last) (sym c.requires.none)
     (subst (λ (book : List Turn). StandsOn g.O.Opening.ground c.args.self.now.queues.items book c.begin-reply.new.engine.loan now new None l1 last) (sym (c.push_reserved.ensures.items ∙ ap (λ (b : List Turn). b ++ t ∷ []) c.reserve.ensures.items))
     (stands_jobless g.O.Opening.ground c.args.self.now.queues.items c.args.self.now.book.items c.args.self.now.engine.loan c.begin-reply.new.engine.loan was now old new c.args.self.now.job l1 last c.journal_len-before.result (statements.MergeBegin table kind) c.begin-reply.result.0 t
-    c.turn_of-turn.ensures c.journal_len-before.ensures refl spelled (λ p runs. Merges (due p runs)) refl c.begin-reply.ensures.comes c.begin-reply.ensures.loan c.requires.up (g.met.D.Disk.only_now c.begin-reply.new.engine.disk) (g.met.D.Disk.counts_now c.begin-reply.new.engine.disk) (g.met.D.Disk.seen_stays c.begin-reply.new.engine.disk) c.requires.stands))
+    c.turn_of-turn.ensures c.journal_len-before.ensures refl spelled (λ p runs. Merges (due p runs)) tt refl c.begin-reply.ensures.comes c.begin-reply.ensures.loan c.requires.up (g.met.D.Disk.only_now c.begin-reply.new.engine.disk) (g.met.D.Disk.counts_now c.begin-reply.new.engine.disk) (g.met.D.Disk.seen_stays c.begin-reply.new.engine.disk) c.requires.stands))
 
 pub returns-in_default-clause-kept : goal.returns-in_default-clause-kept
 returns-in_default-clause-kept g c =

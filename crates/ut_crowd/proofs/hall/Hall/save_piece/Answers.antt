@@ -35,5 +35,5 @@ returns-in-Some-clause-kept g c =
     let new = c.ask.new.self in
     let next = save_next last old was c.next_piece-piece.result c.next_piece-piece.ensures.next c.has_to_wait-self.result c.has_to_wait-self.ensures c.if-self.false in
     let due : IsSaveDue last old was (Some c.in-Some.piece) = subst (λ (o : Option Statement). IsSaveDue last old was o) c.in-Some.is next in
-    subst (λ (k : Kept). KeepsUp over (IsSaveDue last old was) (λ st. Unit {0}) new.stopped new.engine.store.down c.args.self.now.book.items new.book.items k) (sym c.woken.ensures)
-    (keeps_woken over (IsSaveDue last old was) new.stopped new.engine.store.down c.args.self.now.book.items new.book.items c.args.self.now.save_waits c.ask.result c.in-Some.piece (c.is_over.ensures.on c.if-is_over.false) due c.ask.ensures.kept)
+    subst (λ (k : Kept). KeepsUp over (IsSaveDue last old was) (λ st. Unit {0}) c.args.self.now.stopped new.stopped new.engine.store.down c.args.self.now.book.items new.book.items k) (sym c.woken.ensures)
+    (keeps_woken over (IsSaveDue last old was) c.args.self.now.stopped new.stopped new.engine.store.down c.args.self.now.book.items new.book.items c.args.self.now.save_waits c.ask.result c.in-Some.piece (c.is_over.ensures.on c.if-is_over.false) due c.ask.ensures.kept)

@@ -12,7 +12,7 @@ returns-in-Some-First-clause-kept g c =
     let over = IsOver c.args.self.now.stopped old c.args.self.now.queues.items in
     let due = IsMergeDue c.args.self.now.l1 c.args.self.now.save_waits old (g.D.Disk.view c.args.self.now.engine.disk) in
     let new = c.move_rows.new.self in
-    keeps_by over due (BringsJob None) new.stopped new.engine.store.down c.args.self.now.book.items new.book.items c.move_rows.result (c.is_over.ensures.on c.if-is_over.false) c.move_rows.ensures.kept
+    keeps_by over due (BringsJob None) c.args.self.now.stopped new.stopped new.engine.store.down c.args.self.now.book.items new.book.items c.move_rows.result (c.is_over.ensures.on c.if-is_over.false) c.move_rows.ensures.kept
 
 pub returns-else-self-clause-job : goal.returns-else-self-clause-job
 returns-else-self-clause-job g c =
@@ -26,4 +26,4 @@ returns-else-self-clause-kept g c =
     let over = IsOver c.args.self.now.stopped old c.args.self.now.queues.items in
     let due = IsMergeDue c.args.self.now.l1 c.args.self.now.save_waits old (g.D.Disk.view c.args.self.now.engine.disk) in
     let new = c.begin_merge.new.self in
-    keeps_by over due (BringsJob c.begin_merge.result.1) new.stopped new.engine.store.down c.args.self.now.book.items new.book.items c.begin_merge.result.0 (c.is_over.ensures.on c.if-is_over.false) c.begin_merge.ensures.kept
+    keeps_by over due (BringsJob c.begin_merge.result.1) c.args.self.now.stopped new.stopped new.engine.store.down c.args.self.now.book.items new.book.items c.begin_merge.result.0 (c.is_over.ensures.on c.if-is_over.false) c.begin_merge.ensures.kept
