@@ -2,7 +2,7 @@
 use std::alloc::{AllocError, Global};
 use std::process::Abort;
 use std::test::Fail;
-use ut_entry::{entry_from, op_len};
+use ut_entry::{add_op, begin_txn, entry_from, op_len};
 use ut_frame::Frame;
 use ut_value::{Op, same_bytes};
 
@@ -43,5 +43,22 @@ fn a_frame_grows_and_is_cleared(rt: HostRuntime) -> Result<(), Fail> {
     assert!(rt; same_bytes(frame.payload(), DELETE));
     frame.clear();
     assert!(rt; same_bytes(frame.as_slice(), b"\x05\0\0\0\x02\0\0\0\0\0"));
+    Ok(())
+}
+
+// The payload of a transaction that grows by a delete, in room that is made for it.
+fn grown_payload(alloc: Global) -> Result<Vec<u8>, AllocError> {
+    let op = Op::Delete { table: 3, id: 10 };
+    let mut payload = Vec::new(alloc);
+    begin_txn(&mut payload)?;
+    payload.reserve(op_len(&op) as usize)?;
+    add_op(&mut payload, &op);
+    Ok(payload)
+}
+
+#[test]
+fn a_payload_begins_and_grows(rt: HostRuntime) -> Result<(), Fail> {
+    let payload = grown_payload(rt.alloc())?;
+    assert!(rt; same_bytes(&payload, DELETE));
     Ok(())
 }
