@@ -1,3 +1,5 @@
+pub mod LoopLemmas
+pub mod QuotedLemmas
 pub mod RoomLemmas
 pub mod RowLemmas
 pub mod RunLemmas
