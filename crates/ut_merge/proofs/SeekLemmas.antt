@@ -1,9 +1,10 @@
 -- The closed stage's keys: which of them are new, and the dictionary of these.
-use Rattle.std.proofs.Common.{◌≡◌, ◌≢◌, set, ◌↔◌, inl, inr, ℕ, zero, suc, ◌+◌, ◌<◌, ◌≤◌, List, [], ◌∷◌, ◌++◌, length, take, get_or, filter, All, refl, sym, ◌∙◌, ap, subst, arith, Bool, true, false, not, cond, ◌&&◌, Option, Some, None, true≢false}
+use Rattle.std.proofs.Common.{◌≡◌, ◌≢◌, set, ◌↔◌, inl, inr, ℕ, zero, suc, ◌+◌, ◌*◌, ◌<◌, ◌≤◌, List, [], ◌∷◌, ◌++◌, length, take, get_or, filter, All, refl, sym, ◌∙◌, ap, subst, arith, Bool, true, false, not, cond, ◌&&◌, Option, Some, None, true≢false}
 use Rattle.std.specs.List.{Contains, range_with_len}
 use Rattle.std.specs.List.Sorted.{IsPermutation}
 use Rattle.std.proofs.lemmas.Bool.{cases_lt}
 use Rattle.std.proofs.lemmas.Bool.Decides.{eqb_tells}
+use Rattle.std.proofs.Math.Nat.{mul-le-mul_left}
 use Rattle.std.proofs.lemmas.List.{take_more, length-take-le, length-map, get_or-map, get_or-take, get_or-set_same, get_or-set_other, get_or_append_left, get_or_at, get_or_default, same_lists}
 use Rattle.std.proofs.lemmas.List.FromFn.{length-range_with_len, get_or-range_with_len}
 use Rattle.std.proofs.lemmas.List.Elements.{Contains-get_or}
@@ -242,3 +243,12 @@ module _ (closed : List (List ℕ)) (new : List Bool) (codes : List ℕ) (keys :
         get_or_default entries k d None lt ∙ entry k low ∙ get_or_default (places keys closed new) k None d (omega (arith, low, long)));
     few = omega (arith, length-keys, few_codes);
   }
+
+-- the steps of one search more
+pub steps_so_far : (most code initial now new : ℕ) → now ≤ initial + code * most → new ≤ now + most → new ≤ initial + (code + 1) * most
+steps_so_far most code initial now new h n = omega (arith, h, n)
+
+pub steps_in_all : (most code n initial new : ℕ) → code ≤ n → new ≤ initial + code * most → new ≤ initial + n * most
+steps_in_all most code n initial new le h =
+    let more = mul-le-mul_left most le in
+    omega (arith, h, more)

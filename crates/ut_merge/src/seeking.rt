@@ -1,11 +1,11 @@
 //! The keys of the closed stage that a column of the new part has: those that stand in a dictionary
 //! that stays, and the new ones.
-ghost use Rattle.std.specs.Prelude.{◌≡◌, ◌↔◌, ◌^◌, ◌<◌, ◌≤◌, ◌&&◌, ℕ, [], true, false, not, length, get_or, All, IfOk};
+ghost use Rattle.std.specs.Prelude.{◌≡◌, ◌↔◌, ◌+◌, ◌*◌, ◌^◌, ◌<◌, ◌≤◌, ◌&&◌, ℕ, [], true, false, not, length, get_or, All, IfOk};
 ghost use Rattle.ut_own.specs.Own.{holds};
 ghost use Rattle.std.specs.List.{Contains};
 ghost use Rattle.ut_key.specs.Keys.{IsAscending};
 ghost use Rattle.ut_unsorted.specs.FirstSeen.{keys_at};
-ghost use Rattle.ut_prefix.specs.Chain.{end_to_end};
+ghost use Rattle.ut_prefix.specs.Chain.{chain_steps, end_to_end};
 ghost use Rattle.ut_merge.specs.Uniting.{new_flags, AreFound, IsFound, IsUnited};
 
 use crate::uniting::United;
@@ -29,10 +29,11 @@ struct Seen {
     code: Option<u32>,
 }
 
-/// Looks for a key in the dictionaries that stay, where it is used.
+/// Looks for a key in the dictionaries that stay, once, where it is used.
 fn look<L: Ledger>(key: &[u8], is_used: bool, chain: &DictChain, steps: &mut Steps<L>) -> Seen
     ensures new { result.is_new ≡ (is_used && not (holds (end_to_end chain.now) key.now)) }
     ensures found { IsFound (end_to_end chain.now) key.now is_used result.code }
+    ensures cost { steps.new ≤ steps.old + chain_steps chain.now }
 {
     if !is_used {
         return Seen {
@@ -52,7 +53,7 @@ fn look<L: Ledger>(key: &[u8], is_used: bool, chain: &DictChain, steps: &mut Ste
     }
 }
 
-/// Looks for each used key in the dictionaries that stay.
+/// Looks for each used key in the dictionaries that stay, once.
 pub(crate) fn seek<L: Ledger>(
     alloc: Global,
     closed: &UnsortedDict,
@@ -65,6 +66,7 @@ pub(crate) fn seek<L: Ledger>(
     ensures new { IfOk result (λ sought. sought.new.items ≡ new_flags (end_to_end chain.now) closed.now used.now) }
     ensures count { IfOk result (λ sought. length sought.found.items ≡ length closed.now) }
     ensures found { IfOk result (λ sought. AreFound (end_to_end chain.now) closed.now used.now sought.found.items) }
+    ensures cost { IfOk result (λ _. steps.new ≤ steps.old + length closed.now * chain_steps chain.now) }
 {
     let mut new = Vec::with_capacity(alloc, used.len())?;
     let mut found = Vec::with_capacity(alloc, used.len())?;

@@ -1,5 +1,5 @@
 //! Words in ascending order, which are found without a hash.
-ghost use Rattle.std.specs.Prelude.{◌≡◌, ◌^◌, ◌<◌, [], length, take, position, IfOk, IfSome, OnErr};
+ghost use Rattle.std.specs.Prelude.{◌≡◌, ◌+◌, ◌^◌, ◌<◌, ◌≤◌, ℕ, [], length, slice_index_or, take, position, IfOk, IfSome, OnErr};
 ghost use Rattle.std.specs.Int.{to_be_bytes, w64};
 ghost use Rattle.std.specs.List.{position_or_len, IsDistinct};
 ghost use Rattle.ut_key.specs.Keys.{IsAscending};
@@ -8,7 +8,9 @@ ghost use Rattle.ut_unsorted.specs.Rising.{risen};
 
 use crate::key::Word;
 use std::alloc::{AllocError, Global};
-use std::marker::Model;
+use std::marker::{Brand, Model};
+use std::sync::ledger::{Blank, Ledger};
+use ut_key::Steps;
 
 /// Words in ascending order, as ids that only grow.
 #[derive(Drop)]
@@ -59,7 +61,7 @@ impl Rising {
             self.words.push(word)?;
             return Ok(Some(len as u32));
         }
-        Ok(find(self.words.as_slice(), number))
+        Ok(counted_find::<Brand>(self.words.as_slice(), number, Blank::new(1)))
     }
 
     /// The place of a word that is held.
@@ -71,7 +73,7 @@ impl Rising {
         if key.len() != 8 {
             return None;
         }
-        find(words, Word::of(key).number())
+        counted_find::<Brand>(words, Word::of(key).number(), Blank::new(1))
     }
 
     /// Keeps the first n words.
@@ -82,24 +84,48 @@ impl Rising {
     }
 }
 
+/// The number that a word spells. This is one step.
+fn number_at<L: Ledger>(words: &[Word], i: usize, steps: &mut Steps<L>) -> u64
+    requires { i < length words.now }
+    ensures number { to_be_bytes w64 result ≡ slice_index_or words.now i [] }
+    ensures step { steps.new ≡ steps.old + 1 }
+{
+    steps.tick();
+    words[i].number()
+}
+
 /// The place of the word that spells a number, by binary search.
-fn find(words: &[Word], number: u64) -> Option<u32>
+fn find<L: Ledger>(words: &[Word], number: u64, steps: &mut Steps<L>) -> Option<u32>
     requires few { length words.now < 2 ^ 32 }
     requires ascending { IsAscending words.now }
-    ensures { result ≡ position (key_eq (to_be_bytes w64 number)) words.now }
+    ensures place { result ≡ position (key_eq (to_be_bytes w64 number)) words.now }
+    ensures cost { (digits : ℕ) → length words.now < 2 ^ digits → steps.new ≤ steps.old + digits + 1 }
 {
     let mut low = 0;
     let mut high = words.len();
     while low < high {
         let middle = low + (high - low) / 2;
-        if words[middle].number() < number {
+        if number_at(words, middle, steps) < number {
             low = middle + 1;
         } else {
             high = middle;
         }
     }
-    if low < words.len() && words[low].number() == number {
+    if low < words.len() && number_at(words, low, steps) == number {
         return Some(low as u32);
     }
     None
+}
+
+/// The same, with a counter for its steps over a new ledger.
+fn counted_find<L: Ledger>(words: &[Word], number: u64, blank: Blank) -> Option<u32>
+    requires name { blank.name ≡ L.name }
+    requires parts { blank.parts ≡ L.parts }
+    requires positive { 0 < blank.parts }
+    requires few { length words.now < 2 ^ 32 }
+    requires ascending { IsAscending words.now }
+    ensures { result ≡ position (key_eq (to_be_bytes w64 number)) words.now }
+{
+    let mut steps = Steps::<L>::new(blank);
+    find(words, number, &mut steps)
 }

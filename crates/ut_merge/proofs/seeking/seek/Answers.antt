@@ -1,9 +1,9 @@
 use Rattle.std.proofs.Common.{◌∙◌, ◌+◌, ◌<◌, ◌++◌, [], ◌∷◌, List, ℕ, false, not, ◌&&◌, length, get_or, sym, ap, subst, arith}
 use Rattle.std.proofs.lemmas.List.{length-append}
 use Rattle.ut_own.specs.Own.{holds}
-use Rattle.ut_prefix.specs.Chain.{end_to_end}
+use Rattle.ut_prefix.specs.Chain.{chain_steps, end_to_end}
 use Rattle.ut_merge.specs.Uniting.{IsFound}
-use Rattle.ut_merge.proofs.SeekLemmas.{found-more, new_flags-more}
+use Rattle.ut_merge.proofs.SeekLemmas.{found-more, new_flags-more, steps_in_all, steps_so_far}
 use Rattle.ut_merge.proofs.seeking.seek.Goals as goal
 
 pub loop-code-preserved : goal.loop-code-preserved
@@ -18,4 +18,9 @@ loop-code-preserved g c =
       c.in_ok-push.ensures.items ∙ (λ k. c.loop-code.invariant.0 k ++ is_new k ∷ []) ∙ sym (new_flags-more stay keys flags i lt c.requires.flags),
       ap length c.in_ok-push-2.ensures.items ∙ length-append c.loop-code.found.items (c.look-seen.result.code ∷ []) ∙ ap (λ n. n + 1) c.loop-code.invariant.1,
       found-more stay keys flags c.loop-code.found.items c.push-in-loop-code.new.self.items i c.look-seen.result.code lt c.loop-code.invariant.1 c.loop-code.invariant.2 seen c.in_ok-push-2.ensures.items,
+      steps_so_far (chain_steps c.args.chain.now) i c.args.steps.now c.loop-code.steps c.look-seen.new.steps c.loop-code.invariant.3 c.look-seen.ensures.cost,
     )
+
+pub returns-clause-cost : goal.returns-clause-cost
+returns-clause-cost g c =
+    steps_in_all (chain_steps c.args.chain.now) c.loop-code.code (length c.args.closed.now) c.args.steps.now c.loop-code.steps (omega (arith, c.len-code-end.ensures, c.loop-code.auto.code-end)) c.loop-code.invariant.3

@@ -39,6 +39,6 @@ pub returns-then-len-eq0-clause-keys : goal.returns-then-len-eq0-clause-keys
 returns-then-len-eq0-clause-keys c = c.in_ok-push.ensures.items ∙ rising-note c.self.inside.words.items c.args.word c.self.invariant.0 (above c) ∙ ap (λ l. note l c.args.word) c.self.view_is
 
 pub returns-clause-keys : goal.returns-clause-keys
-returns-clause-keys c = risen-found c.find.result c.args.self.now c.args.word (
-    c.find.ensures ∙ ap (λ q. position (key_eq q) c.as_slice.result.now) c.number-number.ensures
+returns-clause-keys c = risen-found c.counted_find.result c.args.self.now c.args.word (
+    c.counted_find.ensures ∙ ap (λ q. position (key_eq q) c.as_slice.result.now) c.number-number.ensures
     ∙ ap (position (key_eq c.args.word)) (c.as_slice.ensures.value ∙ c.self.view_is))
