@@ -1,9 +1,11 @@
 //! The store and the disk that it is lent.
-ghost use Rattle.std.specs.Prelude.{◌≡◌, ◌<◌, ◌≤◌, ◌^◌, false, IfOk, IsTrue};
+ghost use Rattle.std.specs.Prelude.{◌≡◌, ◌<◌, ◌≤◌, ◌^◌, ℕ, false, IfOk, IsTrue};
+ghost use Rattle.ut_plain.specs.declared.reply.Reply.TheVariants as replies;
 ghost use Rattle.ut_plain.specs.declared.statement.Statement.TheVariants as statements;
 ghost use Rattle.ut_plain.specs.Spelled.{is_spelled};
 ghost use Rattle.ut_store.specs.Standing.{suits_session};
 ghost use Rattle.ut_engine.specs.Restoring.{Restores};
+ghost use Rattle.ut_engine.specs.Saves.{HasPlanned};
 ghost use Rattle.ut_engine.specs.Serves.{Serves};
 ghost use Rattle.ut_engine.specs.Beginning.{disk_left, loan_left, store_or_cause, Makes, Reopens};
 
@@ -72,6 +74,8 @@ impl<'d, D: Disk> Engine<'d, D> {
         ensures serves { Serves self.old.store (D.view self.old.disk) session st.now result self.new.store (D.view self.new.disk) }
         // The drop of a savepoint calls no disk.
         ensures dropped { st.now ≡ statements.SaveDrop → self.new.disk ≡ self.old.disk }
+        // A begun savepoint takes the least pages that aren't reached.
+        ensures planned { st.now ≡ statements.SaveBegin → (pages : ℕ) → result ≡ replies.Saving 0 pages → HasPlanned self.old.store self.new.store.saving pages }
         ensures loan { self.new.loan ≡ self.old.loan }
     {
         self.store.statement(alloc, self.disk, session, st)

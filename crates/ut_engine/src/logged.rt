@@ -1,10 +1,11 @@
 //! The store and its files.
-ghost use Rattle.std.specs.Prelude.{◌≡◌, ◌<◌, ◌≤◌, ◌^◌, Some, false, IsTrue, IfOk, OnOk, IsErrOf};
+ghost use Rattle.std.specs.Prelude.{◌≡◌, ◌<◌, ◌≤◌, ◌^◌, ℕ, Some, false, IsTrue, IfOk, OnOk, IsErrOf};
 ghost use Rattle.ut_outside.specs.declared.disk.Which.{Which};
 ghost use Rattle.ut_outside.specs.Disk.{IsTold, content};
 ghost use Rattle.ut_outside.specs.Faults.{Rose, HasCause};
 ghost use Rattle.ut_outside.specs.Run.{Always, LeavesOnly, ReadsOnly};
 ghost use Rattle.ut_pages.specs.Layout.{IsMade};
+ghost use Rattle.ut_plain.specs.declared.reply.Reply.TheVariants as replies;
 ghost use Rattle.ut_plain.specs.declared.statement.Statement.TheVariants as statements;
 ghost use Rattle.ut_plain.specs.Journal.{Journal};
 ghost use Rattle.ut_plain.specs.Plain.{Plain};
@@ -17,6 +18,7 @@ ghost use Rattle.ut_engine.specs.Handing.{AreReady, Concludes, HandsOut};
 ghost use Rattle.ut_engine.specs.Merging.{BringsJob, EndsMerge};
 ghost use Rattle.ut_engine.specs.Opening.{MayOnlyRead};
 ghost use Rattle.ut_engine.specs.Runs.{Runs, IsNew, Opens, NotMadeOrEmpty};
+ghost use Rattle.ut_engine.specs.Saves.{HasPlanned};
 ghost use Rattle.ut_engine.specs.Serves.{Serves};
 
 use crate::error::OpenError;
@@ -144,6 +146,8 @@ impl LoggedStore {
         ensures serves { Serves self.old (D.view disk.old) session st.now result self.new (D.view disk.new) }
         // A drop calls no disk.
         ensures dropped { st.now ≡ statements.SaveDrop → disk.new ≡ disk.old }
+        // A begun savepoint takes the least pages that aren't reached.
+        ensures planned { st.now ≡ statements.SaveBegin → (pages : ℕ) → result ≡ replies.Saving 0 pages → HasPlanned self.old self.new.saving pages }
     {
         if is_save(st) {
             return self.save(alloc, disk, st);

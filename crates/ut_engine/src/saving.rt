@@ -37,6 +37,7 @@ impl LoggedStore {
         requires runs { (p : Plain) × Runs self.old (D.view disk.old) p }
         ensures serves { (session : ℕ) → Serves self.old (D.view disk.old) session st.now result self.new (D.view disk.new) }
         ensures dropped { st.now ≡ statements.SaveDrop → disk.new ≡ disk.old }
+        ensures planned { st.now ≡ statements.SaveBegin → (pages : ℕ) → result ≡ replies.Saving 0 pages → HasPlanned self.old self.new.saving pages }
     {
         match st {
             Statement::SaveBegin => self.save_begin(alloc, disk),

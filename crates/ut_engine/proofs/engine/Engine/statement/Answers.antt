@@ -1,5 +1,6 @@
 use Rattle.std.proofs.Common.{◌≡◌, false, sym, ◌∙◌, ap, subst}
 use Rattle.ut_engine.specs.Lent.{Lent}
+use Rattle.ut_engine.specs.Saves.{HasPlanned}
 use Rattle.ut_engine.proofs.LentLemmas.{goes_on}
 use Rattle.ut_engine.proofs.engine.Engine.statement.Goals as goal
 
@@ -13,3 +14,7 @@ invariant_of-self g c =
 
 pub returns-clause-dropped : goal.returns-clause-dropped
 returns-clause-dropped g c is = c.statement.ensures.dropped is ∙ ap (λ (e : Lent g.row.D.Denot). e.disk) c.self.view_is
+
+pub returns-clause-planned : goal.returns-clause-planned
+returns-clause-planned g c is pages told =
+    subst (λ (x : Lent g.row.D.Denot). HasPlanned x.store c.statement.new.self.saving pages) c.self.view_is (c.statement.ensures.planned is pages told)

@@ -1,4 +1,4 @@
-use Rattle.std.proofs.Common.{◌≡◌, ℕ, refl, sym, subst, IsTrue}
+use Rattle.std.proofs.Common.{◌≡◌, ◌∙◌, ℕ, refl, sym, subst, IsTrue}
 use Rattle.ut_plain.specs.declared.statement.Statement.{Statement}
 use Rattle.ut_plain.specs.declared.statement.Statement.TheVariants as statements
 use Rattle.ut_plain.specs.Refusals.{is_save}
@@ -24,3 +24,31 @@ returns-in-SaveFlip-clause-serves g c session =
 pub returns-in-SaveDrop-clause-serves : goal.returns-in-SaveDrop-clause-serves
 returns-in-SaveDrop-clause-serves g c session =
     subst (λ (st : Statement). Serves c.args.self.now (g.D.Disk.view c.args.disk.now) session st c.save_drop.result c.save_drop.new.self (g.D.Disk.view c.args.disk.now)) (sym c.in-SaveDrop.is) (c.save_drop.ensures.serves session)
+
+-- what begins no savepoint
+step_begins : (n : ℕ) → statements.SaveStep n ≡ statements.SaveBegin → ⊥
+step_begins n e = cc
+
+seal_begins : statements.SaveSeal ≡ statements.SaveBegin → ⊥
+seal_begins e = cc
+
+flip_begins : statements.SaveFlip ≡ statements.SaveBegin → ⊥
+flip_begins e = cc
+
+drop_begins : statements.SaveDrop ≡ statements.SaveBegin → ⊥
+drop_begins e = cc
+
+pub returns-in-SaveBegin-clause-planned : goal.returns-in-SaveBegin-clause-planned
+returns-in-SaveBegin-clause-planned g c is pages told = c.save_begin.ensures.planned pages told
+
+pub returns-in-SaveStep-clause-planned : goal.returns-in-SaveStep-clause-planned
+returns-in-SaveStep-clause-planned g c is pages told = absurd (step_begins _ (sym c.in-SaveStep.is ∙ is))
+
+pub returns-in-SaveSeal-clause-planned : goal.returns-in-SaveSeal-clause-planned
+returns-in-SaveSeal-clause-planned g c is pages told = absurd (seal_begins (sym c.in-SaveSeal.is ∙ is))
+
+pub returns-in-SaveFlip-clause-planned : goal.returns-in-SaveFlip-clause-planned
+returns-in-SaveFlip-clause-planned g c is pages told = absurd (flip_begins (sym c.in-SaveFlip.is ∙ is))
+
+pub returns-in-SaveDrop-clause-planned : goal.returns-in-SaveDrop-clause-planned
+returns-in-SaveDrop-clause-planned g c is pages told = absurd (drop_begins (sym c.in-SaveDrop.is ∙ is))
