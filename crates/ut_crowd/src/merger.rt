@@ -64,7 +64,7 @@ impl<'a, 'd, D: Disk + Send, O: Opening + Send, B: Build, H: Hook> Builds<Hall<'
 
     ghost ready = { λ m. B.ready m.builder.now };
 
-    ghost unbuilt = { λ _ _. Unit {0} };
+    ghost unbuilt = { λ m job. B.lacks m.builder.now job };
 
     fn build(&self, job: &Job) -> Option<EndJob> {
         self.hook.reach(Point::JobTaken);

@@ -1,6 +1,7 @@
 //! Who builds: for callers that start no threads.
-ghost use Rattle.std.specs.Prelude.{◌≡◌, ◌≤◌, IfOk};
+ghost use Rattle.std.specs.Prelude.{◌≡◌, ◌≤◌, IfOk, IsErr};
 ghost use Rattle.std.specs.Thread.{IsSync};
+ghost use Rattle.ut_merge.specs.Jobs.{JobValue};
 
 use crate::building::build;
 use crate::built::Built;
@@ -15,11 +16,15 @@ pub trait Build {
     /// a `Builder` knows it, and whoever takes a builder from there requires it.
     ghost ready: { Self → Type 0 };
 
+    /// What is known where a job isn't built.
+    ghost lacks: { Self → JobValue → Type 0 };
+
     /// The new part of a job, and with it main as it is behind the merge. The job stays as it is,
     /// also where memory is refused, and may be built again.
     fn build(&self, alloc: Global, job: &Job) -> Result<Built, AllocError>
         requires { ready self.now }
-        ensures { IfOk result (λ built. built ≡ job.now) };
+        ensures built { IfOk result (λ built. built ≡ job.now) }
+        ensures lacks { IsErr result → lacks self.now job.now };
 }
 
 /// Builds in a number of pieces on threads, and calls a hook behind each build.
@@ -51,6 +56,9 @@ impl<'a, R, H> Builder<'a, R, H> {
 impl<R: Threads + Sync, H: Hook> Build for Builder<'_, R, H> {
     /// Its handle may be shared among threads.
     ghost ready = { λ _. IsSync R.row };
+
+    /// Memory was wanting, of which nothing is said.
+    ghost lacks = { λ _ _. Unit {0} };
 
     fn build(&self, alloc: Global, job: &Job) -> Result<Built, AllocError> {
         build(self.rt, alloc, job, self.pieces, self.hook)
