@@ -1,3 +1,4 @@
+//! Codes of a few bits each, side by side, read one by one.
 ghost use Rattle.std.specs.Prelude.{◌≡◌, ◌+◌, ◌*◌, ◌/◌, ◌%◌, ◌^◌, ◌<◌, ◌≤◌, length, slice_index, IsTrue, ◌↔◌, IfOk, IfSome, IfNone, OnOk, OnErr, ◌++◌, ◌∷◌, [], ◌≢◌, List, ℕ, take};
 ghost use Rattle.ut_bits.specs.Bits.{AllBelow, packed_bytes, number_of, byte_count, joined};
 ghost use Rattle.ut_bits.specs.Coded.{HasCodes, IsRead};

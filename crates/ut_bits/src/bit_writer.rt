@@ -1,3 +1,4 @@
+//! Numbers of a few bits each, written one behind the other.
 ghost use Rattle.std.specs.Prelude.{◌≡◌, ◌+◌, ◌*◌, ◌^◌, ◌<◌, ◌≤◌, length, IfOk, OnOk, OnErr};
 ghost use Rattle.ut_bits.specs.Bits.{bytes_of, byte_count};
 

@@ -1,3 +1,4 @@
+//! A list that grows, or is cut back where there is no memory.
 ghost use Rattle.std.specs.Prelude.{◌≡◌, ◌++◌, ◌∷◌, [], take, OnOk, OnErr};
 
 use std::alloc::AllocError;

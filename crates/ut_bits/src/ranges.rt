@@ -1,3 +1,4 @@
+//! Ranges of codes.
 ghost use Rattle.std.specs.Prelude.{◌≡◌, ◌-◌, ◌≤◌, ◌++◌, OnOk, OnErr};
 ghost use Rattle.std.specs.List.{range_with_len};
 ghost use Rattle.ut_bits.specs.Places.{is_in};

@@ -1,3 +1,4 @@
+//! Numbers as bytes spell them.
 ghost use Rattle.std.specs.Prelude.{◌≡◌, ◌≤◌, ◌++◌, length, OnOk, OnErr};
 ghost use Rattle.ut_bits.specs.Words.{word_bytes, word_in};
 

@@ -1,3 +1,4 @@
+//! A code vector in any of its forms.
 ghost use Rattle.std.specs.Prelude.{◌≡◌, ◌+◌, ◌^◌, ◌<◌, ◌≤◌, length, slice_index, take, drop, map, List, ℕ, ◌≢◌, IfOk, IfSome, IfNone, OnOk, OnErr, ◌++◌};
 ghost use Rattle.ut_bits.specs.Bits.{AllBelow};
 ghost use Rattle.ut_bits.specs.Places.{is_in, places_where};

@@ -1,3 +1,4 @@
+//! The forms of a code vector.
 ghost use Rattle.std.specs.Prelude.{◌≡◌, ◌+◌, ◌*◌, ◌≤◌};
 ghost use Rattle.ut_codes.specs.Sizes.{code_width, IsWidth};
 

@@ -1,3 +1,4 @@
+//! A code vector out of its bytes.
 ghost use Rattle.std.specs.Prelude.{◌≡◌, ◌^◌, ◌≤◌, ◌↔◌, IsTrue, ◌++◌, ◌≢◌, List, ℕ, length, take, IfOk, IfSome, IfNone};
 ghost use Rattle.ut_bits.specs.Bits.{AllBelow};
 ghost use Rattle.ut_codes.specs.Sizes.{code_width};

@@ -1,3 +1,4 @@
+//! A mask over places, a bit each.
 ghost use Rattle.std.specs.Prelude.{◌≡◌, ◌+◌, ◌-◌, ◌*◌, ◌^◌, ◌<◌, ◌≤◌, ℕ, length, take, drop, replicate, true, false, not, slice_index_or, IfOk, IfSome, IfNone};
 ghost use Rattle.std.specs.List.{list_all, count_by};
 ghost use Rattle.ut_mask.specs.Mask.{kept_from, word_bits, IsNext};

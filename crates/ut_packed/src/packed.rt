@@ -1,3 +1,4 @@
+//! A code vector of equal widths, with the bounds of its blocks.
 ghost use Rattle.std.specs.Prelude.{◌≡◌, ◌^◌, ◌<◌, ◌≤◌, length, slice_index, IfOk, IfSome, IfNone, OnOk, OnErr, ◌++◌, ◌+◌, ◌∷◌, [], ◌≢◌, List, ℕ, take, drop, map};
 ghost use Rattle.ut_bits.specs.Bits.{AllBelow, packed_bytes};
 ghost use Rattle.ut_bits.specs.Coded.{HasCodes, IsRead};

@@ -1,3 +1,4 @@
+//! Runs out of their bytes.
 ghost use Rattle.std.specs.Prelude.{◌≡◌, ◌^◌, ◌≤◌, ◌/◌, length, IfOk, IfSome, IfNone, ◌≢◌, drop};
 ghost use Rattle.ut_bits.specs.Words.{word_in};
 ghost use Rattle.ut_rle.specs.Runs.{AreRuns, is_last_code, entries_in, rows_of};

@@ -1,3 +1,4 @@
+//! Looking for a row, or for codes, among runs.
 ghost use Rattle.std.specs.Prelude.{◌≡◌, ◌<◌, ◌≤◌, ◌+◌, ◌-◌, length, slice_index, map, nat_lt, OnOk, OnErr, ◌++◌};
 ghost use Rattle.std.specs.List.{list_all};
 ghost use Rattle.ut_bits.specs.Places.{is_in, places_where};

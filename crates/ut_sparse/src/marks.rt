@@ -1,3 +1,4 @@
+//! Ranks of marked rows.
 ghost use Rattle.std.specs.Prelude.{◌≡◌, ◌+◌, ◌*◌, ◌/◌, ◌%◌, ◌^◌, ◌<◌, ◌≤◌, ◌++◌, length, slice_index, take, drop, IfOk};
 ghost use Rattle.ut_bits.specs.Bits.{AllBelow, joined};
 ghost use Rattle.ut_sparse.specs.Sparse.{AreRanks, marked, merged, AreSparse};

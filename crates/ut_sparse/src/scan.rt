@@ -1,3 +1,4 @@
+//! Looking for codes in a sparse vector.
 ghost use Rattle.std.specs.Prelude.{◌≡◌, ◌+◌, ◌*◌, ◌<◌, ◌≤◌, ◌++◌, length, take, drop, map, false, true, OnOk, OnErr};
 ghost use Rattle.ut_bits.specs.Places.{is_in, places_where, places_from};
 ghost use Rattle.ut_mask.specs.Mask.{both};
