@@ -4,7 +4,7 @@ ghost use Rattle.ut_run.specs.declared.report.Status.TheVariants.{Done};
 
 use crate::told::Script;
 use check_run::run::Ran;
-use check_told::has_told;
+use check_run::verdict::has_told;
 use std::alloc::{AllocError, Global};
 use ut_app::Status;
 

@@ -4,3 +4,4 @@
 pub mod run;
 pub mod saved;
 pub mod told;
+pub mod verdict;

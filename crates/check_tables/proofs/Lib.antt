@@ -1,2 +1,3 @@
 pub mod InsertLemmas
+pub mod OneRowLemmas
 pub mod TablesLemmas

@@ -1,7 +1,7 @@
 //! The rows of a file, and what is said of them.
 use crate::{program, slow};
 use anyhow::Result;
-use check_told::Tally;
+use check_run::verdict::Tally;
 use row_files::{Row, rows_of};
 use std::alloc::Global;
 use std::process::ExitCode;

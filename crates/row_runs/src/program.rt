@@ -2,7 +2,7 @@
 use crate::wrong::say_wrong;
 use anyhow::Result;
 use check_run::run::copy_of;
-use check_told::Tally;
+use check_run::verdict::Tally;
 use row_files::Row;
 use row_tries::{Found, check_row};
 use std::alloc::{AllocError, Global};

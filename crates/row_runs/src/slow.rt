@@ -2,8 +2,8 @@
 use crate::wrong::say_wrong;
 use anyhow::Result;
 use check_oracle::Oracle;
+use check_run::verdict::{Tally, is_right};
 use check_scripts::Answers;
-use check_told::{Tally, is_right};
 use row_files::{MOST_IDS, Row};
 use std::alloc::{AllocError, Global};
 

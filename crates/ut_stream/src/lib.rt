@@ -5,8 +5,6 @@ mod frames;
 mod front;
 mod laws;
 mod payload;
-#[cfg(test)]
-mod tests;
 
 pub use frames::{Frames, Heard};
 pub use laws::stream_laws;

@@ -1,5 +1,0 @@
-//! Checks of a shot.
-#![tactic(auto)]
-
-#[cfg(test)]
-mod shot;
