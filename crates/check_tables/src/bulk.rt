@@ -66,14 +66,6 @@ fn has_len(rt: &impl Abort, bulk: Bulk<'_>, most: u32, len: Option<u32>) {
     assert_eq!(rt; bulk.ops_len(most), len, "at most {most}");
 }
 
-fn has_bytes(rt: &impl Abort, bulk: Bulk<'_>, bytes: u32) {
-    can_load(rt, bulk);
-    match bulk.ops_len(1000) {
-        Some(_) => assert_eq!(rt; bulk.bytes(), bytes),
-        None => panic!(rt; "over a thousand bytes"),
-    }
-}
-
 fn have_lengths(rt: &impl Abort, values: &[Value]) {
     let table = [(1 << 30, Some(41)), (41, Some(41)), (40, None), (0, None)];
     for (most, len) in table {
@@ -86,7 +78,7 @@ fn have_lengths(rt: &impl Abort, values: &[Value]) {
 fn have_bytes(rt: &impl Abort, values: &[Value]) {
     for (count, bytes) in [(0, 0), (1, 17), (2, 20), (3, 37), (4, 41)] {
         assert!(rt; count <= values.len());
-        has_bytes(rt, pairs(&values[..count]), bytes);
+        has_len(rt, pairs(&values[..count]), 1000, Some(bytes));
     }
 }
 
@@ -119,12 +111,15 @@ fn is_logged(rt: &impl Abort, alloc: Global, frame: &Frame, bytes: &[u8]) -> Res
     Ok(())
 }
 
+// The frame of an entry of the inserts.
 fn framed(rt: &impl Abort, alloc: Global, bulk: Bulk<'_>) -> Result<Frame, AllocError> {
     can_load(rt, bulk);
+    let mut frame = Frame::txn(alloc)?;
     match bulk.ops_len(1000) {
-        Some(_) => bulk.framed(alloc),
+        Some(bytes) => bulk.spell(&mut frame, bytes)?,
         None => panic!(rt; "over a thousand bytes"),
     }
+    Ok(frame)
 }
 
 fn is_framed(rt: &impl Abort, alloc: Global, bulk: Bulk<'_>, bytes: &[u8]) -> Result<(), Fail> {

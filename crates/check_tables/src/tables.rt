@@ -1,21 +1,22 @@
 //! The rows of one table, by each call once.
 ghost use Rattle.std.specs.Prelude.{◌≡◌, ◌∷◌, [], IfOk, length};
+ghost use Rattle.ut_plain.specs.Rows.{inserts_of};
 ghost use Rattle.ut_staged.specs.Staged.{no_rows};
 ghost use Rattle.ut_change.specs.Bulks.{bulk_ops, CanLoad};
 ghost use Rattle.ut_change.specs.Writes.{CanWrite};
-ghost use Rattle.ut_tables.specs.Works.{CanDo, LoadsWell};
+ghost use Rattle.ut_tables.specs.Works.{CanDo, LoadsWell, ops_in};
 
 use crate::bulk::can_load;
 use std::alloc::{AllocError, Global};
 use std::process::Abort;
 use std::test::Fail;
-use ut_change::Bulk;
+use ut_change::{Bulk, rows_in};
 use ut_merge::{Build, Builder};
 use ut_outside::NoHook;
-use ut_plain::{PendingMerge, Statement, bulk_fits, fits_columns};
+use ut_plain::{PendingMerge, Table, bulk_fits, fits_columns};
 use ut_stamps::Fate;
 use ut_tables::{Changes, Rows, Work};
-use ut_value::{Column, Kind, MergeKind, Name, Op, Seq, Value, is_name, same_bytes};
+use ut_value::{Column, Duplicate, Kind, MergeKind, Name, Op, Seq, Value, is_name, same_bytes};
 
 fn name(rt: &impl Abort, alloc: Global, bytes: &[u8]) -> Result<Name, AllocError> {
     let bytes = Vec::from_slice(alloc, bytes)?;
@@ -45,8 +46,9 @@ fn bare(rt: &impl Abort, alloc: Global, columns: &Seq<Column>) -> Result<Rows, A
     ensures { IfOk result (λ rows. rows.rows.staged ≡ no_rows columns.now ∷ []) }
 {
     let name = name(rt, alloc, b"T")?;
+    let columns = columns.duplicate(alloc)?;
     let mut rows = Rows::restored(alloc, Vec::new(alloc), Vec::new(alloc))?;
-    rows.add_table(alloc, &name, columns)?;
+    rows.add_table(alloc, Table { name, columns })?;
     Ok(rows)
 }
 
@@ -105,7 +107,6 @@ fn is_named(rt: &impl Abort, rows: &Rows) {
     assert!(rt; rows.tables().len() == 1);
     assert!(rt; rows.place_of(b"T") == Some(0));
     assert!(rt; rows.place_of(b"U").is_none());
-    assert!(rt; rows.place_in(b"T") == 0);
     match rows.table_name(0) {
         Some(name) => assert!(rt; same_bytes(name.as_slice(), b"T")),
         None => panic!(rt; "a table has no name"),
@@ -130,14 +131,6 @@ fn is_shaped(rt: &impl Abort, alloc: Global, rows: &Rows, columns: &Seq<Column>)
     Ok(())
 }
 
-// There is no shape of another table.
-fn is_refused(rt: &impl Abort, alloc: Global, rows: &Rows) -> Result<(), Fail> {
-    let table = name(rt, alloc, b"U")?;
-    let unknown = rows.early_refusal(false, None, &Statement::Shape { table });
-    assert!(rt; unknown.is_some());
-    Ok(())
-}
-
 #[test]
 fn a_table_is_read_of_the_rows(rt: HostRuntime) -> Result<(), Fail> {
     let alloc = rt.alloc();
@@ -145,8 +138,7 @@ fn a_table_is_read_of_the_rows(rt: HostRuntime) -> Result<(), Fail> {
     let rows = bare(&rt, alloc, &columns)?;
     is_named(&rt, &rows);
     is_empty(&rt, &rows);
-    is_shaped(&rt, alloc, &rows, &columns)?;
-    is_refused(&rt, alloc, &rows)
+    is_shaped(&rt, alloc, &rows, &columns)
 }
 
 fn looks(rt: &impl Abort, alloc: Global, rows: &Rows, columns: &Seq<Column>) -> Result<(), Fail>
@@ -251,6 +243,7 @@ fn a_row_is_written(rt: HostRuntime) -> Result<(), Fail> {
 fn works(rt: &impl Abort, rows: &mut Rows, work: Work<'_>, l1: u32, l2: u32) -> Result<(), Fail>
     requires can { CanDo rows.old.rows work }
     requires loads { LoadsWell rows.old.rows work }
+    requires count { work.inserts ≡ inserts_of (ops_in work.changes) }
 {
     rows.work_alone(work, 1)?;
     assert!(rt; rows.l1_len(0) == Some(l1));
@@ -275,6 +268,7 @@ fn writes_alone(
         place: 0,
         changes,
         rows: 1,
+        inserts: 1,
     };
     works(rt, rows, work, 1, 0)
 }
@@ -288,10 +282,12 @@ fn loads_alone(
     requires { rows.old.rows.staged ≡ no_rows columns.now ∷ [] }
 {
     can_take(rt, columns, bulk);
+    assert!(rt; rows_in(bulk.width, bulk.values) == 3);
     let work = Work {
         place: 0,
         changes: Changes::Loads(bulk),
         rows: 3,
+        inserts: 3,
     };
     works(rt, rows, work, 0, 3)
 }

@@ -1,7 +1,6 @@
 //! Answers lines whose replies aren't written.
 ghost use Rattle.std.specs.Prelude.{◌≡◌, ◌≤◌, ◌<◌, ◌-◌, ◌^◌, ◌++◌, ◌∷◌, [], false, None};
 ghost use Rattle.ut_script.specs.Grammar.{parsed};
-ghost use Rattle.ut_run.specs.Saying.{IsKnown};
 ghost use Rattle.ut_app.specs.Hearing.{Hears, MayHear, noted_by};
 
 use crate::tally::{Heard, Tally, heard_of};
@@ -10,7 +9,7 @@ use ut_engine::Engine;
 use ut_merge::Build;
 use ut_outside::{Ack, AckList, Disk};
 use ut_plain::Parsed;
-use ut_run::{Report, Status, answer};
+use ut_run::{Report, Status};
 use ut_script::parse_line;
 
 /// What a run of a script noted so far: how many lines were taken, what was acknowledged, the length of the journal, and what
@@ -119,28 +118,10 @@ fn hear<D: Disk, B: Build>(
     ensures loan { engine.new.loan ≡ engine.old.loan }
 {
     match parse_line(alloc, line, false) {
-        Ok(parsed) => hear_parsed(alloc, engine, builder, &parsed),
+        Ok(Parsed::Comment) => Heard::Nothing,
+        Ok(Parsed::Stranger) => Heard::Refusal,
+        Ok(Parsed::Bad(_)) => Heard::Refusal,
+        Ok(Parsed::Good(session, st)) => heard_of(&engine.answer(alloc, builder, session, st)),
         Err(_lacks) => Heard::Refusal,
-    }
-}
-
-fn hear_parsed<D: Disk, B: Build>(
-    alloc: Global,
-    engine: &mut Engine<'_, D>,
-    builder: &B,
-    line: &Parsed,
-) -> Heard
-    requires up { engine.old.store.down ≡ false }
-    requires ready { B.ready builder.now }
-    requires known { IsKnown line.now }
-    ensures hears { Hears engine.old.store (D.view engine.old.disk) line.now result engine.new.store (D.view engine.new.disk) }
-    ensures cause { MayHear (D.view engine.old.disk) (D.view engine.new.disk) result }
-    ensures loan { engine.new.loan ≡ engine.old.loan }
-{
-    match line {
-        Parsed::Comment => Heard::Nothing,
-        Parsed::Stranger => Heard::Refusal,
-        Parsed::Bad(_) => Heard::Refusal,
-        Parsed::Good(session, st) => heard_of(&answer(alloc, engine, builder, *session, st)),
     }
 }

@@ -3,3 +3,4 @@ pub mod Conflicts
 pub mod Loads
 pub mod Made
 pub mod Bulks
+pub mod Entering

@@ -1,5 +1,5 @@
 //! The rows of a bulk, whose values stand one row's behind the other's. No value is copied.
-ghost use Rattle.std.specs.Prelude.{◌≡◌, ◌+◌, ◌<◌, ◌≤◌, ◌^◌, ◌++◌, ◌∷◌, List, length, IfOk, MatchOption};
+ghost use Rattle.std.specs.Prelude.{◌≡◌, ◌+◌, ◌<◌, ◌≤◌, ◌^◌, ◌++◌, ◌∷◌, List, length, OnOk, MatchOption};
 ghost use Rattle.ut_value.specs.declared.entry.Op.{Op};
 ghost use Rattle.ut_value.specs.declared.entry.Op.TheVariants.{Insert};
 ghost use Rattle.ut_value.specs.declared.entry.Entry.TheVariants.{Txn};
@@ -7,11 +7,11 @@ ghost use Rattle.ut_value.specs.Spelling.{spelling, ops_len};
 ghost use Rattle.ut_txn.specs.Seats.{opened_at, payload_at, spare_at, SeatSet};
 ghost use Rattle.ut_change.specs.Bulks.{bulk_ops, CanLoad};
 
-use std::alloc::{AllocError, Global};
+use std::alloc::AllocError;
 use ut_entry::insert_len;
 use ut_frame::Frame;
 use ut_txn::Sessions;
-use ut_value::{ENTRY_LIMIT, Value};
+use ut_value::Value;
 
 /// The rows of a bulk: so many values each, one row's behind the other's, under the ids from one on.
 #[derive(Clone, Copy)]
@@ -56,18 +56,6 @@ impl<'a> Bulk<'a> {
         Some(total)
     }
 
-    /// How many bytes the spelling of the inserts has.
-    pub fn bytes(self) -> u32
-        requires is { CanLoad self }
-        requires short { ops_len (bulk_ops self) ≤ 2 ^ 30 }
-        ensures { result ≡ ops_len (bulk_ops self.entry) }
-    {
-        match self.ops_len(ENTRY_LIMIT) {
-            Some(bytes) => bytes,
-            None => 0,
-        }
-    }
-
     /// The inserts join a session's own operations, in the room that was made (`Sessions::room`). This takes no memory.
     pub fn note(self, sessions: &mut Sessions, session: u8)
         requires is { CanLoad self }
@@ -86,16 +74,17 @@ impl<'a> Bulk<'a> {
         }
     }
 
-    /// The frame of an entry of the inserts. An error says that memory ran out.
-    pub fn framed(self, alloc: Global) -> Result<Frame, AllocError>
+    /// Makes a frame that of an entry of the inserts, which are spelled in so many bytes.
+    pub fn spell(self, frame: &mut Frame, bytes: u32) -> Result<(), AllocError>
         requires is { CanLoad self }
-        requires short { ops_len (bulk_ops self) + 5 ≤ 2 ^ 30 }
-        ensures { IfOk result (λ frame. frame.payload ≡ spelling (Txn (bulk_ops self.entry))) }
+        requires bytes { bytes ≡ ops_len (bulk_ops self) }
+        requires short { bytes + 5 ≤ 2 ^ 30 }
+        ensures { OnOk result (frame.new.payload ≡ spelling (Txn (bulk_ops self.entry))) }
     {
-        let mut frame = Frame::txn(alloc)?;
-        frame.room(self.bytes())?;
-        self.add(&mut frame);
-        Ok(frame)
+        frame.clear();
+        frame.room(bytes)?;
+        self.add(frame);
+        Ok(())
     }
 
     // The inserts are added to a frame, in the room that was made.

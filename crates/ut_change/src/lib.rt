@@ -3,12 +3,14 @@
 
 mod bulk;
 mod conflict;
+mod entering;
 mod loads;
 mod made;
 mod write;
 
 pub use bulk::Bulk;
 pub use conflict::first_taken_in;
+pub use entering::Entering;
 pub use loads::rows_in;
-pub use made::{Change, delete_ops, insert_ops, update_ops};
-pub use write::{bytes_of, framed, inserts_of, note_all, ops_len, write_all};
+pub use made::{Change, delete_ops, update_ops};
+pub use write::{inserts_of, note_all, ops_len, spell_all, write_all};

@@ -1,5 +1,5 @@
-//! The operations that an insert, a delete and an update make.
-ghost use Rattle.std.specs.Prelude.{◌≡◌, ◌+◌, ◌<◌, ◌^◌, ◌∷◌, [], IfOk, IsSome, length, map, slice_set};
+//! The operations that a delete and an update make.
+ghost use Rattle.std.specs.Prelude.{◌≡◌, ◌+◌, ◌<◌, ◌^◌, IfOk, IsSome, length, map, slice_set};
 ghost use Rattle.ut_scan.specs.declared.place.Found.{Found};
 ghost use Rattle.ut_exact.specs.Scan.{stored_in};
 ghost use Rattle.ut_staged.specs.Staged.{row_at};
@@ -10,22 +10,7 @@ ghost use Rattle.ut_change.specs.Made.{updated_ops};
 use std::alloc::{AllocError, Global};
 use ut_scan::{Found, Place};
 use ut_table::Table as Stages;
-use ut_value::{Duplicate, Op, Seq, Value};
-
-/// The insert of one row, of copies of these values, under an id. An error says that memory ran out.
-pub fn insert_ops(
-    alloc: Global,
-    table: u16,
-    id: u32,
-    values: &Seq<Value>,
-) -> Result<Vec<Op>, AllocError>
-    ensures { IfOk result (λ ops. ops.items ≡ Op.Insert table id values.now ∷ []) }
-{
-    let values = values.duplicate(alloc)?;
-    let mut ops = Vec::new(alloc);
-    ops.push(Op::Insert { table, id, values })?;
-    Ok(ops)
-}
+use ut_value::{Op, Seq, Value};
 
 /// The deletes of the rows found, one each, in their order. An error says that memory ran out.
 pub fn delete_ops(alloc: Global, table: u16, hits: &[Found]) -> Result<Vec<Op>, AllocError>

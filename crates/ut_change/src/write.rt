@@ -1,5 +1,5 @@
 //! Operations are counted, spelled and written: into the session's bytes, a frame, the stages of their table.
-ghost use Rattle.std.specs.Prelude.{◌≡◌, ◌+◌, ◌<◌, ◌≤◌, ◌^◌, ◌++◌, ◌∷◌, [], List, length, IsTrue, IfOk, MatchOption};
+ghost use Rattle.std.specs.Prelude.{◌≡◌, ◌+◌, ◌<◌, ◌≤◌, ◌^◌, ◌++◌, ◌∷◌, [], List, length, IsTrue, OnOk, MatchOption};
 ghost use Rattle.std.specs.List.{list_all};
 ghost use Rattle.ut_value.specs.declared.entry.Op.{Op};
 ghost use Rattle.ut_value.specs.declared.entry.Entry.TheVariants.{Txn};
@@ -10,14 +10,14 @@ ghost use Rattle.ut_txn.specs.Seats.{opened_at, payload_at, spare_at, SeatSet};
 ghost use Rattle.ut_staged.specs.Staging.{written};
 ghost use Rattle.ut_change.specs.Writes.{CanWrite, written_one, hits_behind};
 
-use std::alloc::{AllocError, Global};
+use std::alloc::AllocError;
 use ut_entry::op_len;
 use ut_frame::Frame;
 use ut_scan::Found;
 use ut_stamps::Stamp;
 use ut_table::Table as Stages;
 use ut_txn::Sessions;
-use ut_value::{ENTRY_LIMIT, Op, Row};
+use ut_value::{Op, Row};
 
 /// How many rows operations insert.
 pub fn inserts_of(ops: &[Op]) -> usize
@@ -56,18 +56,6 @@ pub fn ops_len(ops: &[Op], most: u32) -> Option<u32>
     Some(total)
 }
 
-/// How many bytes the spelling of operations has.
-pub fn bytes_of(ops: &[Op]) -> u32
-    requires rule { IsTrue (list_all is_op ops.now) }
-    requires short { ops_len ops.now ≤ 2 ^ 30 }
-    ensures { result ≡ ops_len ops.now }
-{
-    match ops_len(ops, ENTRY_LIMIT) {
-        Some(bytes) => bytes,
-        None => 0,
-    }
-}
-
 /// Operations join a session's own, in the room that was made (`Sessions::room`). This takes no memory.
 pub fn note_all(sessions: &mut Sessions, session: u8, ops: &[Op])
     requires seat { session < 17 }
@@ -83,16 +71,17 @@ pub fn note_all(sessions: &mut Sessions, session: u8, ops: &[Op])
     }
 }
 
-/// The frame of an entry of these operations. An error says that memory ran out.
-pub fn framed(alloc: Global, ops: &[Op]) -> Result<Frame, AllocError>
+/// Makes a frame that of an entry of these operations, which are spelled in so many bytes.
+pub fn spell_all(frame: &mut Frame, ops: &[Op], bytes: u32) -> Result<(), AllocError>
     requires rule { IsTrue (list_all is_op ops.now) }
-    requires short { ops_len ops.now + 5 ≤ 2 ^ 30 }
-    ensures { IfOk result (λ frame. frame.payload ≡ spelling (Txn ops.now)) }
+    requires bytes { bytes ≡ ops_len ops.now }
+    requires short { bytes + 5 ≤ 2 ^ 30 }
+    ensures { OnOk result (frame.new.payload ≡ spelling (Txn ops.now)) }
 {
-    let mut frame = Frame::txn(alloc)?;
-    frame.room(bytes_of(ops))?;
-    add_all(&mut frame, ops);
-    Ok(frame)
+    frame.clear();
+    frame.room(bytes)?;
+    add_all(frame, ops);
+    Ok(())
 }
 
 // Operations are added to a frame, in the room that was made.

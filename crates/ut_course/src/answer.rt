@@ -10,7 +10,7 @@ ghost use Rattle.ut_script.specs.Grammar.{parsed};
 ghost use Rattle.ut_course.specs.Coming.{Comes, is_of, session_in, length_after};
 
 use std::alloc::Global;
-use ut_engine::Engine;
+use ut_engine::{Engine, NoBuilder, end_reply};
 use ut_merge::Built;
 use ut_outside::Disk;
 use ut_plain::{Parsed, Refusal, Reply, Statement};
@@ -30,7 +30,7 @@ pub fn answer_line<D: Disk>(
     ensures loan { engine.new.loan ≡ engine.old.loan }
 {
     match parse_line(alloc, line, true) {
-        Ok(parsed) => answer_parsed(alloc, engine, session, &parsed),
+        Ok(parsed) => answer_parsed(alloc, engine, session, parsed),
         Err(_) => Reply::Refused(Refusal::Memory),
     }
 }
@@ -39,17 +39,17 @@ fn answer_parsed<D: Disk>(
     alloc: Global,
     engine: &mut Engine<'_, D>,
     session: u8,
-    line: &Parsed,
+    line: Parsed,
 ) -> Reply
     requires up { engine.old.store.down ≡ false }
     requires seat { (1 ≤ session) × (session < 17) }
-    requires own { IsTrue (is_of session (session_in line.now)) }
-    requires spelled { IsTrue (is_spelled_line line.now) }
-    ensures comes { Comes engine.old.store (D.view engine.old.disk) line.now (Some session) result engine.new.store (D.view engine.new.disk) }
+    requires own { IsTrue (is_of session (session_in line)) }
+    requires spelled { IsTrue (is_spelled_line line) }
+    ensures comes { Comes engine.old.store (D.view engine.old.disk) line (Some session) result engine.new.store (D.view engine.new.disk) }
     ensures loan { engine.new.loan ≡ engine.old.loan }
 {
     match line {
-        Parsed::Good(_, st) => engine.statement(alloc, session, st),
+        Parsed::Good(_, st) => engine.answer(alloc, &NoBuilder, session, st),
         Parsed::Comment => Reply::Refused(Refusal::Syntax),
         Parsed::Stranger => Reply::Refused(Refusal::Syntax),
         Parsed::Bad(_) => Reply::Refused(Refusal::Syntax),
@@ -76,7 +76,7 @@ pub fn end_merge<D: Disk>(engine: &mut Engine<'_, D>, built: Built) -> Reply
     ensures ends { EndsMerge engine.old.store.store.counts.pending result }
     ensures loan { engine.new.loan ≡ engine.old.loan }
 {
-    engine.merge_end(OPERATOR, built)
+    end_reply(engine.merge_end(built))
 }
 
 /// The length of the journal that an acknowledgement carries: that before the line where the disk failed.

@@ -1,5 +1,5 @@
 //! A merger's turns: rows move to a second stage, a merge into main begins, and the one that was built ends.
-ghost use Rattle.std.specs.Prelude.{◌≡◌, ◌+◌, ◌<◌, ◌≤◌, false, None, Some, Err, length, ◌⊎◌, IsTrue, IsSome, IfOk, IfSome, IfNone};
+ghost use Rattle.std.specs.Prelude.{◌≡◌, ◌+◌, ◌<◌, ◌≤◌, false, None, Some, length, ◌⊎◌, IsTrue, IsSome, IfOk, IfSome, IfNone};
 ghost use Rattle.ut_value.specs.Text.{is_name};
 ghost use Rattle.ut_plain.specs.declared.statement.Parsed.TheVariants.{Good};
 ghost use Rattle.ut_plain.specs.declared.statement.Statement.TheVariants.{MergeL1, MergeBegin, MergeEnd};
@@ -7,7 +7,6 @@ ghost use Rattle.ut_plain.specs.Plain.{Plain};
 ghost use Rattle.ut_store.specs.Jobs.{pending_job};
 ghost use Rattle.ut_store.specs.Stands.{StandsFor};
 ghost use Rattle.ut_gate.specs.Turns.{AddsOne, KeepsJob};
-ghost use Rattle.ut_engine.specs.Merging.{begin_reply};
 ghost use Rattle.ut_engine.specs.Runs.{Runs};
 ghost use Rattle.ut_course.specs.Coming.{Comes};
 ghost use Rattle.ut_crowd.specs.Asking.{first_full, is_refusal, kind_of_merge, merge_due, second_full, table_at};
@@ -21,11 +20,11 @@ use crate::hall::{Hall, Opening, kept_after, turn_of};
 use std::alloc::{AllocError, Global};
 use ut_course::end_merge;
 use ut_crew::{Build as Builds, Kept};
-use ut_engine::{BeginError, Engine};
+use ut_engine::{Engine, begin_reply};
 use ut_gate::{Act, Slip};
 use ut_merge::{Build, Built, Job};
 use ut_outside::{Disk, Hook, Point};
-use ut_plain::{Refusal, Reply, Statement, Why};
+use ut_plain::{Reply, Statement};
 use ut_value::{MergeKind, Name};
 
 /// Moves rows of a first stage that is full, or begins a merge of a second one; then it builds, outside the turns.
@@ -97,7 +96,7 @@ impl<'d, D: Disk + Send, O: Opening + Send> Act<Hall<'d, D, O>> for EndJob {
 
     fn run(&mut self, value: &mut Hall<'d, D, O>, slip: &mut Slip<Job>) -> Kept {
         let Some(built) = self.built.take() else {
-            unreachable!()
+            return Kept::Over; // it has run before
         };
         let kept = value.end_job(built);
         if value.job.is_none() {
@@ -308,22 +307,11 @@ fn begin<D: Disk>(
     ensures none { IfNone result.1 (IsTrue (is_refusal result.0) ⊎ IsTrue engine.new.store.down) }
     ensures loan { engine.new.loan ≡ engine.old.loan }
 {
-    match engine.merge_begin(alloc, table, kind) {
-        Ok(job) => (Reply::Merge(job.number()), Some(job)),
-        Err(error) => (refused(error), None),
-    }
-}
-
-// The reply where none began.
-fn refused(error: BeginError) -> Reply
-    ensures { result ≡ begin_reply (Err error) }
-{
-    match error {
-        BeginError::Name => Reply::Refused(Refusal::Name),
-        BeginError::Busy(number) => Reply::Refused(Refusal::State(Why::Busy(number))),
-        BeginError::Full => Reply::Refused(Refusal::Full),
-        BeginError::Memory => Reply::Refused(Refusal::Memory),
-        BeginError::Disk => Reply::DiskFault,
+    let answer = engine.merge_begin(alloc, table, kind);
+    let reply = begin_reply(&answer);
+    match answer {
+        Ok(job) => (reply, Some(job)),
+        Err(_) => (reply, None),
     }
 }
 

@@ -24,6 +24,6 @@ pub mod FileLemmas
 pub mod RowsLemmas
 pub mod LentLemmas
 pub mod RestoringLemmas
-pub mod StagingLemmas
 pub mod TableLemmas
 pub mod MergingLemmas
+pub mod ServedLemmas

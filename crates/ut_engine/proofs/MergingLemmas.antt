@@ -1,5 +1,5 @@
--- What a running store answers to the begin of a merge, and when, and to its end.
-use Rattle.std.proofs.Common.{◌≡◌, ◌⊎◌, ⊎_elim, inl, inr, ℕ, ◌+◌, ◌<◌, Bool, true, false, List, Option, None, Some, is_some, IsSome, Result, Ok, Err, IfOk, refl, sym, ◌∙◌, ap, subst, arith, IsTrue}
+-- What a running store answers to the begin of a merge, and when.
+use Rattle.std.proofs.Common.{◌≡◌, ◌⊎◌, ⊎_elim, inl, inr, ℕ, ◌+◌, ◌<◌, Bool, true, false, List, Option, None, Some, is_some, Result, Ok, Err, IfOk, refl, sym, ◌∙◌, ap, subst, arith, IsTrue}
 use Rattle.std.specs.Option.{option_map}
 use Rattle.ut_outside.specs.Disk.{View}
 use Rattle.ut_value.specs.declared.entry.MergeKind.{MergeKind}
@@ -23,25 +23,18 @@ use Rattle.ut_plain.specs.Tables.{place_in}
 use Rattle.ut_plain.specs.View as views
 use Rattle.ut_plain.proofs.JournalLaws.{journal_len-appended}
 use Rattle.ut_merge.specs.Jobs.{JobValue}
-use Rattle.ut_staged.proofs.ListLemmas.{some_same}
-use Rattle.ut_store.specs.declared.response.Response.{Response}
-use Rattle.ut_store.specs.declared.response.Response.TheVariants.{Answered, Append}
-use Rattle.ut_store.specs.Held.{Held}
-use Rattle.ut_store.specs.Stands.{StandsFor}
-use Rattle.ut_store.specs.Answers.{Answers}
-use Rattle.ut_store.specs.Jobs as jobs
-use Rattle.ut_store.specs.Jobs.{pending_job}
-use Rattle.ut_store.proofs.MergeTurnLemmas.{merged_table}
 use Rattle.ut_engine.specs.declared.error.BeginError.{BeginError}
 use Rattle.ut_engine.specs.declared.error.BeginError.TheVariants as errors
-use Rattle.ut_engine.specs.Handing.{Concludes, HandsOut, AtOnce, Logs, Fails}
 use Rattle.ut_engine.specs.Logged.{Logged}
-use Rattle.ut_engine.specs.Merging.{begin_reply, is_fault, HasReason, Tells, BringsJob, EndsMerge}
+use Rattle.ut_engine.specs.Merging.{begin_reply, end_reply, is_fault, EndsMerge, HasReason}
 use Rattle.ut_engine.specs.Runs.{Runs}
 use Rattle.ut_engine.specs.Serves.{Serves, IsAnswered, IsLost}
-use Rattle.ut_engine.proofs.StagingLemmas.{or_none}
 
 -- ---- what the plain store answers
+
+or_none : (a : Option Refusal) → or_else a None ≡ a
+or_none None = refl
+or_none (Some why) = refl
 
 no_state_why : (is_open : Bool) (name : List ℕ) (kind : MergeKind) → state_why is_open (MergeBegin name kind) ≡ None
 no_state_why true name kind = refl
@@ -93,113 +86,6 @@ begins p session name kind reply q (Steps r s) =
     (subst (λ (x : Plain). Begins p name (step_by why p session st).reply x) (sym (s ∙ ap (λ w. (step_by w p session st).plain) same))
     (step-begins (has_table v.tables name) v.pending (has_room v st) p session name kind refl refl))
 begins p session name kind reply q (LacksMemory m r s) = WantsMemory r
-
--- ---- the job that is handed out
-
--- a merge that begins appends an entry
-no_begin : (p : Plain) (name : List ℕ) (n : ℕ) (q : Plain) → q.journal ≡ p.journal → Begins p name (replies.Merge n) q → ⊥
-no_begin p name n q same (IsUnknown known r) = cc
-no_begin p name n q same (IsBusy m known is r) = cc
-no_begin p name n q same (IsFull known is r) = cc
-no_begin p name n q same (HasBegun m known is r after more) = omega (arith, more, ap journal_len same)
-no_begin p name n q same (WantsMemory r) = cc
-
-not_merge : (n : ℕ) → replies.DiskFault ≡ replies.Merge n → ⊥
-not_merge n e = cc
-
-brought : (old new : Logged) (store : Held) (response : Response) (before after : View) (session : ℕ) (name : List ℕ) (kind : MergeKind) (n : ℕ) (reply : Reply) (job : Option JobValue) (p : Plain) → StandsFor old.store p → Answers old.store session (MergeBegin name kind) response store
-    → jobs.HandsOut (MergeBegin name kind) response job store → reply ≡ replies.Merge n → HandsOut response (record old { store = store }) before reply new after → IsSome job × (job ≡ pending_job new.store)
-brought old new store response before after session name kind n reply job p stands answers hands is (AtOnce said same reads none) =
-    let st = MergeBegin name kind in
-    let begun = subst (λ (t : Response). Answers old.store session st t store) (said ∙ ap Answered is) answers in
-    let answer = begun.each p stands in
-    absurd (no_begin p name n answer.after answer.logs (begins p session name kind (replies.Merge n) answer.after answer.may))
-brought old new store response before after session name kind n reply job p stands answers hands is (Logs said same moments done) =
-    let has = subst (λ (t : Response). jobs.HandsOut (MergeBegin name kind) t job store) said hands in
-    (has.0, has.1 ∙ ap (λ (e : Logged). pending_job e.store) (sym same))
-brought old new store response before after session name kind n reply job p stands answers hands is (Fails kept said fault down moments failed) = absurd (not_merge n (sym fault ∙ is))
-
-brings : (st : Statement) (reply : Reply) (job : Option JobValue) (e : Held) → ((name : List ℕ) (kind : MergeKind) (n : ℕ) → st ≡ MergeBegin name kind → reply ≡ replies.Merge n → IsSome job × (job ≡ pending_job e)) → BringsJob st reply job e
-brings (MergeBegin name kind) (replies.Merge n) job e each = each name kind n refl refl
-brings (MergeBegin name kind) reply job e each = tt
-brings st reply job e each = tt
-
-pub job_brought : (old new : Logged) (store : Held) (response : Response) (first : ℕ) (before after : View) (session : ℕ) (st : Statement) (reply : Reply) (job : Option JobValue) (p : Plain) → StandsFor old.store p → Answers old.store session st response store
-    → jobs.HandsOut st response job store → Concludes response session st first (record old { store = store }) before reply new after → BringsJob st reply job new.store
-job_brought old new store response first before after session st reply job p stands answers hands done =
-    subst (λ (e : Held). BringsJob st reply job e) (sym (ap (λ (e : Logged). e.store) done.notes))
-    (brings st reply job done.handed.store (λ name kind n is told.
-    brought old done.handed store response before after session name kind n reply job p stands
-    (subst (λ (s : Statement). Answers old.store session s response store) is answers)
-    (subst (λ (s : Statement). jobs.HandsOut s response job store) is hands) told done.hands))
-
--- ---- the answer that tells a reply
-
--- the job has the number of the merge that began
-begun_told : (e : Held) (q : Plain) (m : PendingMerge) (job : Option JobValue) → StandsFor e q → q.pending ≡ Some m → IsSome job → job ≡ pending_job e → (j : JobValue) × (job ≡ Some j) × (j.head.number ≡ m.number)
-begun_told e q m None stands is some same = cc
-begun_told e q m (Some j) stands is some same =
-    let table = merged_table e m j (record { plain = q; stands = stands }) (stands.counts.pending ∙ is) (sym same) in
-    (j, refl, ap (λ (head : PendingMerge). head.number) table.head)
-
-abbrev pub HasAnswer : Reply → Option JobValue → Type 0
-HasAnswer reply job = (answer : Result JobValue BeginError) × Tells answer reply job
-
-refused_told : (error : BeginError) (reply : Reply) (job : Option JobValue) → reply ≡ begin_reply (Err error) → HasAnswer reply job
-refused_told error reply job is = (Err error, (sym is, tt))
-
-told_by : (p q : Plain) (name : List ℕ) (kind : MergeKind) (reply : Reply) (job : Option JobValue) (e : Held) → StandsFor e q → BringsJob (MergeBegin name kind) reply job e → Begins p name reply q → HasAnswer reply job
-told_by p q name kind reply job e stands has (IsUnknown known r) = refused_told errors.Name reply job r
-told_by p q name kind reply job e stands has (IsBusy m known is r) = refused_told (errors.Busy m.number) reply job r
-told_by p q name kind reply job e stands has (IsFull known is r) = refused_told errors.Full reply job r
-told_by p q name kind reply job e stands has (HasBegun m known is r after more) =
-    let handed = subst (λ (x : Reply). BringsJob (MergeBegin name kind) x job e) r has in
-    let begun = begun_told e q m job stands after handed.0 handed.1 in
-    (Ok begun.0, (ap replies.Merge begun.2 ∙ sym r, begun.1))
-told_by p q name kind reply job e stands has (WantsMemory r) = refused_told errors.Memory reply job r
-
-pub begin_told : (old new : Logged) (before after : View) (name : List ℕ) (kind : MergeKind) (reply : Reply) (job : Option JobValue) (p : Plain) → Runs old before p → Serves old before 0 (MergeBegin name kind) reply new after
-    → BringsJob (MergeBegin name kind) reply job new.store → HasAnswer reply job
-begin_told old new before after name kind reply job p runs serves has = by_case (serves.each p runs)
-  where
-    by_case : IsAnswered p before 0 (MergeBegin name kind) reply new after ⊎ IsLost p before 0 (MergeBegin name kind) reply new after → HasAnswer reply job
-    by_case case = ⊎_elim
-        (λ answered. told_by p answered.plain name kind reply job new.store answered.runs.stands has (begins p 0 name kind reply answered.plain answered.may))
-        (λ lost. refused_told errors.Disk reply job lost.fault)
-        case
-
--- it hands out the job of the store
-pub job_is : (answer : Result JobValue BeginError) (name : List ℕ) (kind : MergeKind) (reply : Reply) (job : Option JobValue) (e : Held) → Tells answer reply job → BringsJob (MergeBegin name kind) reply job e → IfOk answer (λ j. pending_job e ≡ Some j)
-job_is (Ok j) name kind reply job e tells has =
-    let handed = subst (λ (x : Reply). BringsJob (MergeBegin name kind) x job e) (sym tells.0) has in
-    sym handed.1 ∙ tells.1
-job_is (Err error) name kind reply job e tells has = tt
-
--- the job that came with the reply is the answer's
-pub merge_told : (reply : Reply) (job : Option JobValue) (n : ℕ) (j : JobValue) → HasAnswer reply job → reply ≡ replies.Merge n → job ≡ Some j → Tells (Ok j) reply job
-merge_told reply job n j has is here = by has.0 has.1
-  where
-    by : (answer : Result JobValue BeginError) → Tells answer reply job → Tells (Ok j) reply job
-    by (Ok x) tells = (ap (λ (v : JobValue). replies.Merge v.head.number) (some_same j x (sym here ∙ tells.1)) ∙ tells.0, here)
-    by (Err errors.Name) tells = let no = tells.0 ∙ is in cc
-    by (Err (errors.Busy k)) tells = let no = tells.0 ∙ is in cc
-    by (Err errors.Full) tells = let no = tells.0 ∙ is in cc
-    by (Err errors.Memory) tells = let no = tells.0 ∙ is in cc
-    by (Err errors.Disk) tells = let no = tells.0 ∙ is in cc
-
--- ---- the end of a merge
-
--- the response in memory is to append the number of the pending merge, and that is handed out, or the disk failed
-merge_ends : (pending : Option PendingMerge) (response : Response) (old new : Logged) (before after : View) (reply : Reply) → option_map (λ (m : PendingMerge). Append (replies.Merge m.number)) pending ≡ Some response
-    → HandsOut response old before reply new after → EndsMerge pending reply
-merge_ends None response old new before after reply is hands = cc
-merge_ends (Some m) response old new before after reply is (AtOnce said same reads none) = cc
-merge_ends (Some m) response old new before after reply is (Logs said same moments done) = let told : replies.Merge m.number ≡ reply = cc in inl (ap Some told)
-merge_ends (Some m) response old new before after reply is (Fails kept said fault gone moments failed) = inr fault
-
-pub merge_concluded : (pending : Option PendingMerge) (response : Response) (session first : ℕ) (st : Statement) (old new : Logged) (before after : View) (reply : Reply) → option_map (λ (m : PendingMerge). Append (replies.Merge m.number)) pending ≡ Some response
-    → Concludes response session st first old before reply new after → EndsMerge pending reply
-merge_concluded pending response session first st old new before after reply is done = merge_ends pending response old done.handed before after reply is done.hands
 
 -- ---- its reason
 
@@ -282,3 +168,11 @@ begin_down old new before after session st result p runs serves = by_case (serve
         (λ answered. answered.runs.up ∙ sym (sound result answered.sound))
         (λ lost. lost.down ∙ sym (down_told result lost.fault))
         case
+
+-- ---- the end of a merge
+
+-- its number is told, or that the disk failed
+pub ends_told : {E : Type 0} (pending : Option PendingMerge) (result : Result ℕ E) → IfOk result (λ n. option_map (λ (m : PendingMerge). m.number) pending ≡ Some n) → EndsMerge pending (end_reply result)
+ends_told None (Ok number) is = cc
+ends_told (Some m) (Ok number) is = inl (ap (option_map replies.Merge) is)
+ends_told pending (Err e) is = inr refl

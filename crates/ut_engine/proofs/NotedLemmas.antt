@@ -18,12 +18,12 @@ use Rattle.ut_nextid.proofs.NoteLaws.{note_keeps}
 
 -- ---- with a statement
 
-same_both : {X : Type 0} (b : Bool) (x : X) → cond b x x ≡ x
+pub same_both : {X : Type 0} (b : Bool) (x : X) → cond b x x ≡ x
 same_both true x = refl
 same_both false x = refl
 
 -- a refusal notes nothing
-noted_refused : (n : Noted) (session : ℕ) (st : Statement) (why : Refusal) (before after : ℕ) → noted n session st (replies.Refused why) before after ≡ n
+pub noted_refused : (n : Noted) (session : ℕ) (st : Statement) (why : Refusal) (before after : ℕ) → noted n session st (replies.Refused why) before after ≡ n
 noted_refused n session (statements.Create name columns) why before after = same_both (nat_lt before after) n
 noted_refused n session (statements.Insert name values) why before after = same_both (nat_lt before after) n
 noted_refused n session (statements.Bulk name values) why before after = same_both (nat_lt before after) n

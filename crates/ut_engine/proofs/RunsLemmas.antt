@@ -184,7 +184,7 @@ not_flip : (st : Statement) → is_save st ≡ false → st ≡ SaveFlip → ⊥
 not_flip st served is = let no : true ≡ false = ap is_save (sym is) ∙ served in cc
 
 module _ (old : Logged) (before after : View) (session : ℕ) (low : session < 17) (st : Statement) (served : is_save st ≡ false) (spelled : IsTrue (is_spelled st)) (store : Held) (reply : Reply) (some : Plain) (ran : Runs old before some) where
-  serves_stays : ReadsOnly before after → after.faults ≡ before.faults → Answers old.store session st (Answered reply) store → Serves old before session st reply (record old { store = store; next = noted_by old session st reply store }) after
+  pub serves_stays : ReadsOnly before after → after.faults ≡ before.faults → Answers old.store session st (Answered reply) store → Serves old before session st reply (record old { store = store; next = noted_by old session st reply store }) after
   serves_stays reads none answers = record {
     each = λ p runs. inl (stays old before after session low st served spelled store reply p runs reads (answers.each p runs.stands));
     keeps = λ p runs other told. to_root before after p.journal (journal_len p.journal) old p runs (read_leaves before after reads p.journal old.files runs.root runs.directory old.saving p.phase runs.stored told);
@@ -201,7 +201,7 @@ module _ (old : Logged) (before after : View) (session : ℕ) (low : session < 1
         let answer = answers.each p runs.stands in
         to_root before after (appended p.journal answer.logs.0) (journal_len p.journal) old p runs (leaves old before after session low st served spelled store reply p runs answer moments told)
 
-    serves_grows : (files : FilesHeld) → Appended old.files files store.frame before after → Serves old before session st reply (record old { store = store; files = files; next = noted_by old session st reply store }) after
+    pub serves_grows : (files : FilesHeld) → Appended old.files files store.frame before after → Serves old before session st reply (record old { store = store; files = files; next = noted_by old session st reply store }) after
     serves_grows files done = record {
       each = λ p runs. inl (grows old before after session low st served spelled store reply p runs (answers.each p runs.stands) moments files done);
       keeps = λ p runs other. keeps_root p runs;
@@ -212,7 +212,7 @@ module _ (old : Logged) (before after : View) (session : ℕ) (low : session < 1
       still = λ _. done.still;
     }
 
-    serves_fails : (new : Logged) → new.down ≡ true → new.store ≡ store → NotAppended before after → Serves old before session st DiskFault new after
+    pub serves_fails : (new : Logged) → new.down ≡ true → new.store ≡ store → NotAppended before after → Serves old before session st DiskFault new after
     serves_fails new down kept failed = record {
       each = λ p runs. inr (fails old before after session low st served spelled store reply p runs (answers.each p runs.stands) moments new down kept);
       keeps = λ p runs other. keeps_root p runs;

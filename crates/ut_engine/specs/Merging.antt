@@ -1,16 +1,12 @@
 -- What the begin of a merge into main is answered, and why.
-use Rattle.std.specs.Prelude.{◌≡◌, ◌⊎◌, ⊤, Bool, true, false, Option, None, Some, Result, Ok, Err, IfOk, IsSome, IsTrue}
+use Rattle.std.specs.Prelude.{ℕ, ◌≡◌, ◌⊎◌, ⊤, Bool, true, false, Option, None, Some, Result, Ok, Err, IsTrue}
 use Rattle.std.specs.Option.{option_map}
 use Rattle.ut_plain.specs.declared.stage.PendingMerge.{PendingMerge}
-use Rattle.ut_plain.specs.declared.statement.Statement.{Statement}
-use Rattle.ut_plain.specs.declared.statement.Statement.TheVariants.{MergeBegin}
 use Rattle.ut_plain.specs.declared.reply.Reply.{Reply}
 use Rattle.ut_plain.specs.declared.reply.Reply.TheVariants as replies
 use Rattle.ut_plain.specs.declared.reply.Refusal.TheVariants as refusals
 use Rattle.ut_plain.specs.declared.reply.Why.TheVariants as whys
 use Rattle.ut_merge.specs.Jobs.{JobValue}
-use Rattle.ut_store.specs.Held.{Held}
-use Rattle.ut_store.specs.Jobs.{pending_job}
 use Rattle.ut_engine.specs.declared.error.BeginError.{BeginError}
 use Rattle.ut_engine.specs.declared.error.BeginError.TheVariants as errors
 
@@ -22,10 +18,6 @@ begin_reply (Err (errors.Busy n)) = replies.Refused (refusals.State (whys.Busy n
 begin_reply (Err errors.Full) = replies.Refused refusals.Full
 begin_reply (Err errors.Memory) = replies.Refused refusals.Memory
 begin_reply (Err errors.Disk) = replies.DiskFault
-
--- An answer tells a reply, and the job that came with it.
-abbrev pub Tells : Result JobValue BeginError → Reply → Option JobValue → Type 0
-Tells answer reply job = (begin_reply answer ≡ reply) × IfOk answer (λ j. job ≡ Some j)
 
 -- Where each answer may come, by whether the table is there and which merge is pending. Memory may always be wanting.
 abbrev pub HasReason : Result JobValue BeginError → Bool → Option PendingMerge → Type 0
@@ -41,12 +33,12 @@ abbrev pub is_fault : Result JobValue BeginError → Bool
 is_fault (Err errors.Disk) = true
 is_fault answer = false
 
+-- the reply to the end of the pending merge that an answer tells: its number, or that the disk failed
+abbrev pub end_reply : {E : Type 0} → Result ℕ E → Reply
+end_reply (Ok number) = replies.Merge number
+end_reply (Err e) = replies.DiskFault
+
 -- What the end of the pending merge is answered, with what was built of its job: its number, or that the disk failed.
 abbrev pub EndsMerge : Option PendingMerge → Reply → Type 0
 EndsMerge pending reply =
     (option_map (λ (m : PendingMerge). replies.Merge m.number) pending ≡ Some reply) ⊎ (reply ≡ replies.DiskFault)
-
--- A merge that began has its job, and it is that of the store behind it.
-abbrev pub BringsJob : Statement → Reply → Option JobValue → Held → Type 0
-BringsJob (MergeBegin name kind) (replies.Merge n) job e = IsSome job × (job ≡ pending_job e)
-BringsJob st reply job e = ⊤

@@ -11,10 +11,13 @@ ghost use Rattle.ut_engine.specs.Beginning.{disk_left, loan_left, store_or_cause
 
 use crate::logged::LoggedStore;
 use crate::unopened::Unopened;
-use std::alloc::Global;
+use std::alloc::{AllocError, Global};
 use std::marker::Model;
+use ut_merge::{Build, Built, Job};
+use ut_names::{Bound, statement_copy};
+use ut_nextid::ending_of;
 use ut_outside::Disk;
-use ut_plain::{Reply, Statement};
+use ut_plain::{Refusal, Reply, Statement};
 
 /// A store over a disk that it is lent for as long as it serves. While it isn't down it runs from some plain state.
 #[derive(Drop)]
@@ -65,7 +68,43 @@ impl<'d, D: Disk> Engine<'d, D> {
         }
     }
 
-    /// Answers a statement of a session: a change only once its entry is on the disk. A commit and an abort take no memory.
+    /// Answers a statement of a session, whose values it takes: a change only once its entry is on the disk. Where it ends a merge,
+    /// the builder builds the new part first. A commit and an abort take no memory.
+    pub fn answer<B: Build>(
+        &mut self,
+        alloc: Global,
+        builder: &B,
+        session: u8,
+        st: Statement,
+    ) -> Reply
+        requires ready { B.ready builder.now }
+        requires seat { session < 17 }
+        requires suits { IsTrue (suits_session session st) }
+        requires spelled { IsTrue (is_spelled st) }
+        requires up { self.old.store.down ≡ false }
+        ensures serves { Serves self.old.store (D.view self.old.disk) session st result self.new.store (D.view self.new.disk) }
+        // The drop of a savepoint calls no disk.
+        ensures dropped { st ≡ statements.SaveDrop → self.new.disk ≡ self.old.disk }
+        // A begun savepoint takes the least pages that aren't reached.
+        ensures planned { st ≡ statements.SaveBegin → (pages : ℕ) → result ≡ replies.Saving 0 pages → HasPlanned self.old.store self.new.store.saving pages }
+        ensures loan { self.new.loan ≡ self.old.loan }
+    {
+        let ending = ending_of(&st);
+        match self.store.store.bind(alloc, st) {
+            Ok(Bound::Task(task)) => {
+                let before = self.store.store.next_id();
+                let outcome = self.store.store.execute(alloc, session, task);
+                let response = outcome.response();
+                self.store
+                    .conclude(self.disk, session, ending, before, response)
+            }
+            Ok(Bound::MergeEnd) => self.build_and_end(alloc, builder),
+            Ok(Bound::Save(piece)) => self.store.save(alloc, self.disk, piece),
+            Err(why) => Reply::Refused(why),
+        }
+    }
+
+    /// Answers a copy of a statement. It builds nothing: the end of a merge that is pending is refused for want of memory.
     pub fn statement(&mut self, alloc: Global, session: u8, st: &Statement) -> Reply
         requires seat { session < 17 }
         requires suits { IsTrue (suits_session session st.now) }
@@ -78,7 +117,10 @@ impl<'d, D: Disk> Engine<'d, D> {
         ensures planned { st.now ≡ statements.SaveBegin → (pages : ℕ) → result ≡ replies.Saving 0 pages → HasPlanned self.old.store self.new.store.saving pages }
         ensures loan { self.new.loan ≡ self.old.loan }
     {
-        self.store.statement(alloc, self.disk, session, st)
+        match statement_copy(alloc, st) {
+            Ok(st) => self.answer(alloc, &NoBuilder, session, st),
+            Err(_) => Reply::Refused(Refusal::Memory),
+        }
     }
 
     /// The disk's moment.
@@ -122,6 +164,20 @@ impl<'d, D: Disk> Engine<'d, D> {
         ensures disk { result.now ≡ self.entry.disk }
     {
         self.disk
+    }
+}
+
+/// Builds nothing, as one who has no memory: for callers whose statements end no merge.
+#[derive(Drop)]
+pub struct NoBuilder;
+
+impl Build for NoBuilder {
+    ghost ready = { λ _. Unit {0} };
+
+    ghost lacks = { λ _ _. Unit {0} };
+
+    fn build(&self, _: Global, _: &Job) -> Result<Built, AllocError> {
+        Err(AllocError)
     }
 }
 

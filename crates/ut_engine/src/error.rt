@@ -2,8 +2,6 @@
 ghost use Rattle.std.specs.Prelude.{◌≡◌};
 ghost use Rattle.ut_engine.specs.Opening.{of_page, of_redo, of_restart};
 ghost use Rattle.ut_engine.specs.declared.error.OpenError.TheVariants.{Disk as DiskFault, Memory};
-ghost use Rattle.ut_engine.specs.declared.error.L1Error.TheVariants.{Memory as L1Memory};
-ghost use Rattle.ut_engine.specs.declared.error.BeginError.TheVariants.{Memory as BeginMemory};
 
 use std::alloc::AllocError;
 use thiserror::Error;
@@ -88,14 +86,6 @@ pub enum L1Error {
     Memory,
 }
 
-impl From<AllocError> for L1Error {
-    ghost from_gives = { λ _ e. e ≡ L1Memory };
-
-    fn from(_: AllocError) -> Self {
-        L1Error::Memory
-    }
-}
-
 /// Why no merge into main began. `Busy` has the number of the merge that is pending.
 #[derive(Clone, Copy, Debug, PartialEq, Eq, Error)]
 pub enum BeginError {
@@ -109,14 +99,6 @@ pub enum BeginError {
     Memory,
     #[error("the disk failed")]
     Disk,
-}
-
-impl From<AllocError> for BeginError {
-    ghost from_gives = { λ _ e. e ≡ BeginMemory };
-
-    fn from(_: AllocError) -> Self {
-        BeginError::Memory
-    }
 }
 
 /// Why no savepoint began. `State` says that one is under way, `Full` that there are no numbers for its pages.

@@ -6,11 +6,13 @@ mod error;
 mod logged;
 mod merges;
 mod readers;
+mod replies;
 mod savepoints;
 mod saving;
 mod stages;
 mod unopened;
 
-pub use engine::{Engine, engine_is_sent};
+pub use engine::{Engine, NoBuilder, engine_is_sent};
 pub use error::{BeginError, L1Error, OpenError, PhaseError, SaveError};
+pub use replies::{begin_reply, end_reply, moved_reply};
 pub use unopened::Unopened;

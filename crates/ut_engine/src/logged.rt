@@ -1,35 +1,27 @@
 //! The store and its files.
-ghost use Rattle.std.specs.Prelude.{◌≡◌, ◌<◌, ◌≤◌, ◌^◌, ℕ, Some, false, IsTrue, IfOk, OnOk, IsErrOf};
+ghost use Rattle.std.specs.Prelude.{◌≡◌, ◌<◌, ◌≤◌, ◌^◌, true, IfOk, OnOk, OnErr, IsErrOf};
 ghost use Rattle.ut_outside.specs.declared.disk.Which.{Which};
 ghost use Rattle.ut_outside.specs.Disk.{IsTold, content};
 ghost use Rattle.ut_outside.specs.Faults.{Rose, HasCause};
 ghost use Rattle.ut_outside.specs.Run.{Always, LeavesOnly, ReadsOnly};
 ghost use Rattle.ut_pages.specs.Layout.{IsMade};
-ghost use Rattle.ut_plain.specs.declared.reply.Reply.TheVariants as replies;
-ghost use Rattle.ut_plain.specs.declared.statement.Statement.TheVariants as statements;
 ghost use Rattle.ut_plain.specs.Journal.{Journal};
-ghost use Rattle.ut_plain.specs.Plain.{Plain};
-ghost use Rattle.ut_plain.specs.Refusals.{is_save};
-ghost use Rattle.ut_plain.specs.Spelled.{is_spelled};
 ghost use Rattle.ut_durable.specs.Journals.{HoldsJournal};
-ghost use Rattle.ut_store.specs.Jobs.{pending_job};
-ghost use Rattle.ut_store.specs.Standing.{suits_session};
-ghost use Rattle.ut_engine.specs.Handing.{AreReady, Concludes, HandsOut};
-ghost use Rattle.ut_engine.specs.Merging.{BringsJob, EndsMerge};
+ghost use Rattle.ut_plain.specs.declared.statement.Statement.{Statement};
+ghost use Rattle.ut_durable.specs.Calls.{MayGain};
+ghost use Rattle.ut_nextid.specs.NextIds.{ending_of};
+ghost use Rattle.ut_engine.specs.Handing.{Appended, AreReady, Concludes, HandsOut, NotAppended};
 ghost use Rattle.ut_engine.specs.Opening.{MayOnlyRead};
-ghost use Rattle.ut_engine.specs.Runs.{Runs, IsNew, Opens, NotMadeOrEmpty};
-ghost use Rattle.ut_engine.specs.Saves.{HasPlanned};
-ghost use Rattle.ut_engine.specs.Serves.{Serves};
+ghost use Rattle.ut_engine.specs.Runs.{IsNew, Opens, NotMadeOrEmpty};
 
 use crate::error::OpenError;
 use crate::saving::log_file;
 use std::alloc::Global;
 use ut_durable::Durable;
-use ut_merge::{Built, Job};
-use ut_nextid::NextIds;
+use ut_nextid::{Ending, NextIds};
 use ut_outside::{Disk, Failed, Which};
 use ut_pages::Pages;
-use ut_plain::{Reply, Statement, is_save};
+use ut_plain::Reply;
 use ut_reading::{Image, read_image};
 use ut_redo::Redo;
 use ut_restart::reopen;
@@ -131,83 +123,23 @@ impl LoggedStore {
         })
     }
 
-    /// Answers a statement of a session: a change only once its entry is on the disk. A commit and an abort take no memory.
-    pub(crate) fn statement<D: Disk>(
-        &mut self,
-        alloc: Global,
-        disk: &mut D,
-        session: u8,
-        st: &Statement,
-    ) -> Reply
-        requires seat { session < 17 }
-        requires suits { IsTrue (suits_session session st.now) }
-        requires spelled { IsTrue (is_spelled st.now) }
-        requires runs { (p : Plain) × Runs self.old (D.view disk.old) p }
-        ensures serves { Serves self.old (D.view disk.old) session st.now result self.new (D.view disk.new) }
-        // A drop calls no disk.
-        ensures dropped { st.now ≡ statements.SaveDrop → disk.new ≡ disk.old }
-        // A begun savepoint takes the least pages that aren't reached.
-        ensures planned { st.now ≡ statements.SaveBegin → (pages : ℕ) → result ≡ replies.Saving 0 pages → HasPlanned self.old self.new.saving pages }
-    {
-        if is_save(st) {
-            return self.save(alloc, disk, st);
-        }
-        let (reply, job) = self.statement_with_job(alloc, disk, session, st);
-        drop(job);
-        reply
-    }
-
-    /// Answers a statement as `statement` does, and hands out the job of a merge that it begins.
-    pub(crate) fn statement_with_job<D: Disk>(
-        &mut self,
-        alloc: Global,
-        disk: &mut D,
-        session: u8,
-        st: &Statement,
-    ) -> (Reply, Option<Job>)
-        requires seat { session < 17 }
-        requires suits { IsTrue (suits_session session st.now) }
-        requires spelled { IsTrue (is_spelled st.now) }
-        requires served { is_save st.now ≡ false }
-        requires runs { (p : Plain) × Runs self.old (D.view disk.old) p }
-        ensures serves { Serves self.old (D.view disk.old) session st.now result.0 self.new (D.view disk.new) }
-        ensures job { BringsJob st.now result.0 result.1 self.new.store }
-    {
-        let before = self.store.next_id();
-        let outcome = self.store.statement_with_job(alloc, session, st);
-        let reply = self.conclude(disk, session, st, before, outcome.response);
-        (reply, outcome.job)
-    }
-
-    /// Ends the pending merge with what was built of its job. Takes no memory.
-    pub(crate) fn merge_end<D: Disk>(&mut self, disk: &mut D, session: u8, built: Built) -> Reply
-        requires seat { session < 17 }
-        requires built { pending_job self.old.store ≡ Some built }
-        requires runs { (p : Plain) × Runs self.old (D.view disk.old) p }
-        ensures serves { Serves self.old (D.view disk.old) session statements.MergeEnd result self.new (D.view disk.new) }
-        ensures ends { EndsMerge self.old.store.counts.pending result }
-    {
-        let before = self.store.next_id();
-        let response = self.store.merge_end(session, built);
-        self.conclude(disk, session, &Statement::MergeEnd, before, response)
-    }
-
-    // Ends a statement: its response in memory is handed out, and the journal's next id noted. The store's was this one before.
-    fn conclude<D: Disk>(
+    /// Ends a statement: its response in memory is handed out, and the journal's next id noted. The store's was this one before.
+    pub(crate) fn conclude<D: Disk>(
         &mut self,
         disk: &mut D,
         session: u8,
-        st: &Statement,
+        ending: Ending,
         before: u32,
         response: Response,
     ) -> Reply
         requires seat { session < 17 }
         requires ready { AreReady self.old.files (D.view disk.old) }
-        ensures { Concludes response session st.now before self.old (D.view disk.old) result self.new (D.view disk.new) }
+        ensures { (st : Statement) → ending ≡ ending_of st
+            → Concludes response session st before self.old (D.view disk.old) result self.new (D.view disk.new) }
     {
         let reply = self.hand_out(disk, response);
         let after = self.store.next_id();
-        self.next.note(session, st, &reply, before, after);
+        self.next.note(session, ending, &reply, before, after);
         reply
     }
 
@@ -218,13 +150,31 @@ impl LoggedStore {
     {
         match response {
             Response::Answered(reply) => reply,
-            Response::Append(reply) => match self.files.append(disk, self.store.frame()) {
+            Response::Append(reply) => match self.append(disk) {
                 Ok(()) => reply,
                 Err(_) => {
                     drop(reply); // it is not handed out
-                    self.goes_down()
+                    Reply::DiskFault
                 }
             },
+        }
+    }
+
+    /// Appends the store's frame to the log. Where the disk fails, the store is down.
+    pub(crate) fn append<D: Disk>(&mut self, disk: &mut D) -> Result<(), Failed>
+        requires { AreReady self.old.files (D.view disk.old) }
+        ensures any_moment { MayGain self.old.store.frame self.old.files (D.view disk.old) (D.view disk.new) }
+        ensures ok { OnOk result (Appended self.old.files self.new.files self.old.store.frame (D.view disk.old) (D.view disk.new)) }
+        ensures kept { OnOk result (self.new ≡ record self.old { files = self.new.files }) }
+        ensures err { OnErr result (NotAppended (D.view disk.old) (D.view disk.new)) }
+        ensures down { OnErr result (self.new ≡ record self.old { down = true }) }
+    {
+        match self.files.append(disk, self.store.frame()) {
+            Ok(()) => Ok(()),
+            Err(error) => {
+                self.down = true;
+                Err(error)
+            }
         }
     }
 }

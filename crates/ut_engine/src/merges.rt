@@ -1,22 +1,23 @@
 //! Merges into main: one begins, hands out its job, and ends with what was built of it.
-ghost use Rattle.std.specs.Prelude.{◌≡◌, ◌<◌, false, Some, Err, IfOk, IsErrOf, Result};
+ghost use Rattle.std.specs.Prelude.{◌≡◌, ◌<◌, ℕ, false, Some, IfOk, IsErr, IsErrOf, is_err};
+ghost use Rattle.std.specs.Option.{option_map};
+ghost use Rattle.ut_plain.specs.declared.stage.PendingMerge.{PendingMerge};
 ghost use Rattle.ut_plain.specs.declared.statement.Statement.TheVariants as statements;
-ghost use Rattle.ut_plain.specs.declared.reply.Reply.TheVariants as replies;
 ghost use Rattle.ut_plain.specs.Names.{has_table};
 ghost use Rattle.ut_outside.specs.Faults.{Rose};
-ghost use Rattle.ut_merge.specs.Jobs.{JobValue};
 ghost use Rattle.ut_store.specs.Jobs.{pending_job};
-ghost use Rattle.ut_engine.specs.Merging.{begin_reply, is_fault, EndsMerge, HasReason, Tells};
+ghost use Rattle.ut_engine.specs.Merging.{begin_reply, end_reply, is_fault, HasReason};
 ghost use Rattle.ut_engine.specs.Serves.{Serves};
 
 use crate::engine::Engine;
 use crate::error::BeginError;
-use crate::stages::copied;
+use crate::replies::end_reply;
 use std::alloc::{AllocError, Global};
-use ut_merge::{Built, Job};
-use ut_outside::Disk;
-use ut_plain::{PendingMerge, Refusal, Reply, Statement, Why};
-use ut_value::{MergeKind, Name, OPERATOR};
+use ut_merge::{Build, Built, Job};
+use ut_outside::{Disk, Failed};
+use ut_plain::{PendingMerge, Refusal, Reply, Why};
+use ut_store::MergeStop;
+use ut_value::{MergeKind, Name};
 
 impl<'d, D: Disk> Engine<'d, D> {
     /// Begins a merge of a table into main, as `merge begin` of the operator does, and hands out its job.
@@ -36,14 +37,18 @@ impl<'d, D: Disk> Engine<'d, D> {
         ensures down { self.new.store.down ≡ is_fault result }
         ensures loan { self.new.loan ≡ self.old.loan }
     {
-        let table = copied(alloc, table)?;
-        let (reply, job) = self.store.statement_with_job(
-            alloc,
-            self.disk,
-            OPERATOR,
-            &Statement::MergeBegin { table, kind },
-        );
-        begin_answer(reply, job)
+        let Some(table) = self.store.store.place_of(table) else {
+            return Err(BeginError::Name);
+        };
+        match self.store.store.merge_begin(alloc, table, kind) {
+            Ok(job) => match self.store.append(self.disk) {
+                Ok(()) => Ok(job),
+                Err(_) => Err(BeginError::Disk),
+            },
+            Err(MergeStop::Busy(number)) => Err(BeginError::Busy(number)),
+            Err(MergeStop::Full) => Err(BeginError::Full),
+            Err(MergeStop::Memory) => Err(BeginError::Memory),
+        }
     }
 
     /// The job of the pending merge once more, its data shared. There is none exactly where no merge is pending.
@@ -54,17 +59,40 @@ impl<'d, D: Disk> Engine<'d, D> {
         self.store.store.merge_again(alloc)
     }
 
-    /// Ends the pending merge with what was built of its job, as `merge end` does. Takes no memory.
-    pub fn merge_end(&mut self, session: u8, built: Built) -> Reply
-        requires seat { session < 17 }
+    /// Ends the pending merge with what was built of its job, as `merge end` does, and tells its number. Takes no memory.
+    pub fn merge_end(&mut self, built: Built) -> Result<u32, Failed>
         requires up { self.old.store.down ≡ false }
         requires built { pending_job self.old.store.store ≡ Some built }
-        ensures serves { Serves self.old.store (D.view self.old.disk) session statements.MergeEnd result self.new.store (D.view self.new.disk) }
-        // Its number, or that the disk failed: nothing else is wanting.
-        ensures ends { EndsMerge self.old.store.store.counts.pending result }
+        ensures serves { (session : ℕ) → session < 17 → Serves self.old.store (D.view self.old.disk) session statements.MergeEnd (end_reply result) self.new.store (D.view self.new.disk) }
+        ensures number { IfOk result (λ n. option_map (λ (m : PendingMerge). m.number) self.old.store.store.counts.pending ≡ Some n) }
+        ensures cause { IsErr result → Rose (D.view self.old.disk).faults (D.view self.new.disk).faults }
+        // It is down exactly where the disk failed.
+        ensures down { self.new.store.down ≡ is_err result }
         ensures loan { self.new.loan ≡ self.old.loan }
     {
-        self.store.merge_end(self.disk, session, built)
+        let number = self.store.store.merge_end(built);
+        match self.store.append(self.disk) {
+            Ok(()) => Ok(number),
+            Err(error) => Err(error),
+        }
+    }
+
+    /// Answers the end of the pending merge, whose new part the builder builds first. Where there is no memory for that, it stays
+    /// pending.
+    pub(crate) fn build_and_end<B: Build>(&mut self, alloc: Global, builder: &B) -> Reply
+        requires ready { B.ready builder.now }
+        requires up { self.old.store.down ≡ false }
+        ensures serves { (session : ℕ) → session < 17 → Serves self.old.store (D.view self.old.disk) session statements.MergeEnd result self.new.store (D.view self.new.disk) }
+        ensures loan { self.new.loan ≡ self.old.loan }
+    {
+        match self.merge_again(alloc) {
+            Ok(None) => Reply::Refused(Refusal::State(Why::Nothing)),
+            Ok(Some(job)) => match builder.build(alloc, &job) {
+                Ok(built) => end_reply(self.merge_end(built)),
+                Err(_) => Reply::Refused(Refusal::Memory),
+            },
+            Err(_) => Reply::Refused(Refusal::Memory),
+        }
     }
 
     /// The merge that was begun and has not ended.
@@ -79,32 +107,5 @@ impl<'d, D: Disk> Engine<'d, D> {
         ensures { result ≡ self.now.store.store.counts.merges }
     {
         self.store.store.merges()
-    }
-}
-
-// What the reply to the begin of a merge says, with the job that came with it.
-fn begin_answer(reply: Reply, job: Option<Job>) -> Result<Job, BeginError>
-    requires { (answer : Result JobValue BeginError) × Tells answer reply job }
-    ensures { Tells result reply job }
-{
-    match reply {
-        Reply::Merge(_) => Ok(job.unwrap()),
-        Reply::Refused(why) => Err(begin_refusal(why)),
-        Reply::DiskFault => Err(BeginError::Disk),
-        _ => unreachable!(),
-    }
-}
-
-// Why no merge began that was refused.
-fn begin_refusal(why: Refusal) -> BeginError
-    requires { (error : BeginError) × (begin_reply (Err error) ≡ replies.Refused why) }
-    ensures { begin_reply (Err result) ≡ replies.Refused why }
-{
-    match why {
-        Refusal::Name => BeginError::Name,
-        Refusal::State(Why::Busy(n)) => BeginError::Busy(n),
-        Refusal::Full => BeginError::Full,
-        Refusal::Memory => BeginError::Memory,
-        _ => unreachable!(),
     }
 }

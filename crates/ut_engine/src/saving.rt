@@ -6,6 +6,7 @@ ghost use Rattle.ut_plain.specs.declared.statement.Statement.TheVariants as stat
 ghost use Rattle.ut_plain.specs.Plain.{Plain};
 ghost use Rattle.ut_plain.specs.Refusals.{is_save};
 ghost use Rattle.ut_plain.specs.View.{captured_now};
+ghost use Rattle.ut_names.specs.Binding.{statement_of};
 ghost use Rattle.ut_redo.specs.Logs.{IsLogFile, other_log};
 ghost use Rattle.ut_pages.specs.declared.root.Root.{Root};
 ghost use Rattle.ut_durable.specs.Bytes.{image_pages};
@@ -24,6 +25,7 @@ ghost use Rattle.ut_engine.specs.Serves.{Serves};
 use crate::logged::LoggedStore;
 use std::alloc::{AllocError, Global};
 use ut_capture::captured;
+use ut_names::Piece;
 use ut_outside::{Disk, Failed, Which};
 use ut_pages::Root;
 use ut_plain::{Progress, Refusal, Reply, Statement, save_why};
@@ -31,21 +33,20 @@ use ut_redo::other_log;
 use ut_savepoint::{Savepoint, plan};
 
 impl LoggedStore {
-    /// Answers a statement of the savepoint. Only its begin takes memory.
-    pub(crate) fn save<D: Disk>(&mut self, alloc: Global, disk: &mut D, st: &Statement) -> Reply
-        requires save { IsTrue (is_save st.now) }
+    /// Answers a piece of a savepoint. Only its begin takes memory.
+    pub(crate) fn save<D: Disk>(&mut self, alloc: Global, disk: &mut D, piece: Piece) -> Reply
         requires runs { (p : Plain) × Runs self.old (D.view disk.old) p }
-        ensures serves { (session : ℕ) → Serves self.old (D.view disk.old) session st.now result self.new (D.view disk.new) }
-        ensures dropped { st.now ≡ statements.SaveDrop → disk.new ≡ disk.old }
-        ensures planned { st.now ≡ statements.SaveBegin → (pages : ℕ) → result ≡ replies.Saving 0 pages → HasPlanned self.old self.new.saving pages }
+        ensures serves { (session : ℕ) → Serves self.old (D.view disk.old) session (statement_of piece) result self.new (D.view disk.new) }
+        // To give it up the disk isn't called.
+        ensures dropped { piece ≡ Piece.GiveUp → disk.new ≡ disk.old }
+        ensures planned { piece ≡ Piece.Begin → (pages : ℕ) → result ≡ replies.Saving 0 pages → HasPlanned self.old self.new.saving pages }
     {
-        match st {
-            Statement::SaveBegin => self.save_begin(alloc, disk),
-            Statement::SaveStep { n } => self.save_step(disk, *n),
-            Statement::SaveSeal => self.save_seal(disk),
-            Statement::SaveFlip => self.save_flip(disk),
-            Statement::SaveDrop => self.save_drop(disk),
-            _ => unreachable!(),
+        match piece {
+            Piece::Begin => self.save_begin(alloc, disk),
+            Piece::Step { n } => self.save_step(disk, n),
+            Piece::Seal => self.save_seal(disk),
+            Piece::Flip => self.save_flip(disk),
+            Piece::GiveUp => self.save_drop(disk),
         }
     }
 

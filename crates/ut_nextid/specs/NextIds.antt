@@ -16,6 +16,8 @@ use Rattle.ut_plain.specs.View.{own_ops}
 use Rattle.ut_plain.specs.Reached.{IsPlain}
 use Rattle.ut_plain.specs.Spelled.{is_spelled}
 use Rattle.ut_plain.specs.Step.{step}
+use Rattle.ut_nextid.specs.declared.next_ids.Ending.{Ending}
+use Rattle.ut_nextid.specs.declared.next_ids.Ending.TheVariants as endings
 
 -- the next id of the journal, and what the open transactions inserted
 pub record Noted : Type 0 where
@@ -83,11 +85,21 @@ with_rows n session (Changed rows (Some c)) after = record n { next = after }
 with_rows n session (Changed rows None) after = record n { own = slice_set n.own session after }
 with_rows n session reply after = n
 
+-- how a statement ends its session's transaction
+abbrev pub ending_of : Statement → Ending
+ending_of Commit = endings.Commit
+ending_of Abort = endings.Abort
+ending_of st = endings.Neither
+
+-- what is noted behind a statement that ends its session's transaction so
+abbrev pub noted_as : Noted → ℕ → Ending → Reply → (before after : ℕ) → Noted
+noted_as n session endings.Commit reply before after = with_commit n session reply
+noted_as n session endings.Abort reply before after = with_abort n session reply
+noted_as n session endings.Neither reply before after = if nat_lt before after then with_rows n session reply after else n
+
 -- what is noted behind a statement
 abbrev pub noted : Noted → ℕ → Statement → Reply → (before after : ℕ) → Noted
-noted n session Commit reply before after = with_commit n session reply
-noted n session Abort reply before after = with_abort n session reply
-noted n session st reply before after = if nat_lt before after then with_rows n session reply after else n
+noted n session st reply before after = noted_as n session (ending_of st) reply before after
 
 -- With each statement that a line can spell it stays the plain store's.
 abbrev pub NoteKeeps : Type 0

@@ -5,4 +5,4 @@ mod laws;
 mod next_ids;
 
 pub use laws::note_laws;
-pub use next_ids::NextIds;
+pub use next_ids::{Ending, NextIds, ending_of};

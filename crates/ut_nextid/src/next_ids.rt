@@ -2,12 +2,31 @@
 ghost use Rattle.std.specs.Prelude.{◌≡◌, ◌<◌, IfOk, IsTrue};
 ghost use Rattle.ut_plain.specs.State.{State};
 ghost use Rattle.ut_plain.specs.Journal.{after_all, can_all};
-ghost use Rattle.ut_nextid.specs.NextIds.{entries_next, entry_next, ops_next, op_next, nobody, noted, over, with_abort, with_commit, with_rows};
+ghost use Rattle.ut_nextid.specs.NextIds.{ending_of, entries_next, entry_next, ops_next, op_next, nobody, noted_as, over, with_abort, with_commit, with_rows};
 
 use std::alloc::{AllocError, Global};
 use std::marker::Model;
 use ut_plain::{Reply, Statement};
 use ut_value::{Entry, Op, SEATS};
+
+/// How a statement ends its session's transaction.
+#[derive(Clone, Copy, Debug, PartialEq, Eq)]
+pub enum Ending {
+    Commit,
+    Abort,
+    Neither,
+}
+
+/// How a statement ends its session's transaction.
+pub fn ending_of(st: &Statement) -> Ending
+    ensures { result ≡ ending_of st.now }
+{
+    match st {
+        Statement::Commit => Ending::Commit,
+        Statement::Abort => Ending::Abort,
+        _ => Ending::Neither,
+    }
+}
 
 /// One above the greatest id that the journal's entries inserted, and for each session the same of its open transaction, 0 where it inserted none.
 /// A store gives ids to rows of transactions that are given up, so its own next id may be greater.
@@ -48,15 +67,15 @@ impl NextIds {
         self.next
     }
 
-    /// Notes what a statement of a session was answered, and the next id of the store before it and after it.
-    pub fn note(&mut self, session: u8, st: &Statement, reply: &Reply, before: u32, after: u32)
+    /// Notes what a statement of a session was answered that ends its transaction so, and the next id of the store before it and after it.
+    pub fn note(&mut self, session: u8, ending: Ending, reply: &Reply, before: u32, after: u32)
         requires { session < 17 }
-        ensures { self.new ≡ noted self.old session st.now reply.now before after }
+        ensures { self.new ≡ noted_as self.old session ending reply.now before after }
     {
-        match st {
-            Statement::Commit => self.note_commit(session, reply),
-            Statement::Abort => self.note_abort(session, reply),
-            _ => {
+        match ending {
+            Ending::Commit => self.note_commit(session, reply),
+            Ending::Abort => self.note_abort(session, reply),
+            Ending::Neither => {
                 if before < after {
                     self.note_rows(session, reply, after);
                 }

@@ -27,7 +27,8 @@ pub fn ask(alloc: Global, look: &Look<'_>, query: &Query) -> Result<Reply, Refus
     }
 }
 
-fn answer(alloc: Global, look: &Look<'_>, question: &Question) -> Result<Reply, AllocError>
+/// The answer to a question whose names are bound, over the rows that are seen. An error says that memory ran out.
+pub fn answer(alloc: Global, look: &Look<'_>, question: &Question) -> Result<Reply, AllocError>
     requires looks { CanLook (sight look.now) }
     requires asked { IsAsked look.now.tables.now question.now }
     ensures { IfOk result (Tells (sight look.now) question.now) }

@@ -5,5 +5,5 @@ mod answers;
 mod asking;
 mod rows;
 
-pub use asking::ask;
+pub use asking::{answer, ask};
 pub use ut_look::Look;

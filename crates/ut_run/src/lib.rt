@@ -6,12 +6,10 @@ mod lines;
 mod report;
 mod say;
 mod start;
-mod statement;
 mod turn;
 mod write;
 
 pub use lines::run;
 pub use report::{Report, Status, ended};
 pub use start::{Start, begin, open_status, start_of};
-pub use statement::answer;
 pub use write::write_all;

@@ -1,17 +1,14 @@
 //! What a line is answered.
 ghost use Rattle.std.specs.Prelude.{◌≡◌, ◌<◌, ◌≤◌, [], Some, IsTrue, false, vec_capacity};
-ghost use Rattle.ut_plain.specs.Spelled.{is_spelled};
-ghost use Rattle.ut_store.specs.Standing.{suits_session};
 ghost use Rattle.ut_script.specs.Grammar.{parsed};
 ghost use Rattle.ut_reply.specs.Texts.{reply_text};
-ghost use Rattle.ut_run.specs.Saying.{Says, IsKnown, IsText, MayFault, said_of};
+ghost use Rattle.ut_run.specs.Saying.{Says, IsText, MayFault, said_of};
 
-use crate::statement::answer;
 use std::alloc::Global;
 use ut_engine::Engine;
 use ut_merge::Build;
 use ut_outside::Disk;
-use ut_plain::{Parsed, Refusal, Reply, Statement};
+use ut_plain::{Parsed, Refusal, Reply};
 use ut_reply::{put_reply, put_small};
 use ut_script::parse_line;
 
@@ -41,59 +38,16 @@ pub(crate) fn say<D: Disk, B: Build>(
     ensures loan { engine.new.loan ≡ engine.old.loan }
 {
     match parse_line(alloc, line, false) {
-        Ok(parsed) => say_parsed(alloc, engine, builder, &parsed, text),
+        Ok(Parsed::Comment) => Said::Nothing,
+        Ok(Parsed::Stranger) => refuse(text, None, Refusal::Syntax),
+        Ok(Parsed::Bad(session)) => refuse(text, Some(session), Refusal::Syntax),
+        Ok(Parsed::Good(session, st)) => {
+            let reply = engine.answer(alloc, builder, session, st);
+            put_text(text, session, &reply);
+            said_of(&reply)
+        }
         Err(lacks) => refuse(text, Some(lacks.session), Refusal::Memory),
     }
-}
-
-fn say_parsed<D: Disk, B: Build>(
-    alloc: Global,
-    engine: &mut Engine<'_, D>,
-    builder: &B,
-    line: &Parsed,
-    text: &mut Vec<u8>,
-) -> Said
-    requires up { engine.old.store.down ≡ false }
-    requires ready { B.ready builder.now }
-    requires known { IsKnown line.now }
-    requires empty { text.old.items ≡ [] }
-    requires room { 96 ≤ vec_capacity text.old }
-    ensures says { Says engine.old.store (D.view engine.old.disk) line.now result engine.new.store (D.view engine.new.disk) text.new.items }
-    ensures room { 96 ≤ vec_capacity text.new }
-    ensures cause { MayFault (D.view engine.old.disk) (D.view engine.new.disk) result }
-    ensures loan { engine.new.loan ≡ engine.old.loan }
-{
-    match line {
-        Parsed::Comment => Said::Nothing,
-        Parsed::Stranger => refuse(text, None, Refusal::Syntax),
-        Parsed::Bad(session) => refuse(text, Some(*session), Refusal::Syntax),
-        Parsed::Good(session, st) => say_statement(alloc, engine, builder, *session, st, text),
-    }
-}
-
-fn say_statement<D: Disk, B: Build>(
-    alloc: Global,
-    engine: &mut Engine<'_, D>,
-    builder: &B,
-    session: u8,
-    st: &Statement,
-    text: &mut Vec<u8>,
-) -> Said
-    requires up { engine.old.store.down ≡ false }
-    requires ready { B.ready builder.now }
-    requires seat { session < 17 }
-    requires suits { IsTrue (suits_session session st.now) }
-    requires spelled { IsTrue (is_spelled st.now) }
-    requires empty { text.old.items ≡ [] }
-    requires room { 96 ≤ vec_capacity text.old }
-    ensures says { Says engine.old.store (D.view engine.old.disk) (Parsed.Good session st.now) result engine.new.store (D.view engine.new.disk) text.new.items }
-    ensures room { 96 ≤ vec_capacity text.new }
-    ensures cause { MayFault (D.view engine.old.disk) (D.view engine.new.disk) result }
-    ensures loan { engine.new.loan ≡ engine.old.loan }
-{
-    let reply = answer(alloc, engine, builder, session, st);
-    put_text(text, session, &reply);
-    said_of(&reply)
 }
 
 // Puts a refusal into an empty buffer.

@@ -1,5 +1,5 @@
--- Statements that find rows: what keeps one back, and what a question is answered.
-use Rattle.std.proofs.Common.{ℕ, zero, suc, ◌<◌, ◌≡◌, Bool, true, false, Option, None, Some, refl, sym, ap, ◌∙◌, arith, IsTrue}
+-- What a question is answered.
+use Rattle.std.proofs.Common.{ℕ, ◌<◌, ◌≡◌, Bool, true, false, Option, None, Some, refl, sym, ap, ◌∙◌, IsTrue}
 use Rattle.std.specs.Option.{option_map, is_some}
 use Rattle.ut_plain.specs.declared.stage.PendingMerge.{PendingMerge}
 use Rattle.ut_plain.specs.declared.statement.Query.{Query}
@@ -8,27 +8,23 @@ use Rattle.ut_plain.specs.declared.statement.Statement.TheVariants as statements
 use Rattle.ut_plain.specs.declared.reply.Refusal.{Refusal}
 use Rattle.ut_plain.specs.declared.reply.Refusal.TheVariants as refusals
 use Rattle.ut_plain.specs.declared.reply.Reply.{Reply}
-use Rattle.ut_plain.specs.declared.reply.Reply.TheVariants as replies
 use Rattle.ut_plain.specs.Kinds.{kinds_fit}
 use Rattle.ut_plain.specs.Names.{names_known}
 use Rattle.ut_plain.specs.View.{view}
 use Rattle.ut_plain.specs.Query as query
-use Rattle.ut_plain.specs.Refusals.{is_save, state_why, merge_why, unless, or_else}
+use Rattle.ut_plain.specs.Refusals.{state_why, merge_why, unless, or_else}
 use Rattle.ut_plain.specs.Spelled.{is_spelled}
-use Rattle.ut_plain.specs.Step.{may_lack_memory}
-use Rattle.ut_names.specs.Resolved.{Hinders}
 use Rattle.ut_query.specs.Tells.{IsAnswer}
 use Rattle.ut_txn.specs.Seats.{opened_at}
 use Rattle.ut_store.specs.declared.response.Response.TheVariants.{Answered}
 use Rattle.ut_store.specs.Held.{Held}
-use Rattle.ut_store.specs.Standing.{Stands, changes_rows, finds_rows, suits_session}
+use Rattle.ut_store.specs.Standing.{finds_rows}
 use Rattle.ut_store.specs.Early.{early_refusal}
 use Rattle.ut_store.specs.Answers.{Answers}
-use Rattle.ut_store.specs.Changes.{MayChange}
 use Rattle.ut_store.specs.Reads.{sight_of}
-use Rattle.ut_store.proofs.EarlyLemmas.{allowed, early}
+use Rattle.ut_store.proofs.EarlyLemmas.{allowed}
 use Rattle.ut_store.proofs.LookLemmas.{sees}
-use Rattle.ut_store.proofs.StandsLemmas.{itself_same, no_memory, refused, tells}
+use Rattle.ut_store.proofs.StandsLemmas.{itself_same, tells}
 
 -- neither the session's state nor a merge stands in the way
 quiet : (inside : Bool) (pending : Option PendingMerge) (st : Statement) → finds_rows st ≡ true → or_else (option_map refusals.State (state_why inside st)) (option_map refusals.State (merge_why pending st)) ≡ None
@@ -54,53 +50,8 @@ early_none e session st finds names kinds =
     (λ i. or_else (unless (names i) refusals.Name) (or_else (unless (kinds i) refusals.Kind) (behind e session st)))
     ∙ quiet (is_some (opened_at e.seats session)) e.counts.pending st finds
 
-no_save : (st : Statement) → finds_rows st ≡ true → is_save st ≡ false
-no_save (statements.Ask q) h = refl
-no_save (statements.Update name column value preds) h = refl
-no_save (statements.Delete name preds) h = refl
-no_save _ h = cc
-
-lacks : (st : Statement) → finds_rows st ≡ true → IsTrue (may_lack_memory st)
-lacks (statements.Ask q) h = refl
-lacks (statements.Update name column value preds) h = refl
-lacks (statements.Delete name preds) h = refl
-lacks _ h = cc
-
--- what keeps a statement back is its answer
-pub kept_back : (e : Held) (session : ℕ) (st : Statement) (why : Refusal) → session < 17 → finds_rows st ≡ true → Hinders (names_known e.rows.tables st) (kinds_fit e.rows.tables st) why → Answers e session st (Answered (replies.Refused why)) e
-kept_back e session st refusals.Name small finds h =
-    refused e e session st refusals.Name
-    (early e session st refusals.Name small (no_save st finds) (λ i. or_else (unless (h i) refusals.Name) (or_else (unless (kinds_fit e.rows.tables st) refusals.Kind) (behind e session st)))) (itself_same e)
-kept_back e session st refusals.Kind small finds h =
-    refused e e session st refusals.Kind
-    (early e session st refusals.Kind small (no_save st finds) (λ i. or_else (unless (h.0 i) refusals.Name) (or_else (unless (h.1 i) refusals.Kind) (behind e session st)))) (itself_same e)
-kept_back e session st refusals.Memory small finds h = no_memory e e session st (lacks st finds) (itself_same e)
-kept_back e session st refusals.Syntax small finds h = absurd h
-kept_back e session st (refusals.State why) small finds h = absurd h
-kept_back e session st refusals.Full small finds h = absurd h
-kept_back e session st (refusals.Conflict id) small finds h = absurd h
-
 -- what a question is answered
 pub told_now : (e : Held) (session : ℕ) (q : Query) (reply : Reply) → session < 17 → IsTrue (is_spelled (statements.Ask q)) → IsAnswer (sight_of e session) q reply → Answers e session (statements.Ask q) (Answered reply) e
 told_now e session q reply small spelled t =
     tells e e session (statements.Ask q) reply spelled (allowed e session (statements.Ask q) small refl (early_none e session (statements.Ask q) refl t.known t.fits) (λ p s. refl) (λ p s. refl)) (itself_same e)
     (λ p s. ap (λ (r : Reply). record { reply = r; plain = p }) (sym (t.told (view p session).rows (sees e p session small s) ∙ ap (λ ts. query.told ts (view p session).rows q) s.counts.tables)))
-
--- a change of rows that nothing keeps back
-pub may_change : (e : Held) (session : ℕ) (st : Statement) → session < 17 → IsTrue (suits_session session st) → IsTrue (is_spelled st) → Stands e → finds_rows st ≡ true → IsTrue (changes_rows st) → names_known e.rows.tables st ≡ true → kinds_fit e.rows.tables st ≡ true → MayChange e session st
-may_change e session st small suits spelled stands finds kind names kinds = record {
-  seat = small;
-  inside = inside session st suits kind;
-  spelled = spelled;
-  stands = stands;
-  early = early_none e session st finds names kinds;
-  kind = kind;
-}
-  where
-    inside : (n : ℕ) (x : Statement) → IsTrue (suits_session n x) → IsTrue (changes_rows x) → 0 < n
-    inside zero (statements.Insert name values) h k = cc
-    inside zero (statements.Bulk name values) h k = cc
-    inside zero (statements.Update name column value preds) h k = cc
-    inside zero (statements.Delete name preds) h k = cc
-    inside zero _ h k = cc
-    inside (suc n) x h k = omega arith

@@ -88,10 +88,6 @@ module _ (e : Held) (session n : ℕ) (name : List ℕ) (values : List Value) (m
 
 -- ---- the same of a statement that is a bulk
 
--- the table that it names
-pub bulk_named : (e : Held) (session n : ℕ) (st : Statement) (name : List ℕ) (values : List Value) → MayChange e session st → st ≡ statements.Bulk name values → n ≡ place_in e.rows.tables name → TableAt e n (columns_in e.rows.tables name)
-bulk_named e session n st name values m h is = bulk_table e session n name values (subst (λ x. MayChange e session x) h m) is
-
 module _ (e : Held) (session : ℕ) (st : Statement) (n width : ℕ) (values : List Value) (m : MayChange e session st) (d : IsBulk e.rows.tables st n width values) where
   that : MayChange e session (statements.Bulk d.name values)
   that = subst (λ x. MayChange e session x) d.is m

@@ -1,6 +1,8 @@
 -- The operations of a delete.
-use Rattle.std.proofs.Common.{ℕ, ◌<◌, ◌≤◌, ◌≡◌, false, List, length, Option, Some, refl, sym, ap, ◌∙◌, subst, arith, slice_get, slice_set, unwrap_or}
+use Rattle.std.proofs.Common.{ℕ, ◌<◌, ◌≤◌, ◌≡◌, false, List, [], ◌∷◌, length, Option, Some, refl, sym, ap, ◌∙◌, subst, arith, slice_get, slice_set, unwrap_or}
+use Rattle.std.proofs.lemmas.List.Sums.{sum_by-cons}
 use Rattle.ut_value.specs.declared.entry.Op.{Op}
+use Rattle.ut_value.specs.declared.entry.Op.TheVariants as ops
 use Rattle.ut_plain.specs.declared.statement.Statement.{Statement}
 use Rattle.ut_plain.specs.declared.statement.Statement.TheVariants as statements
 use Rattle.ut_plain.specs.declared.statement.Pred.{Pred}
@@ -8,6 +10,7 @@ use Rattle.ut_plain.specs.Tables.{place_in, columns_in}
 use Rattle.ut_plain.specs.Names.{preds_known}
 use Rattle.ut_plain.specs.Condition.{found}
 use Rattle.ut_plain.specs.Made.{deletes_all}
+use Rattle.ut_plain.specs.Rows.{inserts_of, op_inserts}
 use Rattle.ut_plain.specs.Refusals.{first_taken}
 use Rattle.ut_plain.specs.Plain.{Plain}
 use Rattle.ut_plain.specs.View.{view}
@@ -68,6 +71,11 @@ module _ (e : Held) (session n : ℕ) (name : List ℕ) (preds : List Pred) (m :
       where
         found_places_at : (t : ℕ) (s : Staged) → slice_get e.rows.staged n ≡ Some s → AreFound s hits
         found_places_at t s at = subst (λ (x : Staged). AreFound x hits) (some_inside the_found.table s (sym the_found.at ∙ at)) the_found.found
+
+-- deletes insert nothing
+pub inserts-deletes : (n : ℕ) (hits : List (ℕ × Place)) → inserts_of (deletes_of n hits) ≡ 0
+inserts-deletes n [] = refl
+inserts-deletes n (x ∷ xs) = let rest = inserts-deletes n xs in let one = sum_by-cons op_inserts (ops.Delete n x.0) (deletes_of n xs) in omega (arith, rest, one)
 
 -- ---- the same of a statement that is a delete
 

@@ -1,11 +1,8 @@
 -- What the early refusals, the limits and the conflicts are together.
-use Rattle.std.proofs.Common.{ℕ, ◌<◌, ◌≡◌, Bool, true, false, IsTrue, is_some, List, Option, None, Some, refl, sym, ap, ◌∙◌}
+use Rattle.std.proofs.Common.{ℕ, ◌<◌, ◌≡◌, Bool, true, false, IsTrue, is_some, Option, None, Some, refl, sym, ap, ◌∙◌}
 use Rattle.std.specs.Option.{option_map}
 use Rattle.ut_plain.specs.declared.statement.Statement.{Statement}
 use Rattle.ut_plain.specs.declared.statement.Statement.TheVariants as statements
-use Rattle.ut_value.specs.declared.value.Column.{Column}
-use Rattle.ut_value.specs.declared.value.Value.{Value}
-use Rattle.ut_value.specs.declared.entry.MergeKind.{MergeKind}
 use Rattle.ut_plain.specs.declared.stage.PendingMerge.{PendingMerge}
 use Rattle.ut_plain.specs.declared.reply.Refusal.{Refusal}
 use Rattle.ut_plain.specs.declared.reply.Refusal.TheVariants as refusals
@@ -19,7 +16,7 @@ use Rattle.ut_txn.specs.Seats.{opened_at}
 use Rattle.ut_store.specs.Held.{Held}
 use Rattle.ut_store.specs.Stands.{StandsFor}
 use Rattle.ut_store.specs.Early.{early_refusal}
-use Rattle.ut_store.specs.Standing.{changes_rows, finds_rows}
+use Rattle.ut_store.specs.Standing.{changes_rows}
 use Rattle.ut_store.specs.Allowed.{IsRefused}
 use Rattle.ut_store.proofs.ReadLemmas.{reads}
 
@@ -79,16 +76,6 @@ behind : (a b : Option Refusal) → or_else a b ≡ None → b ≡ None
 behind None b h = h
 behind (Some why) b h = cc
 
--- where a merge may begin none is pending
-pub not_busy : (e : Held) (session : ℕ) (name : List ℕ) (kind : MergeKind) → early_refusal e session (statements.MergeBegin name kind) ≡ None → e.counts.pending ≡ None
-not_busy e session name kind h =
-    by e.counts.pending (behind (option_map refusals.State (state_why (is_some (opened_at e.seats session)) (statements.MergeBegin name kind))) _
-    (behind (unless (kinds_fit e.rows.tables (statements.MergeBegin name kind)) refusals.Kind) _ (behind (unless (names_known e.rows.tables (statements.MergeBegin name kind)) refusals.Name) _ h)))
-  where
-    by : (o : Option PendingMerge) → option_map refusals.State (merge_why o (statements.MergeBegin name kind)) ≡ None → o ≡ None
-    by None h = refl
-    by (Some m) h = cc
-
 -- where one is pending it may end
 pub may_end : (e : Held) (session : ℕ) (m : PendingMerge) → e.counts.pending ≡ Some m → early_refusal e session statements.MergeEnd ≡ None
 may_end e session m is = by (is_some (opened_at e.seats session)) ∙ (λ i. option_map refusals.State (merge_why (is i) statements.MergeEnd))
@@ -107,27 +94,3 @@ no_save_changes statements.SaveSeal h = cc
 no_save_changes statements.SaveFlip h = cc
 no_save_changes statements.SaveDrop h = cc
 no_save_changes _ h = refl
-
--- each that is none of a savepoint and finds no rows is one of these
-pub all_carried : {A : Type 0} (st : Statement) → is_save st ≡ false → finds_rows st ≡ false → ((name : List ℕ) (values : List Value) → st ≡ statements.Insert name values → ⊥) → ((name : List ℕ) (values : List Value) → st ≡ statements.Bulk name values → ⊥)
-    → ((name : List ℕ) (columns : List Column) → st ≡ statements.Create name columns → ⊥)
-    → (st ≡ statements.Begin → ⊥) → (st ≡ statements.Commit → ⊥) → (st ≡ statements.Abort → ⊥) → ((name : List ℕ) (n : ℕ) → st ≡ statements.MergeL1 name n → ⊥) → ((name : List ℕ) (kind : MergeKind) → st ≡ statements.MergeBegin name kind → ⊥)
-    → (st ≡ statements.MergeEnd → ⊥) → ((name : List ℕ) → st ≡ statements.Shape name → ⊥) → A
-all_carried (statements.Create name columns) served other insert bulk create begin commit abort moves starts ends shape = absurd (create name columns refl)
-all_carried (statements.Insert name values) served other insert bulk create begin commit abort moves starts ends shape = absurd (insert name values refl)
-all_carried (statements.Bulk name values) served other insert bulk create begin commit abort moves starts ends shape = absurd (bulk name values refl)
-all_carried (statements.Update name column value preds) served other insert bulk create begin commit abort moves starts ends shape = cc
-all_carried (statements.Delete name preds) served other insert bulk create begin commit abort moves starts ends shape = cc
-all_carried (statements.Ask query) served other insert bulk create begin commit abort moves starts ends shape = cc
-all_carried statements.Begin served other insert bulk create begin commit abort moves starts ends shape = absurd (begin refl)
-all_carried statements.Commit served other insert bulk create begin commit abort moves starts ends shape = absurd (commit refl)
-all_carried statements.Abort served other insert bulk create begin commit abort moves starts ends shape = absurd (abort refl)
-all_carried (statements.MergeL1 name n) served other insert bulk create begin commit abort moves starts ends shape = absurd (moves name n refl)
-all_carried (statements.MergeBegin name kind) served other insert bulk create begin commit abort moves starts ends shape = absurd (starts name kind refl)
-all_carried statements.MergeEnd served other insert bulk create begin commit abort moves starts ends shape = absurd (ends refl)
-all_carried (statements.Shape name) served other insert bulk create begin commit abort moves starts ends shape = absurd (shape name refl)
-all_carried statements.SaveBegin served other insert bulk create begin commit abort moves starts ends shape = cc
-all_carried (statements.SaveStep n) served other insert bulk create begin commit abort moves starts ends shape = cc
-all_carried statements.SaveSeal served other insert bulk create begin commit abort moves starts ends shape = cc
-all_carried statements.SaveFlip served other insert bulk create begin commit abort moves starts ends shape = cc
-all_carried statements.SaveDrop served other insert bulk create begin commit abort moves starts ends shape = cc

@@ -19,7 +19,6 @@ pub mod PlaceTurnLemmas
 pub mod RestoredLemmas
 pub mod LookLemmas
 pub mod AskLemmas
-pub mod ResolvedLemmas
 pub mod SeenRowLemmas
 pub mod ListedLemmas
 pub mod LimitLemmas
@@ -33,3 +32,11 @@ pub mod UpdateLemmas
 pub mod LoadLemmas
 pub mod SpentLemmas
 pub mod BulkLemmas
+pub mod WayLemmas
+pub mod AskedLemmas
+pub mod ExecutedLemmas
+pub mod AskedWorkLemmas
+pub mod AskedTurnLemmas
+pub mod AskedTableLemmas
+pub mod AskedMergeLemmas
+pub mod BoundLemmas

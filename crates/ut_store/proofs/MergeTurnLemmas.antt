@@ -9,7 +9,6 @@ use Rattle.ut_value.specs.declared.entry.MergeKind.{MergeKind}
 use Rattle.ut_value.specs.declared.entry.Entry.TheVariants as entries
 use Rattle.ut_value.specs.Spelling.{spelling}
 use Rattle.ut_plain.specs.declared.stage.PendingMerge.{PendingMerge}
-use Rattle.ut_plain.specs.declared.statement.Statement.{Statement}
 use Rattle.ut_plain.specs.declared.statement.Statement.TheVariants.{MergeBegin, MergeEnd}
 use Rattle.ut_plain.specs.declared.reply.Reply.TheVariants as replies
 use Rattle.ut_plain.specs.declared.reply.Refusal.TheVariants as refusals
@@ -29,7 +28,6 @@ use Rattle.ut_table.specs.Pending as tables
 use Rattle.ut_staged.specs.Staged.{Staged, placed_of, stages_of}
 use Rattle.ut_staged.proofs.ListLemmas.{none_some, some_same, get-within, get-map}
 use Rattle.ut_staged.proofs.TableLemmas.{stages-here}
-use Rattle.ut_store.specs.declared.response.Response.{Response}
 use Rattle.ut_store.specs.declared.response.Response.TheVariants.{Answered, Append}
 use Rattle.ut_store.specs.Held.{Held}
 use Rattle.ut_tables.specs.Standing.{merge_at}
@@ -38,7 +36,7 @@ use Rattle.ut_store.specs.Standing.{Stands}
 use Rattle.ut_store.specs.Early.{early_refusal}
 use Rattle.ut_store.specs.Answers.{Answers}
 use Rattle.ut_store.specs.Merging.{merge_begun, has_room_to_merge, MayMerge}
-use Rattle.ut_store.specs.Jobs.{pending_job, HandsOut}
+use Rattle.ut_store.specs.Jobs.{pending_job}
 use Rattle.ut_store.proofs.EarlyLemmas.{allowed, full, may_end}
 use Rattle.ut_store.proofs.NumberLemmas.{are_small}
 use Rattle.ut_store.proofs.NamedLemmas.{staged_count, place-is}
@@ -154,9 +152,3 @@ merge_ended_now e rows m session frame small is switch spells =
     subst (λ (x : Held). Answers e session MergeEnd (Append (replies.Merge m.number)) x)
     (λ i. record e { rows = sym switch.rows i; counts = record e.counts { entries = e.counts.entries + 1; pending = None }; frame = sym spells i })
     (merge_ends e session m switch.table switch.olds (allowed e session MergeEnd small refl (may_end e session m is) (λ p st. refl) (λ p st. refl)) is switch.at switch.arranged)
-
--- ---- no other statement hands out a job
-
-pub no_job : (st : Statement) (response : Response) (job : Option JobValue) (e : Held) → ((name : List ℕ) (kind : MergeKind) → st ≡ MergeBegin name kind → ⊥) → job ≡ None → HandsOut st response job e
-no_job (MergeBegin name kind) response job e other none = absurd (other name kind refl)
-no_job st response job e other none = none

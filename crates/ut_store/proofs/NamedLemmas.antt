@@ -1,5 +1,5 @@
 -- What follows where a statement names tables that are there.
-use Rattle.std.proofs.Common.{ℕ, ◌<◌, ◌≡◌, Bool, true, false, List, length, Option, None, Some, refl, sym, ap, ◌∙◌, arith, unwrap_or, IsTrue, slice_get}
+use Rattle.std.proofs.Common.{ℕ, ◌≡◌, Bool, true, false, List, length, Option, None, Some, refl, sym, ap, ◌∙◌, arith, unwrap_or, IsTrue, slice_get}
 use Rattle.std.proofs.lemmas.List.{length-map}
 use Rattle.ut_value.specs.Text.{same_bytes}
 use Rattle.ut_value.specs.declared.value.Column.{Column}
@@ -36,18 +36,8 @@ staged_count e st = sym (length-map e.rows.staged (λ (s : Staged). s.columns)) 
 pub place-is : (e : Held) (session : ℕ) (name : List ℕ) (place : ℕ) → place_of e.rows.tables name ≡ Some place → (p : Plain) → StandsFor e p → place_in (view p session).tables name ≡ place
 place-is e session name place is p s = ap (λ (ts : List Table). place_in ts name) (sym s.counts.tables) ∙ ap (λ (o : Option ℕ). unwrap_or o 0) is
 
--- the place of a name is that of some stages
-pub place_within : (e : Held) (name : List ℕ) (place : ℕ) → Stands e → place_of e.rows.tables name ≡ Some place → place < length e.rows.staged
-place_within e name place st is =
-    let below = position_below (λ (table : Table). same_bytes table.name name) e.rows.tables place is in
-    omega (arith, below, staged_count e st)
-
 -- the stages of a name's table
 pub named_table : (e : Held) (name : List ℕ) (place : ℕ) → Stands e → place_of e.rows.tables name ≡ Some place → (s : Staged) × (slice_get e.rows.staged place ≡ Some s)
 named_table e name place st is =
     let below = position_below (λ (table : Table). same_bytes table.name name) e.rows.tables place is in
     get-there e.rows.staged place (omega (arith, below, staged_count e st))
-
--- the place of a name, as it was looked up
-pub looked_up : (e now : Held) (bytes name : List ℕ) (found : Option ℕ) (place : ℕ) → e ≡ now → bytes ≡ name → found ≡ place_of e.rows.tables bytes → found ≡ Some place → place_of now.rows.tables name ≡ Some place
-looked_up e now bytes name found place same spelt is some = (λ i. place_of (sym same i).rows.tables (sym spelt i)) ∙ sym is ∙ some

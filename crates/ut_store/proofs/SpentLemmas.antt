@@ -1,5 +1,5 @@
 -- A transaction that was started for nothing.
-use Rattle.std.proofs.Common.{inl, inr, ◌≡◌, [], ◌∷◌, ◌++◌, length, length-append, length-set, refl, sym, subst, arith, slice_set}
+use Rattle.std.proofs.Common.{ℕ, inl, inr, ◌≡◌, List, [], ◌∷◌, ◌++◌, length, length-append, length-set, refl, sym, subst, arith, slice_set}
 use Rattle.ut_plain.specs.Plain.{Plain}
 use Rattle.ut_stamps.specs.declared.fates.Fate.TheVariants.{Running, Aborted}
 use Rattle.ut_exact.specs.Gone.{IsGone}
@@ -14,8 +14,9 @@ use Rattle.ut_tables.specs.Changed.{IsSpent, spent}
 use Rattle.ut_txn.specs.Seats.{number_at, SeatsStay}
 use Rattle.ut_store.specs.Held.{Held}
 use Rattle.ut_store.specs.Stands.{StandsFor}
+use Rattle.ut_store.specs.Answers.{Same}
 use Rattle.ut_store.specs.Changes.{Stays}
-use Rattle.ut_store.proofs.IndexLemmas.{same_room, seats_itself}
+use Rattle.ut_store.proofs.IndexLemmas.{seats_itself}
 use Rattle.ut_store.proofs.FinishLemmas.{same_stays}
 use Rattle.ut_store.proofs.SeatLemmas.{seats-stay, numbers-stay}
 use Rattle.ut_store.proofs.StandsLemmas.{dead_set, dead_pushed}
@@ -55,6 +56,10 @@ stands-spent old new c = record { each = λ p s. subst (λ (x : Held). StandsFor
         }
 
 -- where memory ran out, a transaction was given up, or nothing was started
-pub spent_by : (inside e : Held) (rows : Rows) → inside ≡ e → IsSpent inside.rows rows → Stays e (record inside { rows = rows })
-spent_by inside e rows same (inl kept) = same_stays e _ (same_room inside e rows inside.seats same kept (seats_itself inside.seats))
-spent_by inside e rows same (inr aborted) = stands-spent e _ (subst (λ (x : Held). Spent x (record inside { rows = rows })) same (record { rows = aborted; seats = seats_itself inside.seats; counts = refl }))
+pub spent_by : (inside e : Held) (rows : Rows) (frame : List ℕ) → inside ≡ e → IsSpent inside.rows rows → Stays e (record inside { rows = rows; frame = frame })
+spent_by inside e rows frame same (inl kept) = same_stays e _ (subst (λ (x : Held). Same x (record inside { rows = rows; frame = frame })) same (record { rows = kept; seats = seats_itself inside.seats; counts = refl }))
+spent_by inside e rows frame same (inr aborted) = stands-spent e _ (subst (λ (x : Held). Spent x (record inside { rows = rows; frame = frame })) same (record { rows = aborted; seats = seats_itself inside.seats; counts = refl }))
+
+-- another frame changes nothing
+pub framed_by : (inside e : Held) (frame : List ℕ) → inside ≡ e → Stays e (record inside { frame = frame })
+framed_by inside e frame same = same_stays e _ (subst (λ (x : Held). Same x (record inside { frame = frame })) same (record { rows = refl; seats = seats_itself inside.seats; counts = refl }))

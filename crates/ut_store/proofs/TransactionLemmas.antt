@@ -25,6 +25,7 @@ use Rattle.ut_store.specs.Stands.{StandsFor}
 use Rattle.ut_store.specs.Standing.{Stands}
 use Rattle.ut_store.specs.Early.{early_refusal}
 use Rattle.ut_store.specs.Answers.{Answers, Same}
+use Rattle.ut_store.specs.Ending.{Forgotten}
 use Rattle.ut_store.proofs.EarlyLemmas.{allowed, full}
 use Rattle.ut_store.proofs.StandsLemmas.{began, gave_up, committed_nothing, refused, itself_same, open_on, IsOpenOn, By, number_is, no_payload}
 use Rattle.ut_store.proofs.ChangeLemmas.{committed_something}
@@ -64,12 +65,16 @@ began_now e rows seats session number some small early started numbered set =
 
 -- ---- abort
 
-pub gave_up_now : (e : Held) (rows : Rows) (seats : List Seat) (session : ℕ) (o : Opened) → 0 < session → session < 17 → early_refusal e session Abort ≡ None → opened_at e.seats session ≡ Some o
-    → rows ≡ record e.rows { fates = slice_set e.rows.fates o.number Aborted } → SeatSet e.seats seats session None no_payload
-    → Answers e session Abort (Answered replies.Done) (record e { rows = rows; seats = seats })
-gave_up_now e rows seats session o some small early is ended set =
-    subst (λ (r : Rows). Answers e session Abort (Answered replies.Done) (record e { rows = r; seats = seats })) (sym ended)
-    (gave_up e seats e.frame session o some small (allowed e session Abort small refl early (λ p s. refl) (λ p s. refl)) is set)
+-- the store behind the end of a transaction of which nothing is kept
+forgotten_is : (e : Held) (session : ℕ) (o : Opened) (new : Held) → Forgotten e session o new
+    → record e { rows = record e.rows { fates = slice_set e.rows.fates o.number Aborted }; seats = new.seats; frame = new.frame } ≡ new
+forgotten_is e session o new f = λ i. record { rows = sym f.rows i; seats = new.seats; counts = sym f.counts i; frame = new.frame }
+
+pub gave_up_now : (e new : Held) (session : ℕ) (o : Opened) → 0 < session → session < 17 → early_refusal e session Abort ≡ None → opened_at e.seats session ≡ Some o
+    → Forgotten e session o new → Answers e session Abort (Answered replies.Done) new
+gave_up_now e new session o some small early is f =
+    subst (λ (x : Held). Answers e session Abort (Answered replies.Done) x) (forgotten_is e session o new f)
+    (gave_up e new.seats new.frame session o some small (allowed e session Abort small refl early (λ p s. refl) (λ p s. refl)) is f.seats)
 
 -- ---- commit
 
@@ -87,15 +92,15 @@ own_none seats session (o ∷ os) few is = absurd (differ (sym few ∙ (own_some
 own_there : (seats : List Seat) (session : ℕ) (os : List Op) → nat_lt 5 (length (payload_at seats session)) ≡ true → payload_at seats session ≡ spelling (entries.Txn os) → os ≢ []
 own_there seats session os some is = (own_some (nat_lt 5 (length (payload_at seats session))) (payload_at seats session) os refl is).0 some
 
-pub committed_nothing_now : (e : Held) (rows : Rows) (seats : List Seat) (session : ℕ) (o : Opened) → 0 < session → session < 17 → Stands e → early_refusal e session Commit ≡ None
-    → nat_lt 5 (length (payload_at e.seats session)) ≡ false → opened_at e.seats session ≡ Some o → rows ≡ record e.rows { fates = slice_set e.rows.fates o.number Aborted } → SeatSet e.seats seats session None no_payload
-    → Answers e session Commit (Answered replies.Done) (record e { rows = rows; seats = seats })
-committed_nothing_now e rows seats session o some small st early few is ended set =
+pub committed_nothing_now : (e new : Held) (session : ℕ) (o : Opened) → 0 < session → session < 17 → Stands e → early_refusal e session Commit ≡ None
+    → nat_lt 5 (length (payload_at e.seats session)) ≡ false → opened_at e.seats session ≡ Some o → Forgotten e session o new
+    → Answers e session Commit (Answered replies.Done) new
+committed_nothing_now e new session o some small st early few is f =
     let bytes : (p : Plain) → StandsFor e p → payload_at e.seats session ≡ spelling (entries.Txn (own_ops (open_at p.sessions session))) = λ p s. s.seats.payloads session small in
     let none : (p : Plain) → StandsFor e p → own_ops (open_at p.sessions session) ≡ [] = λ p s. own_none e.seats session _ few (bytes p s) in
-    subst (λ (r : Rows). Answers e session Commit (Answered replies.Done) (record e { rows = r; seats = seats })) (sym ended)
-    (committed_nothing e seats e.frame session o some small (allowed e session Commit small refl early (λ p s. ap (has_commit_room (view p session)) (none p s)) (λ p s. refl)) is
-    (bytes st.plain st.stands ∙ ap (λ (os : List Op). spelling (entries.Txn os)) (none st.plain st.stands)) (λ os h. own_none e.seats session os few h) set)
+    subst (λ (x : Held). Answers e session Commit (Answered replies.Done) x) (forgotten_is e session o new f)
+    (committed_nothing e new.seats new.frame session o some small (allowed e session Commit small refl early (λ p s. ap (has_commit_room (view p session)) (none p s)) (λ p s. refl)) is
+    (bytes st.plain st.stands ∙ ap (λ (os : List Op). spelling (entries.Txn os)) (none st.plain st.stands)) (λ os h. own_none e.seats session os few h) f.seats)
 
 -- a transaction of operations has room where the journal has
 has_room-some : (p : Plain) (session : ℕ) (room : Bool) (os : List Op) → os ≢ [] → nat_lt (view p session).entries 1073741823 ≡ room → has_commit_room (view p session) os ≡ room

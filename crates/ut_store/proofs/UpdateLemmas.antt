@@ -59,7 +59,7 @@ use Rattle.ut_staged.proofs.TableLemmas.{here}
 abbrev pub update_of : Held → ℕ → (List Value → List Value) → ℕ → List (ℕ × Place) → List Op
 update_of e n change id hits = updates_of n id hits (map change (values_at e n hits))
 
-inserts-updates : (e : Held) (n id : ℕ) (change : List Value → List Value) (hits : List (ℕ × Place)) → inserts_of (update_of e n change id hits) ≡ length hits
+pub inserts-updates : (e : Held) (n id : ℕ) (change : List Value → List Value) (hits : List (ℕ × Place)) → inserts_of (update_of e n change id hits) ≡ length hits
 inserts-updates e n id change [] = refl
 inserts-updates e n id change (x ∷ xs) =
     let rest = inserts-updates e n (id + 1) change xs in

@@ -12,3 +12,6 @@ pub mod Changes
 pub mod Works
 pub mod Merging
 pub mod Jobs
+pub mod Outcomes
+pub mod Executing
+pub mod Ending

@@ -1,96 +1,50 @@
-//! A statement's work: refused, or done and answered.
-ghost use Rattle.std.specs.Prelude.{◌≡◌, None, Some};
-ghost use Rattle.ut_txn.specs.Seats.{opened_at};
-ghost use Rattle.ut_tables.specs.Works.{ops_in, places_of};
-ghost use Rattle.ut_store.specs.Answers.{Answers};
-ghost use Rattle.ut_store.specs.Changes.{MayChange, late_refusal};
-ghost use Rattle.ut_store.specs.Works.{Does, IsReady};
+//! A statement's work: refused, or done.
+ghost use Rattle.std.specs.Prelude.{◌≡◌};
+ghost use Rattle.ut_store.specs.Works.{AnswersWork, IsAskedWork, IsReady};
 
-use crate::{Response, Store};
-use std::alloc::Global;
-use ut_plain::{Refusal, Reply, Statement};
+use crate::{Outcome, Store};
+use ut_plain::Refusal;
 use ut_tables::Work;
-use ut_txn::Opened;
 
 impl Store {
     /// Does the work of a statement, if limits and the other transactions allow it.
-    pub(crate) fn finish(
-        &mut self,
-        alloc: Global,
-        session: u8,
-        st: &Statement,
-        work: Work<'_>,
-    ) -> Response
-        requires may { MayChange self.old session st.now }
+    pub(crate) fn finish(&mut self, session: u8, work: Work<'_>) -> Outcome
+        requires asked { IsAskedWork self.old session work }
         requires ready { IsReady self.old work }
-        requires does { Does self.old session st.now work }
-        ensures { Answers self.old session st.now result self.new }
+        ensures { AnswersWork self.old session work.entry result self.new }
     {
-        if let Some(why) = self.late_refusal(session, work.place, &work.changes) {
-            return Response::Answered(Reply::Refused(why));
-        }
+        let bytes = match self.measured(session, &work) {
+            Ok(bytes) => bytes,
+            Err(why) => return Outcome::Refused(why),
+        };
+        let rows = work.rows;
         match self.sessions.opened(session) {
-            Some(opened) => self.finish_inside(alloc, session, st, opened, work),
-            None => self.finish_alone(alloc, session, st, work),
-        }
-    }
-
-    fn finish_inside(
-        &mut self,
-        alloc: Global,
-        session: u8,
-        st: &Statement,
-        opened: Opened,
-        work: Work<'_>,
-    ) -> Response
-        requires may { MayChange self.old session st.now }
-        requires ready { IsReady self.old work }
-        requires does { Does self.old session st.now work }
-        requires late { late_refusal self.old session work.place (places_of work) (ops_in work.changes) ≡ None }
-        requires opened { opened_at self.old.seats session ≡ Some opened }
-        ensures { Answers self.old session st.now result self.new }
-    {
-        let rows = work.rows;
-        match self.work_inside(session, opened, work) {
-            Ok(()) => Response::Answered(Reply::Changed { rows, commit: None }),
-            Err(_) => no_memory(),
-        }
-    }
-
-    fn finish_alone(
-        &mut self,
-        alloc: Global,
-        session: u8,
-        st: &Statement,
-        work: Work<'_>,
-    ) -> Response
-        requires may { MayChange self.old session st.now }
-        requires ready { IsReady self.old work }
-        requires does { Does self.old session st.now work }
-        requires late { late_refusal self.old session work.place (places_of work) (ops_in work.changes) ≡ None }
-        requires closed { opened_at self.old.seats session ≡ None }
-        ensures { Answers self.old session st.now result self.new }
-    {
-        if work.changes.is_empty() {
-            return Response::Answered(Reply::Changed {
-                rows: 0,
-                commit: None,
-            });
-        }
-        let rows = work.rows;
-        match self.work_alone(alloc, work) {
-            Ok(()) => Response::Append(Reply::Changed {
-                rows,
-                commit: Some(self.counts.commits),
-            }),
-            Err(_) => no_memory(),
+            Some(opened) => match self.work_inside(session, opened, bytes, work) {
+                Ok(()) => Outcome::Changed { rows, commit: None },
+                Err(_) => no_memory(),
+            },
+            None => {
+                if work.changes.is_empty() {
+                    return Outcome::Changed {
+                        rows: 0,
+                        commit: None,
+                    };
+                }
+                match self.work_alone(bytes, work) {
+                    Ok(()) => Outcome::Changed {
+                        rows,
+                        commit: Some(self.counts.commits),
+                    },
+                    Err(_) => no_memory(),
+                }
+            }
         }
     }
 }
 
-/// The answer where memory ran out.
-pub(crate) fn no_memory() -> Response
-    ensures { result ≡ Response.Answered (Reply.Refused Refusal.Memory) }
+/// The outcome where memory ran out.
+pub(crate) fn no_memory() -> Outcome
+    ensures { result ≡ Outcome.Refused Refusal.Memory }
 {
-    Response::Answered(Reply::Refused(Refusal::Memory))
+    Outcome::Refused(Refusal::Memory)
 }

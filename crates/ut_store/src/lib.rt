@@ -9,6 +9,7 @@ mod insert;
 mod limits;
 mod look;
 mod merges;
+mod outcome;
 mod pending;
 mod response;
 mod statement;
@@ -18,5 +19,7 @@ mod transactions;
 mod update;
 mod work;
 
-pub use response::{Outcome, Response};
+pub use merges::MergeStop;
+pub use outcome::Outcome;
+pub use response::Response;
 pub use store::Store;

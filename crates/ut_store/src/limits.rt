@@ -1,44 +1,43 @@
 //! Whether operations keep to the limits, and whether another transaction is in their way.
-ghost use Rattle.std.specs.Prelude.{◌≡◌, ◌<◌, IsTrue};
+ghost use Rattle.std.specs.Prelude.{◌≡◌, ◌<◌, true, false, None, Some, IsTrue, IfOk, IfErr, IfSome, IfNone};
 ghost use Rattle.std.specs.List.{list_all};
-ghost use Rattle.ut_value.specs.Spelling.{is_op};
-ghost use Rattle.ut_table.specs.Finds.{hits_of};
-ghost use Rattle.ut_tables.specs.Works.{AreChanges, hits_in, ops_in};
-ghost use Rattle.ut_store.specs.Changes.{HasPlaces, has_ids_for, has_bytes_for, has_room_for, late_refusal};
+ghost use Rattle.ut_value.specs.Spelling.{is_op, ops_len};
+ghost use Rattle.ut_plain.specs.Rows.{inserts_of};
+ghost use Rattle.ut_tables.specs.Works.{AreChanges, ops_in, places_of};
+ghost use Rattle.ut_store.specs.Changes.{HasPlaces, has_ids_for, has_room_for, late_refusal};
 
 use crate::Store;
 use crate::transactions::ENTRIES_LIMIT;
 use ut_plain::Refusal;
-use ut_tables::Changes;
+use ut_tables::Work;
 use ut_value::ENTRY_LIMIT;
 
 /// The bytes of the longest entry.
 pub(crate) const MOST_BYTES: u32 = ENTRY_LIMIT;
 
 impl Store {
-    /// The refusal of operations by a limit, or by the least row that another transaction took.
-    pub(crate) fn late_refusal(
-        &self,
-        session: u8,
-        place: usize,
-        changes: &Changes<'_>,
-    ) -> Option<Refusal>
+    /// How many bytes the operations of work are spelled in; or the refusal by a limit, or by the least row that another
+    /// transaction took.
+    pub(crate) fn measured(&self, session: u8, work: &Work<'_>) -> Result<u32, Refusal>
         requires seat { session < 17 }
-        requires places { HasPlaces self.now place (hits_of (hits_in changes.now)) }
-        requires are { AreChanges changes.now }
-        requires rule { IsTrue (list_all is_op (ops_in changes.now)) }
-        ensures { result ≡ late_refusal self.now session place (hits_of (hits_in changes.now)) (ops_in changes.now) }
+        requires places { HasPlaces self.now work.now.place (places_of work.now) }
+        requires are { AreChanges work.now.changes }
+        requires rule { IsTrue (list_all is_op (ops_in work.now.changes)) }
+        requires count { work.now.inserts ≡ inserts_of (ops_in work.now.changes) }
+        ensures ok { IfOk result (λ bytes. late_refusal self.now session work.now.place (places_of work.now) (ops_in work.now.changes) ≡ None) }
+        ensures bytes { IfOk result (λ bytes. bytes ≡ ops_len (ops_in work.now.changes)) }
+        ensures err { IfErr result (λ why. late_refusal self.now session work.now.place (places_of work.now) (ops_in work.now.changes) ≡ Some why) }
     {
-        if !self.has_room_for(session, changes) {
-            return Some(Refusal::Full);
-        }
+        let Some(bytes) = self.bytes_for(session, work) else {
+            return Err(Refusal::Full);
+        };
         let look = self.look(session);
         match self
             .rows
-            .first_taken(place, look.snapshot, look.own, changes.hits())
+            .first_taken(work.place, look.snapshot, look.own, work.changes.hits())
         {
-            Some(id) => Some(Refusal::Conflict(id)),
-            None => None,
+            Some(id) => Err(Refusal::Conflict(id)),
+            None => Ok(bytes),
         }
     }
 
@@ -51,29 +50,31 @@ impl Store {
         rows == 0 || rows as u64 <= free
     }
 
-    fn has_bytes_for(&self, session: u8, changes: &Changes<'_>) -> bool
+    // How many bytes the operations are spelled in, where they keep to the limits.
+    fn bytes_for(&self, session: u8, work: &Work<'_>) -> Option<u32>
         requires seat { session < 17 }
-        requires are { AreChanges changes.now }
-        requires rule { IsTrue (list_all is_op (ops_in changes.now)) }
-        ensures { result ≡ has_bytes_for self.now session (ops_in changes.now) }
+        requires are { AreChanges work.now.changes }
+        requires rule { IsTrue (list_all is_op (ops_in work.now.changes)) }
+        requires count { work.now.inserts ≡ inserts_of (ops_in work.now.changes) }
+        ensures some { IfSome result (λ bytes. has_room_for self.now session (ops_in work.now.changes) ≡ true) }
+        ensures bytes { IfSome result (λ bytes. bytes ≡ ops_len (ops_in work.now.changes)) }
+        ensures none { IfNone result (has_room_for self.now session (ops_in work.now.changes) ≡ false) }
     {
-        let own = self.sessions.size(session);
-        own <= MOST_BYTES && changes.ops_len(MOST_BYTES - own).is_some()
-    }
-
-    fn has_room_for(&self, session: u8, changes: &Changes<'_>) -> bool
-        requires seat { session < 17 }
-        requires are { AreChanges changes.now }
-        requires rule { IsTrue (list_all is_op (ops_in changes.now)) }
-        ensures { result ≡ has_room_for self.now session (ops_in changes.now) }
-    {
-        if changes.is_empty() {
-            return true;
+        if work.changes.is_empty() {
+            return Some(0);
         }
-        let ids = self.has_ids_for(changes.inserts());
-        let bytes = self.has_bytes_for(session, changes);
         let journal = self.sessions.opened(session).is_some()
             || self.counts.entries < ENTRIES_LIMIT;
-        ids && bytes && journal
+        if !journal {
+            return None;
+        }
+        if !self.has_ids_for(work.inserts as usize) {
+            return None;
+        }
+        let own = self.sessions.size(session);
+        if own > MOST_BYTES {
+            return None;
+        }
+        work.changes.ops_len(MOST_BYTES - own)
     }
 }

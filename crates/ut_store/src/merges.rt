@@ -1,74 +1,63 @@
 //! Merges into main: one begins, hands out its job, and ends with what was built of it.
-ghost use Rattle.std.specs.Prelude.{◌≡◌, ◌<◌, false, Some, None, IsTrue, IfOk, OnOk, OnErr, slice_get};
+ghost use Rattle.std.specs.Prelude.{◌≡◌, ◌<◌, ℕ, Some, None, Err, IfOk, OnOk, OnErr, IsErrOf, length, slice_get};
 ghost use Rattle.std.specs.Option.{option_map};
 ghost use Rattle.ut_value.specs.declared.entry.Entry.TheVariants as entries;
 ghost use Rattle.ut_value.specs.Spelling.{spelling};
+ghost use Rattle.ut_plain.specs.declared.reply.Reply.TheVariants.{Merge};
 ghost use Rattle.ut_plain.specs.declared.stage.PendingMerge.{PendingMerge};
 ghost use Rattle.ut_plain.specs.declared.statement.Statement.TheVariants as statements;
-ghost use Rattle.ut_plain.specs.Refusals.{is_save};
-ghost use Rattle.ut_plain.specs.Spelled.{is_spelled};
+ghost use Rattle.ut_names.specs.declared.bound.Task.TheVariants as tasks;
 ghost use Rattle.ut_staged.specs.Staged.{Staged};
-ghost use Rattle.ut_store.specs.Early.{early_refusal};
-ghost use Rattle.ut_store.specs.Standing.{Stands, suits_session};
+ghost use Rattle.ut_store.specs.declared.response.Response.TheVariants.{Append};
+ghost use Rattle.ut_store.specs.Standing.{Stands};
 ghost use Rattle.ut_store.specs.Answers.{Answers, Same};
+ghost use Rattle.ut_store.specs.Executing.{ExecutesFor};
 ghost use Rattle.ut_store.specs.Merging.{MayMerge, merge_begun};
-ghost use Rattle.ut_store.specs.Jobs.{pending_job, HandsOut};
+ghost use Rattle.ut_store.specs.Jobs.{pending_job};
+ghost use Rattle.ut_store.specs.Outcomes.{merging_outcome};
 
-use crate::finish::no_memory;
 use crate::pending::Pending;
 use crate::transactions::ENTRIES_LIMIT;
-use crate::{Outcome, Response, Store};
+use crate::{Outcome, Store};
 use std::alloc::{AllocError, Global};
 use ut_frame::Frame;
 use ut_merge::{Built, Job};
-use ut_plain::{PendingMerge, Refusal, Reply, Statement};
-use ut_value::{Entry, MergeKind, Name};
+use ut_plain::{PendingMerge, Refusal, Why};
+use ut_value::{Entry, MergeKind};
+
+/// Why no merge began. `Busy` has the number of the merge that is pending.
+#[derive(Clone, Copy, Debug, PartialEq, Eq)]
+pub enum MergeStop {
+    Busy(u32),
+    Full,
+    Memory,
+}
 
 impl Store {
-    /// Answers a statement of a session as `statement` does, and hands out the job of a merge that it begins.
-    pub fn statement_with_job(&mut self, alloc: Global, session: u8, st: &Statement) -> Outcome
-        requires seat { session < 17 }
-        requires suits { IsTrue (suits_session session st.now) }
-        requires served { is_save st.now ≡ false }
-        requires spelled { IsTrue (is_spelled st.now) }
-        requires stands { Stands self.old }
-        ensures answers { Answers self.old session st.now result.response self.new }
-        ensures job { HandsOut st.now result.response result.job self.new }
-    {
-        match st {
-            Statement::MergeBegin { table, kind } => match self.early_refusal(session, st) {
-                Some(why) => without_job(Response::Answered(Reply::Refused(why))),
-                None => self.merge_begin(alloc, session, table, *kind),
-            },
-            _ => without_job(self.statement(alloc, session, st)),
-        }
-    }
-
-    /// Begins a merge of a table.
-    pub(crate) fn merge_begin(
+    /// Begins a merge of the table at a place, and hands out its job. The log has to append the store's frame then.
+    pub fn merge_begin(
         &mut self,
         alloc: Global,
-        session: u8,
-        table: &Name,
+        table: usize,
         kind: MergeKind,
-    ) -> Outcome
-        requires seat { session < 17 }
-        requires spelled { IsTrue (is_spelled (statements.MergeBegin table.now kind)) }
+    ) -> Result<Job, MergeStop>
         requires stands { Stands self.old }
-        requires early { early_refusal self.old session (statements.MergeBegin table.now kind) ≡ None }
-        ensures answers { Answers self.old session (statements.MergeBegin table.now kind) result.response self.new }
-        ensures job { HandsOut (statements.MergeBegin table.now kind) result.response result.job self.new }
+        requires there { table < length self.old.rows.tables }
+        ensures executes { ExecutesFor self.old (tasks.MergeBegin table kind) (merging_outcome result) self.new }
+        // `Busy` just where one is pending, with its number.
+        ensures busy { (n : ℕ) → result ≡ Err (MergeStop.Busy n) → option_map (λ (m : PendingMerge). m.number) self.old.counts.pending ≡ Some n }
+        ensures idle { IfOk result (λ _. self.old.counts.pending ≡ None) }
+        ensures full { IsErrOf result MergeStop.Full → self.old.counts.pending ≡ None }
     {
-        let place = self.rows.place_of(table.as_slice()).unwrap();
-        if self.counts.entries >= ENTRIES_LIMIT || !self.rows.has_room_to_merge(place, kind) {
-            return without_job(Response::Answered(Reply::Refused(Refusal::Full)));
+        if let Some(pending) = &self.counts.pending {
+            return Err(MergeStop::Busy(pending.head().number));
         }
-        match self.close_table(alloc, place, kind) {
-            Err(_) => without_job(no_memory()),
-            Ok(job) => Outcome {
-                response: Response::Append(Reply::Merge(self.counts.merges)),
-                job: Some(job),
-            },
+        if self.counts.entries >= ENTRIES_LIMIT || !self.rows.has_room_to_merge(table, kind) {
+            return Err(MergeStop::Full);
+        }
+        match self.close_table(alloc, table, kind) {
+            Ok(job) => Ok(job),
+            Err(_) => Err(MergeStop::Memory),
         }
     }
 
@@ -117,21 +106,20 @@ impl Store {
         }
     }
 
-    /// Ends the pending merge with what was built of its job. Takes no memory.
-    pub fn merge_end(&mut self, session: u8, built: Built) -> Response
-        requires seat { session < 17 }
+    /// Ends the pending merge with what was built of its job, and tells its number. The log has to append the store's frame then.
+    /// Takes no memory.
+    pub fn merge_end(&mut self, built: Built) -> u32
         requires stands { Stands self.old }
         requires built { pending_job self.old ≡ Some built }
-        ensures answers { Answers self.old session statements.MergeEnd result self.new }
-        // Nothing can be wanting: the number of the pending merge is to be told.
-        ensures appended { option_map (λ (m : PendingMerge). Response.Append (Reply.Merge m.number)) self.old.counts.pending ≡ Some result }
+        ensures answers { (session : ℕ) → session < 17 → Answers self.old session statements.MergeEnd (Append (Merge result)) self.new }
+        ensures number { option_map (λ (m : PendingMerge). m.number) self.old.counts.pending ≡ Some result }
     {
         let pending = self.counts.pending.take().unwrap();
         let head = pending.head();
         self.rows.switch(usize::from(head.table), built);
         self.counts.entries += 1;
         self.frame = pending.into_frame();
-        Response::Append(Reply::Merge(head.number))
+        head.number
     }
 
     /// How many merges were begun.
@@ -152,13 +140,15 @@ impl Store {
     }
 }
 
-fn without_job(response: Response) -> Outcome
-    ensures response { result.response ≡ response }
-    ensures job { result.job ≡ None }
+/// The outcome of the begin of a merge.
+pub(crate) fn merging(answer: Result<Job, MergeStop>) -> Outcome
+    ensures { result ≡ merging_outcome answer }
 {
-    Outcome {
-        response,
-        job: None,
+    match answer {
+        Ok(job) => Outcome::Merging(job),
+        Err(MergeStop::Busy(number)) => Outcome::Refused(Refusal::State(Why::Busy(number))),
+        Err(MergeStop::Full) => Outcome::Refused(Refusal::Full),
+        Err(MergeStop::Memory) => Outcome::Refused(Refusal::Memory),
     }
 }
 

@@ -1,5 +1,4 @@
-//! What a statement comes to in memory.
-use ut_merge::Job;
+//! A reply, and whether it has an entry.
 use ut_plain::Reply;
 
 /// A reply, and whether the log has to append the store's frame before it is handed out.
@@ -7,11 +6,4 @@ use ut_plain::Reply;
 pub enum Response {
     Answered(Reply),
     Append(Reply),
-}
-
-/// A response, and the job of the merge that it begins.
-#[derive(Drop)]
-pub struct Outcome {
-    pub response: Response,
-    pub job: Option<Job>,
 }

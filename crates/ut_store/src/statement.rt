@@ -1,95 +1,101 @@
-//! Statements: what refuses one before any row is looked at, and what answers it.
-ghost use Rattle.std.specs.Prelude.{◌≡◌, ◌<◌, false, None, IsTrue};
-ghost use Rattle.ut_plain.specs.declared.statement.Statement.TheVariants as statements;
+//! Statements are bound to the tables that are there, and what was bound is executed.
+ghost use Rattle.std.specs.Prelude.{◌≡◌, ◌<◌, ℕ, false, true, IsErr, IsTrue, IfOk, IfErr};
+ghost use Rattle.ut_value.specs.Text.{is_name};
+ghost use Rattle.ut_plain.specs.declared.reply.Reply.TheVariants.{Refused};
 ghost use Rattle.ut_plain.specs.Refusals.{is_save};
-ghost use Rattle.ut_plain.specs.Spelled.{is_spelled};
-ghost use Rattle.ut_store.specs.Early.{early_refusal};
-ghost use Rattle.ut_store.specs.Standing.{Stands, suits_session, finds_rows};
+ghost use Rattle.ut_plain.specs.Tables.{place_of};
+ghost use Rattle.ut_names.specs.Binding.{Binds};
+ghost use Rattle.ut_names.specs.declared.bound.Task.TheVariants as tasks;
+ghost use Rattle.ut_store.specs.declared.response.Response.TheVariants.{Answered};
 ghost use Rattle.ut_store.specs.Answers.{Answers};
+ghost use Rattle.ut_store.specs.Executing.{Executes, MayExecute};
+ghost use Rattle.ut_store.specs.Outcomes.{moved_outcome, shape_outcome};
+ghost use Rattle.ut_store.specs.Standing.{Stands};
 
-use crate::finish::no_memory;
-use crate::{Response, Store};
-use std::alloc::Global;
-use ut_plain::{Query, Refusal, Reply, Statement};
-use ut_query::ask;
+use crate::merges::merging;
+use crate::{Outcome, Store};
+use std::alloc::{AllocError, Global};
+use ut_names::{Bound, Question, Task, bind, table_place};
+use ut_plain::{Refusal, Shape, Statement};
+use ut_query::answer;
+use ut_value::Name;
 
 impl Store {
-    /// Answers a statement of a session, but for those of a savepoint. Where the answer says so, the log has to append the store's frame
-    /// before the reply is handed out. A commit and an abort take no memory.
-    /// The job of a merge that begins is given up; the end of one that is pending wants what was built of its job, for
-    /// which there is no memory here.
-    pub fn statement(&mut self, alloc: Global, session: u8, st: &Statement) -> Response
-        requires seat { session < 17 }
-        requires suits { IsTrue (suits_session session st.now) }
-        requires served { is_save st.now ≡ false }
-        requires spelled { IsTrue (is_spelled st.now) }
-        requires stands { Stands self.old }
-        ensures { Answers self.old session st.now result self.new }
+    /// A statement with its names bound and its values moved, or why it is refused.
+    pub fn bind(&self, alloc: Global, st: Statement) -> Result<Bound, Refusal>
+        requires { Stands self.now }
+        ensures ok { IfOk result (Binds self.now.rows.tables st) }
+        ensures err { IfErr result (λ why. (session : ℕ) → session < 17 → is_save st ≡ false
+            → Answers self.now session st (Answered (Refused why)) self.now) }
+        // None of a savepoint is refused.
+        ensures save { is_save st ≡ true → IsErr result → ⊥ }
     {
-        match st {
-            Statement::Ask(query) => self.tell(alloc, session, query),
-            Statement::Delete { table, preds } => self.delete(alloc, session, st, table, preds),
-            Statement::Update {
+        bind(alloc, self.rows.tables(), st)
+    }
+
+    /// The place of the table of a name, in order of creation.
+    pub fn place_of(&self, name: &Name) -> Option<usize>
+        ensures place { result ≡ place_of self.now.rows.tables name.now }
+        // A name is one.
+        ensures rule { IsTrue (is_name name.now) }
+    {
+        table_place(self.rows.tables(), name)
+    }
+
+    /// Executes what was bound. Where the outcome says so, the log has to append the store's frame before it is told. A commit
+    /// and an abort take no memory.
+    pub fn execute(&mut self, alloc: Global, session: u8, task: Task) -> Outcome
+        requires { MayExecute self.old session task }
+        ensures { Executes self.old session task result self.new }
+    {
+        match task {
+            Task::Insert { table, values } => self.insert(session, table, values),
+            Task::Load {
                 table,
-                column,
-                value,
-                preds,
-            } => self.update(alloc, session, st, table, column, value, preds),
-            _ => match self.early_refusal(session, st) {
-                Some(why) => Response::Answered(Reply::Refused(why)),
-                None => self.carry_out(alloc, session, st),
-            },
+                width,
+                values,
+            } => self.load(session, table, width, values),
+            Task::Update { target, value } => self.update(alloc, session, target, value),
+            Task::Delete(rows) => self.delete(alloc, session, rows),
+            Task::Ask(question) => self.tell(alloc, session, question),
+            Task::Create(table) => self.create(alloc, session, table),
+            Task::Begin => self.begin(session),
+            Task::Commit => self.commit(session),
+            Task::Abort => self.abort(session),
+            Task::MergeL1 { table, n } => moved(self.merge_l1(table, n)),
+            Task::MergeBegin { table, kind } => merging(self.merge_begin(alloc, table, kind)),
+            Task::Shape { table } => shown(self.shape(alloc, table)),
         }
     }
 
-    // A statement that finds no rows and that no early refusal stops.
-    fn carry_out(&mut self, alloc: Global, session: u8, st: &Statement) -> Response
-        requires seat { session < 17 }
-        requires suits { IsTrue (suits_session session st.now) }
-        requires served { is_save st.now ≡ false }
-        requires spelled { IsTrue (is_spelled st.now) }
-        requires stands { Stands self.old }
-        requires early { early_refusal self.old session st.now ≡ None }
-        requires other { finds_rows st.now ≡ false }
-        ensures { Answers self.old session st.now result self.new }
+    // What is asked.
+    fn tell(&self, alloc: Global, session: u8, question: Question) -> Outcome
+        requires { MayExecute self.now session (tasks.Ask question) }
+        ensures { Executes self.now session (tasks.Ask question) result self.now }
     {
-        match st {
-            Statement::Insert { table, values } => self.insert(alloc, session, st, table, values),
-            Statement::Bulk { table, values } => self.bulk(alloc, session, st, table, values),
-            Statement::Create { table, columns } => self.create(alloc, session, table, columns),
-            Statement::Begin => self.begin(session),
-            Statement::Commit => self.commit(session),
-            Statement::Abort => self.abort(session),
-            Statement::MergeL1 { table, n } => self.merge_l1(session, table, *n),
-            Statement::MergeBegin { table, kind } => {
-                self.merge_begin(alloc, session, table, *kind).response
-            }
-            Statement::MergeEnd => no_memory(),
-            Statement::Shape { table } => self.shape(alloc, session, table),
-            _ => unreachable!(),
+        match answer(alloc, &self.look(session), &question) {
+            Ok(reply) => Outcome::Told(reply),
+            Err(_) => Outcome::Refused(Refusal::Memory),
         }
     }
+}
 
-    // What is asked, or why it isn't told.
-    fn tell(&self, alloc: Global, session: u8, query: &Query) -> Response
-        requires seat { session < 17 }
-        requires spelled { IsTrue (is_spelled (statements.Ask query.now)) }
-        requires stands { Stands self.now }
-        ensures { Answers self.now session (statements.Ask query.now) result self.now }
-    {
-        let look = self.look(session);
-        match ask(alloc, &look, query) {
-            Ok(reply) => Response::Answered(reply),
-            Err(why) => Response::Answered(Reply::Refused(why)),
-        }
+// The outcome of rows that were to be moved to a second stage.
+fn moved(answer: Result<u32, AllocError>) -> Outcome
+    ensures { result ≡ moved_outcome answer }
+{
+    match answer {
+        Ok(moved) => Outcome::Moved(moved),
+        Err(_) => Outcome::Refused(Refusal::Memory),
     }
+}
 
-    /// The refusal of names, of kinds or of the session's state that a statement gets before any row is looked at.
-    pub(crate) fn early_refusal(&self, session: u8, st: &Statement) -> Option<Refusal>
-        requires { session < 17 }
-        ensures { result ≡ early_refusal self.now session st.now }
-    {
-        let is_open = self.sessions.opened(session).is_some();
-        self.rows.early_refusal(is_open, self.pending(), st)
+// The outcome of the question how many rows stand in each stage.
+fn shown(answer: Result<Shape, AllocError>) -> Outcome
+    ensures { result ≡ shape_outcome answer }
+{
+    match answer {
+        Ok(shape) => Outcome::Shape(shape),
+        Err(_) => Outcome::Refused(Refusal::Memory),
     }
 }

@@ -1,5 +1,5 @@
 -- A bulk that is loaded: its rows stand flat, they fit the table, and there are places for them.
-use Rattle.std.proofs.Common.{ℕ, zero, suc, ◌+◌, ◌<◌, ◌≤◌, ◌≡◌, All, IsTrue, List, [], ◌∷◌, ◌++◌, ◌^◌, length, map, take, drop, refl, sym, ap, subst, ◌∙◌, arith, length-drop, slice_set}
+use Rattle.std.proofs.Common.{ℕ, zero, suc, ◌+◌, ◌<◌, ◌≤◌, ◌≡◌, All, IsTrue, List, [], ◌∷◌, ◌++◌, ◌^◌, length, map, take, drop, refl, sym, ap, subst, ◌∙◌, arith, length-drop}
 use Rattle.std.specs.List.{flat_map, range_with_len}
 use Rattle.std.proofs.lemmas.List.{take-append-drop}
 use Rattle.ut_value.specs.declared.value.Row.{Row}
@@ -8,22 +8,17 @@ use Rattle.ut_plain.specs.Made.{cut, rows_of}
 use Rattle.ut_plain.specs.Tables.{fits_columns}
 use Rattle.ut_plain.proofs.MadeLemmas.{inserts_of-inserts}
 use Rattle.ut_plain.proofs.TableLemmas.{fits_columns-length}
-use Rattle.ut_stamps.specs.declared.fates.Fate.TheVariants as fates
 use Rattle.ut_stamps.specs.declared.place.Place.{Place}
 use Rattle.ut_l2.specs.Sources.{AreFlat}
-use Rattle.ut_staged.specs.Staged.{Staged, begun_row, count_of, entered_l2}
-use Rattle.ut_table.specs.Finds.{hits_of}
+use Rattle.ut_staged.specs.Staged.{Staged, count_of}
 use Rattle.ut_change.specs.declared.bulk.Bulk.{Bulk}
 use Rattle.ut_change.specs.Bulks.{bulk_ops, bulk_rows, CanLoad}
-use Rattle.ut_change.specs.Loads.{done_by, numbered}
+use Rattle.ut_change.specs.Loads.{numbered}
 use Rattle.ut_change.specs.Writes.{CanWrite}
-use Rattle.ut_change.proofs.LoadLemmas.{inserted-inserts, length-numbered, numbered-fit}
-use Rattle.ut_tables.specs.declared.work.Changes.{Changes}
-use Rattle.ut_tables.specs.declared.work.Changes.TheVariants.{Loads}
-use Rattle.ut_tables.specs.declared.work.Work.{Work}
-use Rattle.ut_tables.specs.Changed.{CanTake, Committed}
+use Rattle.ut_change.proofs.LoadLemmas.{length-numbered, numbered-fit}
+use Rattle.ut_tables.specs.Changed.{CanTake}
 use Rattle.ut_tables.specs.Rows.{HasTable, Rows}
-use Rattle.ut_tables.specs.Works.{IsWide, hits_in, is_load, ops_in, worked}
+use Rattle.ut_tables.specs.Works.{IsWide}
 use Rattle.ut_tables.proofs.IndexLemmas.{some_inside}
 
 -- ---- the rows stand flat
@@ -90,16 +85,3 @@ can_take_there r n hits b c w = record {
   at = c.at;
   has = can_take c.table hits b c.has (w.has ∙ ap (λ (s : Staged). length s.columns) (some_inside w.table c.table (sym w.at ∙ c.at)));
 }
-
--- ---- what work makes of its table
-
-pub worked_loads : (w : Work) (b : Bulk) → w.changes ≡ Loads b → (t : ℕ) (s : Staged) → worked w t s ≡ entered_l2 (map (begun_row t) (bulk_rows b)) s
-worked_loads w b is t s =
-    ap (λ (x : Changes). done_by (is_load x) (ops_in x) (hits_of (hits_in x)) t s) is
-    ∙ ap (λ (rows : List Row). entered_l2 (map (begun_row t) rows) s) (inserted-inserts b.table b.id (rows_of b.width b.values.now))
-
-pub committed_as : (old new : Rows) (n : ℕ) (f g : ℕ → Staged → Staged) (k : ℕ) → ((t : ℕ) (s : Staged) → g t s ≡ f t s) → Committed old n f k new → Committed old n g k new
-committed_as old new n f g k same done = λ s at.
-    done s at
-    ∙ ap (λ (after : Staged). record old { staged = slice_set old.staged n after; fates = slice_set (old.fates ++ fates.Running ∷ []) (length old.fates) (fates.Committed k) })
-    (sym (same (length old.fates) s))

@@ -2,6 +2,5 @@ pub mod Rows
 pub mod Finds
 pub mod Changed
 pub mod Merging
-pub mod Early
 pub mod Works
 pub mod Standing

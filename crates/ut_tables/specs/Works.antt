@@ -1,5 +1,5 @@
 -- What a statement's work is, and when the rows can take it.
-use Rattle.std.specs.Prelude.{ℕ, ◌≡◌, Bool, true, false, List, [], length}
+use Rattle.std.specs.Prelude.{ℕ, ◌≡◌, Bool, true, false, List, [], ◌∷◌, length}
 use Rattle.ut_value.specs.declared.entry.Op.{Op}
 use Rattle.ut_stamps.specs.declared.place.Place.{Place}
 use Rattle.ut_staged.specs.Staged.{Staged}
@@ -7,30 +7,35 @@ use Rattle.ut_scan.specs.declared.place.Found.{Found}
 use Rattle.ut_table.specs.Finds.{hits_of}
 use Rattle.ut_change.specs.declared.bulk.Bulk.{Bulk}
 use Rattle.ut_change.specs.Bulks.{bulk_ops, CanLoad}
+use Rattle.ut_change.specs.Entering.{insert_of}
 use Rattle.ut_change.specs.Loads.{done_by}
 use Rattle.ut_change.specs.Writes.{CanWrite}
 use Rattle.ut_tables.specs.declared.work.Changes.{Changes}
-use Rattle.ut_tables.specs.declared.work.Changes.TheVariants.{Writes, Loads}
+use Rattle.ut_tables.specs.declared.work.Changes.TheVariants.{Enters, Writes, Loads}
 use Rattle.ut_tables.specs.declared.work.Work.{Work}
 use Rattle.ut_tables.specs.Rows.{HasTable, Rows}
 
 -- where the rows stand that are deleted
 abbrev pub hits_in : Changes → List Found
+hits_in (Enters row) = []
 hits_in (Writes hits ops) = hits.now
 hits_in (Loads bulk) = []
 
 -- the operations
 abbrev pub ops_in : Changes → List Op
+ops_in (Enters row) = insert_of row ∷ []
 ops_in (Writes hits ops) = ops.items
 ops_in (Loads bulk) = bulk_ops bulk
 
 -- whether rows are loaded
 abbrev pub is_load : Changes → Bool
+is_load (Enters row) = false
 is_load (Writes hits ops) = false
 is_load (Loads bulk) = true
 
 -- rows that are loaded have values and ids, and inserts that can be spelled
 abbrev pub AreChanges : Changes → Type 0
+AreChanges (Enters row) = Unit {0}
 AreChanges (Writes hits ops) = Unit {0}
 AreChanges (Loads bulk) = CanLoad bulk
 

@@ -1,7 +1,6 @@
 //! The rows of a store: its tables with their stages, and what became of each transaction.
 #![tactic(auto)]
 
-mod early;
 mod look;
 mod merges;
 mod readers;

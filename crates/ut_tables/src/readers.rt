@@ -1,6 +1,6 @@
 //! What the rows are.
 ghost use Rattle.std.specs.Prelude.{◌≡◌, ◌<◌, Some, length, map, option_map, slice_get};
-ghost use Rattle.ut_plain.specs.Tables.{place_of, place_in};
+ghost use Rattle.ut_plain.specs.Tables.{place_of};
 ghost use Rattle.ut_table.specs.Contents.{TableValue};
 
 use crate::Rows;
@@ -51,16 +51,6 @@ impl Rows {
         ensures { result ≡ place_of self.now.rows.tables name.now }
     {
         place_of(&self.tables, name)
-    }
-
-    /// The same, 0 where there is no such table.
-    pub fn place_in(&self, name: &[u8]) -> usize
-        ensures { result ≡ place_in self.now.rows.tables name.now }
-    {
-        match place_of(&self.tables, name) {
-            Some(place) => place,
-            None => 0,
-        }
     }
 
     /// The name of the table at a place.

@@ -1,7 +1,7 @@
 //! Tables: they are made, their rows move to the second stage, and the rows of their stages are counted.
 ghost use Rattle.std.specs.Prelude.{◌≡◌, ◌<◌, ◌≤◌, min, OnOk, OnErr, IfOk, length};
 ghost use Rattle.ut_plain.specs.Stages.{shape_of};
-ghost use Rattle.ut_staged.specs.Staged.{no_rows, merged_l1, stages_of};
+ghost use Rattle.ut_staged.specs.Staged.{merged_l1, stages_of};
 ghost use Rattle.ut_tables.specs.Changed.{Changed, with_table};
 ghost use Rattle.ut_tables.specs.Rows.{AtPlace};
 
@@ -9,30 +9,19 @@ use crate::Rows;
 use std::alloc::{AllocError, Global};
 use ut_plain::{Shape, Table};
 use ut_table::Table as Stages;
-use ut_value::{Column, Duplicate, Name, Seq};
-
-/// A table without rows.
-#[derive(Drop)]
-struct NewTable {
-    table: Table,
-    stages: Stages,
-}
+use ut_value::Duplicate;
 
 impl Rows {
-    /// A table more, of copies of a name and of columns: all or nothing.
-    pub fn add_table(
-        &mut self,
-        alloc: Global,
-        name: &Name,
-        columns: &Seq<Column>,
-    ) -> Result<(), AllocError>
-        requires { length columns.now ≤ 64 }
-        ensures ok { OnOk result (self.new.rows ≡ with_table self.old.rows name.now columns.now) }
+    /// A table more, without rows: all or nothing.
+    pub fn add_table(&mut self, alloc: Global, table: Table) -> Result<(), AllocError>
+        requires { length table.columns ≤ 64 }
+        ensures ok { OnOk result (self.new.rows ≡ with_table self.old.rows table.name table.columns) }
         ensures err { OnErr result (self.new.rows ≡ self.old.rows) }
     {
         self.tables.reserve(1)?;
         self.stages.reserve(1)?;
-        let NewTable { table, stages } = new_table(alloc, name, columns)?;
+        let columns = table.columns.duplicate(alloc)?;
+        let stages = Stages::new(alloc, columns)?;
         self.tables.push_reserved(table);
         self.stages.push_reserved(stages);
         Ok(())
@@ -55,17 +44,4 @@ impl Rows {
     {
         self.stages[place].shape(alloc)
     }
-}
-
-// A table of copies of a name and of columns.
-fn new_table(alloc: Global, name: &Name, columns: &Seq<Column>) -> Result<NewTable, AllocError>
-    requires { length columns.now ≤ 64 }
-    ensures table { IfOk result (λ new. new.table ≡ record { name = name.now; columns = columns.now }) }
-    ensures stages { IfOk result (λ new. new.stages.stages ≡ no_rows columns.now) }
-{
-    let stages = Stages::new(alloc, columns.duplicate(alloc)?)?;
-    let name = name.copy(alloc)?;
-    let columns = columns.duplicate(alloc)?;
-    let table = Table { name, columns };
-    Ok(NewTable { table, stages })
 }

@@ -7,13 +7,14 @@ ghost use Rattle.ut_staged.specs.Staged.{begun_row, entered_l2};
 ghost use Rattle.ut_staged.specs.Staging.{written};
 ghost use Rattle.ut_table.specs.Finds.{hits_of};
 ghost use Rattle.ut_change.specs.Bulks.{bulk_rows, CanLoad};
+ghost use Rattle.ut_change.specs.Entering.{insert_of};
 ghost use Rattle.ut_change.specs.Writes.{CanWrite};
-ghost use Rattle.ut_tables.specs.Changed.{CanTake, Changed, Committed as DoneAlone, IsSpent};
+ghost use Rattle.ut_tables.specs.Changed.{CanTake, Changed};
 ghost use Rattle.ut_tables.specs.Rows.{HasTable, spare_at, with_fates};
 
 use crate::Rows;
 use std::alloc::AllocError;
-use ut_change::{Bulk, inserts_of, write_all};
+use ut_change::{Bulk, Entering, write_all};
 use ut_scan::Found;
 use ut_value::Op;
 
@@ -62,6 +63,16 @@ impl Rows {
         write_all(&mut self.stages[place], number, hits, ops);
     }
 
+    /// A row of a transaction enters the first stage of the table at a place, in the room that was made. Takes no memory.
+    pub fn enter(&mut self, place: usize, number: u64, row: Entering)
+        requires can { HasTable self.old.rows place (λ s. CanWrite s [] (insert_of row ∷ [])) }
+        requires room { 1 ≤ spare_at self.old place }
+        ensures { Changed self.old.rows place (written number (insert_of row ∷ []) []) self.new.rows }
+    {
+        let (row, stamp) = row.begun(number);
+        self.stages[place].push(row, stamp);
+    }
+
     /// Loads rows of a transaction into the second stage of the table at a place: all or none.
     pub fn load(&mut self, place: usize, bulk: Bulk<'_>, number: u64) -> Result<(), AllocError>
         requires can { CanLoad bulk }
@@ -70,48 +81,5 @@ impl Rows {
         ensures err { OnErr result (self.new.rows ≡ self.old.rows) }
     {
         self.stages[place].load_values(bulk.id, bulk.values, number)
-    }
-
-    /// Writes operations as a transaction by themselves, which the entry commits that brings the journal to a length: all or none.
-    pub fn write_alone(
-        &mut self,
-        place: usize,
-        hits: &[Found],
-        ops: Vec<Op>,
-        length: u32,
-    ) -> Result<(), AllocError>
-        requires { HasTable self.old.rows place (λ s. CanWrite s (hits_of hits.now) ops.items) }
-        ensures ok { OnOk result (DoneAlone self.old.rows place (λ t. written t ops.items (hits_of hits.now)) length self.new.rows) }
-        ensures err { OnErr result (self.new.rows ≡ self.old.rows) }
-    {
-        let inserts = inserts_of(&ops) as u32;
-        self.room(place, inserts)?;
-        let number = self.start()?;
-        self.write_all(place, number, hits, ops);
-        self.commit(number, length);
-        Ok(())
-    }
-
-    /// Loads rows as a transaction by themselves, which that entry commits: all or none. Where memory runs out, a
-    /// transaction that was started is given up.
-    pub fn load_alone(
-        &mut self,
-        place: usize,
-        bulk: Bulk<'_>,
-        length: u32,
-    ) -> Result<(), AllocError>
-        requires can { CanLoad bulk }
-        requires takes { HasTable self.old.rows place (CanTake bulk) }
-        ensures ok { OnOk result
-            (DoneAlone self.old.rows place (λ t. entered_l2 (map (begun_row t) (bulk_rows bulk.entry))) length self.new.rows) }
-        ensures err { OnErr result (IsSpent self.old.rows self.new.rows) }
-    {
-        let number = self.start()?;
-        if let Err(error) = self.load(place, bulk, number) {
-            self.abort(number);
-            return Err(error);
-        }
-        self.commit(number, length);
-        Ok(())
     }
 }

@@ -1,20 +1,30 @@
-use Rattle.std.proofs.Common.{◌≡◌, false, sym, ◌∙◌, ap, subst}
-use Rattle.ut_engine.specs.Lent.{Lent}
-use Rattle.ut_engine.specs.Saves.{HasPlanned}
-use Rattle.ut_engine.proofs.LentLemmas.{goes_on}
+use Rattle.std.proofs.Common.{refl, sym, ◌∙◌, subst, IsTrue}
+use Rattle.ut_plain.specs.declared.statement.Statement.{Statement}
+use Rattle.ut_plain.specs.Spelled.{is_spelled}
+use Rattle.ut_store.specs.Standing.{suits_session}
+use Rattle.ut_engine.specs.Serves.{Serves}
+use Rattle.ut_engine.proofs.ServedLemmas.{wants_memory}
 use Rattle.ut_engine.proofs.engine.Engine.statement.Goals as goal
 
-pub statement-requires-clause-runs : goal.statement-requires-clause-runs
-statement-requires-clause-runs g c = c.self.invariant (subst (λ (e : Lent g.row.D.Denot). e.store.down ≡ false) (sym c.self.view_is) c.requires.up)
+pub answer-requires-clause-suits : goal.answer-requires-clause-suits
+answer-requires-clause-suits g c = subst (λ (st : Statement). IsTrue (suits_session c.args.session st)) (sym c.in-Ok.ensures.copy) c.requires.suits
 
-pub invariant_of-self : goal.invariant_of-self
-invariant_of-self g c =
-    let runs = c.self.invariant (subst (λ (e : Lent g.row.D.Denot). e.store.down ≡ false) (sym c.self.view_is) c.requires.up) in
-    goes_on c.self.inside.store c.statement.new.self (g.D.Disk.view c.self.inside.disk.now) (g.D.Disk.view c.statement.new.disk) c.args.session c.args.st.now c.statement.result runs.0 runs.1 c.statement.ensures.serves
+pub answer-requires-clause-spelled : goal.answer-requires-clause-spelled
+answer-requires-clause-spelled g c = subst (λ (st : Statement). IsTrue (is_spelled st)) (sym c.in-Ok.ensures.copy) c.requires.spelled
 
-pub returns-clause-dropped : goal.returns-clause-dropped
-returns-clause-dropped g c is = c.statement.ensures.dropped is ∙ ap (λ (e : Lent g.row.D.Denot). e.disk) c.self.view_is
+pub returns-in-Ok-clause-serves : goal.returns-in-Ok-clause-serves
+returns-in-Ok-clause-serves g c =
+    subst (λ (st : Statement). Serves c.args.self.now.store (g.D.Disk.view c.args.self.now.disk) c.args.session st c.answer.result c.answer.new.self.store (g.D.Disk.view c.answer.new.self.disk)) c.in-Ok.ensures.copy c.answer.ensures.serves
 
-pub returns-clause-planned : goal.returns-clause-planned
-returns-clause-planned g c is pages told =
-    subst (λ (x : Lent g.row.D.Denot). HasPlanned x.store c.statement.new.self.saving pages) c.self.view_is (c.statement.ensures.planned is pages told)
+pub returns-in-Ok-clause-dropped : goal.returns-in-Ok-clause-dropped
+returns-in-Ok-clause-dropped g c is = c.answer.ensures.dropped (c.in-Ok.ensures.copy ∙ is)
+
+pub returns-in-Err-clause-serves : goal.returns-in-Err-clause-serves
+returns-in-Err-clause-serves g c =
+    wants_memory c.args.self.now.store (g.D.Disk.view c.args.self.now.disk) c.args.session c.args.st.now (g.met.D.Disk.only_now c.args.self.now.disk) (c.in-Err.ensures.room refl)
+
+pub returns-in-Ok-clause-planned : goal.returns-in-Ok-clause-planned
+returns-in-Ok-clause-planned g c is pages told = c.answer.ensures.planned (c.in-Ok.ensures.copy ∙ is) pages told
+
+pub returns-in-Err-clause-planned : goal.returns-in-Err-clause-planned
+returns-in-Err-clause-planned g c is pages told = absurd cc

@@ -1,21 +1,29 @@
-use Rattle.std.proofs.Common.{◌≡◌, None, ap, sym, ◌∙◌, subst}
-use Rattle.ut_plain.specs.declared.statement.Statement.TheVariants.{Abort}
-use Rattle.ut_plain.specs.declared.reply.Reply.TheVariants.{Done}
-use Rattle.ut_tables.specs.Rows.{RowsValue}
-use Rattle.ut_store.specs.Answers.{Answers}
-use Rattle.ut_store.specs.Early.{early_refusal}
+use Rattle.std.proofs.Common.{◌≡◌, Some, sym, subst}
+use Rattle.ut_plain.specs.declared.reply.Refusal.TheVariants as refusals
+use Rattle.ut_plain.specs.declared.reply.Why.TheVariants as whys
+use Rattle.ut_names.specs.declared.bound.Task.TheVariants as tasks
+use Rattle.ut_txn.specs.Seats.{opened_at}
+use Rattle.ut_store.specs.declared.outcome.Outcome.TheVariants as outcomes
+use Rattle.ut_store.specs.Executing.{Executes}
 use Rattle.ut_store.specs.Held.{Held}
-use Rattle.ut_store.specs.Standing.{Stands}
 use Rattle.ut_store.specs.contracts.store.Store.{the_view}
-use Rattle.ut_store.specs.declared.response.Response.TheVariants.{Answered}
-use Rattle.ut_store.proofs.TransactionLemmas.{runs, gave_up_now}
+use Rattle.ut_store.proofs.TransactionLemmas.{runs}
+use Rattle.ut_store.proofs.AskedTurnLemmas.{abort_closed, abort_done}
 use Rattle.ut_store.proofs.store.Store.abort.Goals as goal
 
-pub abort-requires : goal.abort-requires
-abort-requires c = runs (the_view c.self.inside) c.args.session c.unwrap-given_up.result (subst Stands (sym c.self.view_is) c.requires.stands) (sym c.opened.ensures ∙ c.unwrap-given_up.ensures)
+pub returns-in_default : goal.returns-in_default
+returns-in_default c =
+    subst (λ (e : Held). Executes e c.args.session tasks.Abort (outcomes.Refused (refusals.State whys.TxnClosed)) e) c.self.view_is
+    (abort_closed (the_view c.self.inside) c.args.session c.requires.seat (sym c.in_default.ensures))
+
+pub forget-requires-clause-opened : goal.forget-requires-clause-opened
+forget-requires-clause-opened c = subst (λ (e : Held). opened_at e.seats c.args.session ≡ Some c.in-Some.opened) c.self.view_is (sym c.in-Some.ensures)
+
+pub forget-requires-clause-may : goal.forget-requires-clause-may
+forget-requires-clause-may c =
+    runs c.args.self.now c.args.session c.in-Some.opened c.requires.stands (subst (λ (e : Held). opened_at e.seats c.args.session ≡ Some c.in-Some.opened) c.self.view_is (sym c.in-Some.ensures))
 
 pub returns : goal.returns
 returns c =
-    subst (λ (e : Held). Answers e c.args.session Abort (Answered Done) (record (the_view c.self.inside) { rows = c.abort.new.self.rows; seats = c.close.new.self })) c.self.view_is
-    (gave_up_now (the_view c.self.inside) c.abort.new.self.rows c.close.new.self c.args.session c.unwrap-given_up.result c.requires.inside c.requires.seat
-    (subst (λ (e : Held). early_refusal e c.args.session Abort ≡ None) (sym c.self.view_is) c.requires.early) (sym c.opened.ensures ∙ c.unwrap-given_up.ensures) (ap (λ (v : RowsValue). v.rows) c.abort.ensures) c.close.ensures)
+    abort_done c.args.self.now c.args.session c.forget.new.self c.in-Some.opened c.requires.seat
+    (subst (λ (e : Held). opened_at e.seats c.args.session ≡ Some c.in-Some.opened) c.self.view_is (sym c.in-Some.ensures)) c.forget.ensures

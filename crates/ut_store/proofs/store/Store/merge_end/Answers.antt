@@ -24,7 +24,7 @@ switch-requires c =
     ap (job_at e.rows) c.from.ensures ∙ ap (option_and_then (λ (x : PendingMerge). job_at e.rows x.table)) (sym is) ∙ built
 
 pub returns-clause-answers : goal.returns-clause-answers
-returns-clause-answers c =
+returns-clause-answers c session small =
     let e = the_view c.self.inside in
     let m = c.head-head.result in
     let rows = c.switch.new.self.rows in
@@ -32,15 +32,14 @@ returns-clause-answers c =
     let is : e.counts.pending ≡ Some m = sym c.take.ensures.value ∙ c.unwrap-pending.ensures ∙ ap Some (sym c.head-head.ensures) in
     let t = merged_table e m c.args.built stands is (subst (λ (x : Held). pending_job x ≡ Some c.args.built) (sym c.self.view_is) c.requires.built) in
     let switched = subst (λ (h : PendingMerge). Switched e.rows m.table h.kind rows) t.head (subst (λ (n : ℕ). Switched e.rows n c.args.built.head.kind rows) c.from.ensures c.switch.ensures) in
-    subst (λ (x : Held). Answers x c.args.session MergeEnd (Append (replies.Merge m.number)) (record e { rows = rows; counts = record e.counts { entries = e.counts.entries + 1; pending = c.take.new.self }; frame = c.into_frame.result.payload })) c.self.view_is
-    (subst (λ (o : Option PendingMerge). Answers e c.args.session MergeEnd (Append (replies.Merge m.number)) (record e { rows = rows; counts = record e.counts { entries = e.counts.entries + 1; pending = o }; frame = c.into_frame.result.payload })) (sym c.take.ensures.after)
-    (merge_ended_now e rows m c.args.session c.into_frame.result.payload c.requires.seat is switched
+    subst (λ (x : Held). Answers x session MergeEnd (Append (replies.Merge m.number)) (record e { rows = rows; counts = record e.counts { entries = e.counts.entries + 1; pending = c.take.new.self }; frame = c.into_frame.result.payload })) c.self.view_is
+    (subst (λ (o : Option PendingMerge). Answers e session MergeEnd (Append (replies.Merge m.number)) (record e { rows = rows; counts = record e.counts { entries = e.counts.entries + 1; pending = o }; frame = c.into_frame.result.payload })) (sym c.take.ensures.after)
+    (merge_ended_now e rows m session c.into_frame.result.payload small is switched
     (c.into_frame.ensures ∙ ap (λ (h : PendingMerge). spelling (entries.Ended h.number)) (sym c.head-head.ensures))))
 
-pub returns-clause-appended : goal.returns-clause-appended
-returns-clause-appended c =
+pub returns-clause-number : goal.returns-clause-number
+returns-clause-number c =
     let e = the_view c.self.inside in
     let m = c.head-head.result in
     let is : e.counts.pending ≡ Some m = sym c.take.ensures.value ∙ c.unwrap-pending.ensures ∙ ap Some (sym c.head-head.ensures) in
-    subst (λ (x : Held). option_map (λ (o : PendingMerge). Append (replies.Merge o.number)) x.counts.pending ≡ Some (Append (replies.Merge m.number))) c.self.view_is
-    (ap (option_map (λ (o : PendingMerge). Append (replies.Merge o.number))) is)
+    subst (λ (x : Held). option_map (λ (o : PendingMerge). o.number) x.counts.pending ≡ Some m.number) c.self.view_is (ap (option_map (λ (o : PendingMerge). o.number)) is)

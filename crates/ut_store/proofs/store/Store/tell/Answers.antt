@@ -1,25 +1,19 @@
-use Rattle.std.proofs.Common.{List, refl, ap, sym, subst}
-use Rattle.ut_plain.specs.declared.statement.Statement.TheVariants.{Ask}
-use Rattle.ut_plain.specs.declared.table.Table.{Table}
-use Rattle.ut_plain.specs.Kinds.{query_fits}
-use Rattle.ut_plain.specs.Names.{query_known}
-use Rattle.ut_names.specs.Resolved.{Hinders}
+use Rattle.std.proofs.Common.{sym, subst}
 use Rattle.ut_look.specs.Look.{Sight}
 use Rattle.ut_query.specs.Look.{CanLook}
-use Rattle.ut_query.specs.Tells.{IsAnswer}
-use Rattle.ut_store.proofs.AskLemmas.{kept_back, told_now}
+use Rattle.ut_query.specs.Tells.{IsAsked, Tells}
 use Rattle.ut_store.proofs.LookLemmas.{can_ask}
+use Rattle.ut_store.proofs.AskedTableLemmas.{asking, told_for, ask_lacks}
 use Rattle.ut_store.proofs.store.Store.tell.Goals as goal
 
-pub ask-requires : goal.ask-requires
-ask-requires c = subst (λ (l : Sight). CanLook l) (sym c.look-look.ensures) (can_ask c.args.self.now c.args.session c.requires.seat c.requires.stands)
+pub answer-requires-clause-looks : goal.answer-requires-clause-looks
+answer-requires-clause-looks c = subst (λ (l : Sight). CanLook l) (sym c.look.ensures) (can_ask c.args.self.now c.args.session c.requires.seat c.requires.stands)
+
+pub answer-requires-clause-asked : goal.answer-requires-clause-asked
+answer-requires-clause-asked c = subst (λ (l : Sight). IsAsked l.tables c.args.question) (sym c.look.ensures) (asking c.args.self.now c.args.session c.args.question c.requires)
 
 pub returns-in-Ok : goal.returns-in-Ok
-returns-in-Ok c =
-    told_now c.args.self.now c.args.session c.args.query.now c.in-Ok.reply c.requires.seat c.requires.spelled
-    (subst (λ (l : Sight). IsAnswer l c.args.query.now c.in-Ok.reply) c.look-look.ensures c.in-Ok.ensures.ok)
+returns-in-Ok c = told_for c.args.self.now c.args.session c.args.question c.in-Ok.reply c.requires.seat (subst (λ (l : Sight). Tells l c.args.question c.in-Ok.reply) c.look.ensures c.in-Ok.ensures)
 
-pub returns-in-Err : goal.returns-in-Err
-returns-in-Err c =
-    kept_back c.args.self.now c.args.session (Ask c.args.query.now) c.in-Err.why c.requires.seat refl
-    (subst (λ (ts : List Table). Hinders (query_known ts c.args.query.now) (query_fits ts c.args.query.now) c.in-Err.why) (ap (λ (l : Sight). l.tables) c.look-look.ensures) c.in-Err.ensures.err)
+pub returns : goal.returns
+returns c = ask_lacks c.args.self.now c.args.session c.args.question

@@ -1,27 +1,24 @@
-use Rattle.std.proofs.Common.{[], map, subst}
-use Rattle.std.proofs.lemmas.Result.{on_ok_weaker}
-use Rattle.ut_change.specs.Bulks.{bulk_rows}
-use Rattle.ut_change.specs.Writes.{CanWrite}
-use Rattle.ut_staged.specs.Staged.{begun_row, entered_l2}
-use Rattle.ut_table.specs.Finds.{hits_of}
-use Rattle.ut_tables.specs.declared.work.Changes.{Changes}
-use Rattle.ut_tables.specs.Rows.{HasTable}
-use Rattle.ut_tables.specs.Works.{hits_in, ops_in, worked}
-use Rattle.ut_tables.proofs.LoadLemmas.{can_take_there, committed_as, worked_loads}
+use Rattle.std.proofs.Common.{◌≡◌, ◌∙◌, Some, ap, slice_get}
+use Rattle.ut_stamps.specs.declared.fates.Fate.TheVariants.{Running}
+use Rattle.ut_stamps.specs.Stamps.{fate_at, is_running}
+use Rattle.ut_exact.proofs.FateLemmas.{fate-push_new}
+use Rattle.ut_tables.specs.Rows.{Rows, RowsValue}
+use Rattle.ut_tables.proofs.WorkLemmas.{can_do_started, loads_well_started}
 use Rattle.ut_tables.proofs.rows.Rows.work_alone.Goals as goal
 
-pub load_alone-requires-clause-can : goal.load_alone-requires-clause-can
-load_alone-requires-clause-can c = (c.requires.loads c.in-Loads.bulk c.in-Loads.is).0
+pub work_inside-requires-clause-can : goal.work_inside-requires-clause-can
+work_inside-requires-clause-can c = can_do_started c.args.self.now c.start.new.self _ c.args.work c.in_ok-number.ensures.ok c.requires.can
 
-pub load_alone-requires-clause-takes : goal.load_alone-requires-clause-takes
-load_alone-requires-clause-takes c =
-    can_take_there c.args.self.now.rows c.args.work.place [] c.in-Loads.bulk
-    (subst (λ (x : Changes). HasTable c.args.self.now.rows c.args.work.place (λ s. CanWrite s (hits_of (hits_in x)) (ops_in x))) c.in-Loads.is c.requires.can)
-    (c.requires.loads c.in-Loads.bulk c.in-Loads.is).1
+pub work_inside-requires-clause-loads : goal.work_inside-requires-clause-loads
+work_inside-requires-clause-loads c = loads_well_started c.args.self.now c.start.new.self _ c.args.work c.in_ok-number.ensures.ok c.requires.loads
 
-pub returns-in-Loads-clause-ok : goal.returns-in-Loads-clause-ok
-returns-in-Loads-clause-ok c =
-    let b = c.in-Loads.bulk in
-    on_ok_weaker c.load_alone.result
-    (committed_as c.args.self.now.rows c.load_alone.new.self.rows c.args.work.place (λ t. entered_l2 (map (begun_row t) (bulk_rows b))) (worked c.args.work) c.args.length (worked_loads c.args.work b c.in-Loads.is))
-    c.load_alone.ensures.ok
+pub abort-requires : goal.abort-requires
+abort-requires c =
+    let fates = ap (λ (r : Rows). r.fates) c.in-Err.ensures.err ∙ ap (λ (x : RowsValue). x.rows.fates) c.in_ok-number.ensures.ok in
+    ap is_running ((λ i. fate_at (fates i) (c.in_ok-number.ensures.number i)) ∙ fate-push_new c.args.self.now.rows.fates Running)
+
+pub commit-requires : goal.commit-requires
+commit-requires c =
+    let at : slice_get c.start.new.self.rows.staged c.args.work.place ≡ Some c.requires.can.table = ap (λ (x : RowsValue). slice_get x.rows.staged c.args.work.place) c.in_ok-number.ensures.ok ∙ c.requires.can.at in
+    let fates = ap (λ (r : Rows). r.fates) (c.in_default.ensures.ok c.requires.can.table at) ∙ ap (λ (x : RowsValue). x.rows.fates) c.in_ok-number.ensures.ok in
+    ap is_running ((λ i. fate_at (fates i) (c.in_ok-number.ensures.number i)) ∙ fate-push_new c.args.self.now.rows.fates Running)

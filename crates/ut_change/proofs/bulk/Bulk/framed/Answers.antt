@@ -1,5 +1,0 @@
-use Rattle.std.proofs.Common.{[], ◌∙◌}
-use Rattle.ut_change.proofs.bulk.Bulk.framed.Goals as goal
-
-pub returns : goal.returns
-returns c = c.add.ensures [] (c.in_ok-room.ensures.payload ∙ c.in_ok-frame.ensures)

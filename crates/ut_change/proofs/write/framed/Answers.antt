@@ -1,5 +1,0 @@
-use Rattle.std.proofs.Common.{[], ◌∙◌}
-use Rattle.ut_change.proofs.write.framed.Goals as goal
-
-pub returns : goal.returns
-returns c = c.add_all.ensures [] (c.in_ok-room.ensures.payload ∙ c.in_ok-frame.ensures)
