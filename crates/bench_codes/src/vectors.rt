@@ -52,21 +52,6 @@ fn time_reading<R: Print + Eprint + Clock>(
     bench.say("from_bytes", start, size as u64)
 }
 
-// Times the packed form alone, which the choice of a form is no part of.
-fn time_packing<R: Print + Eprint + Clock>(
-    bench: &Bench<'_, R>,
-    codes: &[u32],
-    reach: u32,
-) -> Result<()>
-    requires below { AllBelow reach codes.now }
-    requires few { length codes.now ≤ 2 ^ 31 }
-{
-    let width = width_of(reach);
-    let start = Instant::now(bench.rt)?;
-    let packed = Packed::from_codes(bench.alloc, codes, width)?;
-    bench.say("pack", start, u64::from(packed.len()))
-}
-
 // Times a scan that lists places.
 fn time_range<R: Print + Eprint + Clock>(
     bench: &Bench<'_, R>,
@@ -159,7 +144,11 @@ fn time_calls<R: Print + Eprint + Clock>(
     let mut bytes = Vec::new(bench.alloc);
     time_bytes(bench, &vector, &mut bytes)?;
     time_reading(bench, bytes.as_slice(), vector.len(), reach)?;
-    time_packing(bench, codes, reach)
+    // The packed form alone, which the choice of a form is no part of.
+    let width = width_of(reach);
+    let start = Instant::now(bench.rt)?;
+    let packed = Packed::from_codes(bench.alloc, codes, width)?;
+    bench.say("pack", start, u64::from(packed.len()))
 }
 
 /// Times the calls at so many codes of a pattern.

@@ -7,10 +7,6 @@ mod merges;
 #[cfg(test)]
 mod reply;
 #[cfg(test)]
-mod rows;
-#[cfg(test)]
 mod script;
 #[cfg(test)]
 mod scripts;
-#[cfg(test)]
-mod words;

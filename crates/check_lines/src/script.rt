@@ -1,9 +1,10 @@
-//! Lines of the benchmark's script as another program wrote them.
+//! Lines of the benchmark's script as another program wrote them, and the plan of some words.
 use std::alloc::AllocError;
 use std::process::Abort;
 use std::test::Fail;
 use ut_gen::{Script, script_len, script_line};
 use ut_value::same_bytes;
+use ut_words::{Mode, Plan, WordsError, plan_of};
 
 /// A line, by seed, size and number.
 struct Case {
@@ -100,5 +101,82 @@ fn all_lines_come_in_order(rt: HostRuntime) -> Result<(), Fail> {
     let mut out = Vec::new(rt.alloc());
     put_lines(&rt, &mut out)?;
     assert_eq!(rt; sum_of(&out), SUM);
+    Ok(())
+}
+
+const DEFAULTS: Plan = Plan {
+    mode: Mode::Run,
+    fresh: false,
+    rows: 1 << 31,
+    lines: 1 << 20,
+    l1: 64,
+    pieces: 4,
+    seed: 1,
+    size: 100,
+};
+
+const ALL: Plan = Plan {
+    mode: Mode::Bench,
+    fresh: true,
+    rows: 7,
+    lines: 1 << 20,
+    l1: 1,
+    pieces: 64,
+    seed: 0,
+    size: 500,
+};
+
+/// Words, the program's name left out, and the plan that they say.
+struct Row {
+    words: &'static [&'static str],
+    plan: Result<Plan, WordsError>,
+}
+
+const ROWS: [Row; 6] = [
+    Row {
+        words: &["ut_app", "run"],
+        plan: Ok(DEFAULTS),
+    },
+    Row {
+        words: &[
+            "ut_app",
+            "--new",
+            "--rows=+007",
+            "--l1",
+            "1",
+            "--pieces",
+            "64",
+            "--seed",
+            "0",
+            "--size=500",
+            "--",
+            "bench",
+        ],
+        plan: Ok(ALL),
+    },
+    Row {
+        words: &["ut_app"],
+        plan: Err(WordsError::Usage),
+    },
+    Row {
+        words: &["ut_app", "run", "--help"],
+        plan: Err(WordsError::Usage),
+    },
+    Row {
+        words: &["ut_app", "run", "--new", "--new"],
+        plan: Err(WordsError::Usage),
+    },
+    Row {
+        words: &["ut_app", "run", "--pieces", "65"],
+        plan: Err(WordsError::Usage),
+    },
+];
+
+#[test]
+fn words_say_their_plan(rt: HostRuntime) -> Result<(), Fail> {
+    let alloc = rt.alloc();
+    for row in &ROWS {
+        assert_eq!(rt; plan_of(alloc, row.words), row.plan, "{:?}", row.words);
+    }
     Ok(())
 }
