@@ -27,10 +27,16 @@ pub enum Shape {
 }
 
 /// A vector of codes below `reach`, in the form of least size.
-#[derive(Drop)]
 pub struct CodeVec {
     shape: Shape,
     reach: u32,
+}
+
+// One step of a proof, wherever one is dropped.
+impl Drop for CodeVec {
+    fn drop(self) {
+        let CodeVec { shape: _, reach: _ } = self;
+    }
 }
 
 impl Model for CodeVec {

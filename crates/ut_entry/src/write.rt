@@ -15,10 +15,8 @@ pub fn put(bytes: &[u8], out: &mut Vec<u8>)
     ensures len { vec_len out.new ≡ vec_len out.old + length bytes.now }
     ensures room { vec_capacity out.old ≤ vec_capacity out.new }
 {
-    match out.extend_from_slice(bytes) {
-        Ok(()) => {}
-        Err(_) => unreachable!(),
-    }
+    // There is room, so that it takes no memory, and can't fail.
+    let _ = out.extend_from_slice(bytes);
 }
 
 /// Appends counted bytes where there is room. This takes no memory.

@@ -1,2 +1,3 @@
 pub mod ArenaLemmas
 pub mod WordLemmas
+pub mod HalfLemmas

@@ -14,11 +14,21 @@ use ut_prefix::{DictChain, PrefixDict};
 
 /// Codes that count through the dictionaries of the parts before, laid end to end, and then the
 /// column's own.
-#[derive(Drop)]
 pub struct CodedColumn {
     dict: Arc<PrefixDict>,
     chain: DictChain,
     codes: CodeVec,
+}
+
+// One step of a proof, wherever one is dropped.
+impl Drop for CodedColumn {
+    fn drop(self) {
+        let CodedColumn {
+            dict: _,
+            chain: _,
+            codes: _,
+        } = self;
+    }
 }
 
 impl Model for CodedColumn {

@@ -6,8 +6,9 @@ use Rattle.std.specs.declared.cmp.Ordering.TheVariants.{Less, Equal, Greater}
 use Rattle.std.proofs.lemmas.Bool.{or_cases, or_right, false_from_ne_true}
 use Rattle.std.proofs.lemmas.Cmp.{nat_list_cmp_total, tied_itself}
 use Rattle.ut_key.specs.Keys.{key_cmp}
-use Rattle.ut_own.specs.Own.{own_dict, news, holds, union, insert_key, placed, Ascends, Below, In}
+use Rattle.ut_own.specs.Own.{own_dict, news, holds, union, In}
 use Rattle.ut_own.proofs.MemberLemmas.{in-union, union-in, key_same, own_dict-is}
+use Rattle.ut_own.proofs.CountLemmas.{count-own}
 use Rattle.ut_own.proofs.UnionLemmas.{Ascends-union, Ascends-at, IsAscending-from}
 use Rattle.ut_plain.specs.Merges.{distinct}
 use Rattle.ut_meaning.specs.Keys.{CountsKeys, IsOnlyOwnDict, OwnDictHasNewKeys}
@@ -89,50 +90,5 @@ own-only earlier cells dict h =
 
 -- ---- how many
 
-below-through : (key first : List ℕ) (keys : List (List ℕ)) → key_cmp key first ≡ Less → Below first keys → Below key keys
-below-through key first [] e b = tt
-below-through key first (k ∷ keys) e b = (nat_list_cmp_total.trans key first k e b.0, below-through key first keys e b.1)
-
-below-lacks : (key : List ℕ) (keys : List (List ℕ)) → Below key keys → holds keys key ≡ false
-below-lacks key [] b = refl
-below-lacks key (k ∷ keys) b = ap (λ o. is_eq o || holds keys key) b.0 ∙ below-lacks key keys b.1
-
-insert-count : (key : List ℕ) (keys : List (List ℕ)) → Ascends keys → length (insert_key key keys) ≡ cond (holds keys key) (length keys) (suc (length keys))
-insert-count key [] up = refl
-insert-count key (first ∷ rest) up = by (key_cmp key first) refl (insert-count key rest up.1)
-  where
-    more : (b : Bool) (n : ℕ) → suc (cond b n (suc n)) ≡ cond b (suc n) (suc (suc n))
-    more true n = refl
-    more false n = refl
-
-    by : (o : Ordering) → key_cmp key first ≡ o → length (insert_key key rest) ≡ cond (holds rest key) (length rest) (suc (length rest))
-        → length (placed o key first rest (insert_key key rest)) ≡ cond (is_eq o || holds rest key) (suc (length rest)) (suc (suc (length rest)))
-    by Less e h = ap (λ b. cond b (suc (length rest)) (suc (suc (length rest)))) (sym (below-lacks key rest (below-through key first rest e up.0)))
-    by Equal e h = refl
-    by Greater e h = ap suc h ∙ more (holds rest key) (length rest)
-
-holds-union : (key : List ℕ) (keys : List (List ℕ)) → holds (union keys []) key ≡ holds keys key
-holds-union key keys = by (holds keys key) refl
-  where
-    by : (b : Bool) → holds keys key ≡ b → holds (union keys []) key ≡ b
-    by true e = holds-in (union keys []) key (union-in key keys [] (inl (in-holds keys key e)))
-    by false e = false_from_ne_true (holds (union keys []) key) (λ h.
-        true≢false (sym (holds-in keys key (elim (in-union key keys [] (in-holds (union keys []) key h)) [ inl a ↦ a | inr b ↦ absurd b ])) ∙ e))
-
-distinct-union : (keys : List (List ℕ)) → distinct keys ≡ length (union keys [])
-distinct-union [] = refl
-distinct-union (key ∷ keys) =
-    by (holds keys key) (distinct-union keys)
-    ∙ ap (λ b. cond b (length (union keys [])) (suc (length (union keys [])))) (sym (holds-union key keys))
-    ∙ sym (insert-count key (union keys []) (Ascends-union keys [] tt))
-  where
-    by : (b : Bool) → distinct keys ≡ length (union keys []) → cond b (distinct keys) (suc (distinct keys)) ≡ cond b (length (union keys [])) (suc (length (union keys [])))
-    by true h = h
-    by false h = ap suc h
-
-news-all : (keys : List (List ℕ)) → news [] keys ≡ keys
-news-all [] = refl
-news-all (key ∷ keys) = ap (λ l. key ∷ l) (news-all keys)
-
 pub counts-keys : CountsKeys
-counts-keys keys dict h = distinct-union keys ∙ ap (λ l. length (union l [])) (sym (news-all keys)) ∙ ap length (sym (own-only [] keys dict h))
+counts-keys keys dict h = count-own distinct refl (λ key keys. refl) keys ∙ ap length (sym (own-only [] keys dict h))

@@ -1,13 +1,11 @@
 -- Places and columns, each put in its place among those before it, are all of them, sorted; and there is one such order.
-use Rattle.std.proofs.Common.{◌≡◌, ◌≢◌, inl, inr, ℕ, ◌<◌, Bool, false, cond, ◌&&◌, ◌||◌, nat_eq, nat_lt, List, [], ◌∷◌, get_or, refl, sym, ap, ◌∙◌, subst, arith}
+use Rattle.std.proofs.Common.{◌≡◌, ◌≢◌, ℕ, ◌<◌, Bool, false, cond, List, [], ◌∷◌, get_or, refl, sym, ap, ◌∙◌, subst, arith}
 use Rattle.std.specs.List.{range_with_len, IsDistinct}
 use Rattle.std.specs.List.Sorted.{IsPermutation, IsSorted, IsSortedBy}
 use Rattle.std.specs.Cmp.{IsTotalOrder}
 use Rattle.std.specs.Ordering.{nat_cmp, is_lt, is_eq, eq_by_cmp, ordering_then, MatchOrdering}
 use Rattle.std.specs.declared.cmp.Ordering.{Ordering}
 use Rattle.std.specs.declared.cmp.Ordering.TheVariants.{Less, Equal, Greater}
-use Rattle.std.proofs.lemmas.Bool.{lt-ltb, le-ltb, eq-eqb}
-use Rattle.std.proofs.lemmas.Bool.Decides.{eqb_tells}
 use Rattle.std.proofs.lemmas.Cmp.{nat_cmp_total, nat_list_cmp_total, on_total, then_total, ranked}
 use Rattle.std.proofs.lemmas.List.FromFn.{length-range_with_len, get_or-range_with_len}
 use Rattle.std.proofs.lemmas.Map.Keys.{IsDistinct-from_apart}
@@ -16,6 +14,7 @@ use Rattle.ut_plain.specs.declared.stage.Placed.{Placed}
 use Rattle.ut_plain.specs.Merges.{put, in_order, column_order, comes_first, distinct_in, key_in, place_cmp, width_of}
 use Rattle.ut_resort.specs.Resorted.{in_order as order_in, put as put_in}
 use Rattle.ut_resort.proofs.OrderLemmas.{only_order}
+use Rattle.ut_resort.proofs.PairLemmas.{then-test}
 use Rattle.ut_resort.proofs.PutLemmas.{in_order-moved, in_order-sorted}
 use Rattle.ut_meaning.specs.Resorting.{ColumnsAreByCount, IsOnlyColumnOrder, IsOnlyResorted, PlacesAreResorted}
 
@@ -57,23 +56,6 @@ numbers-apart a b other = by (nat_cmp a b) (ranked a b (nat_cmp a b) refl)
     by Greater h = refl
 
 -- ---- the order of the columns
-
-cmp-test : (c d : ℕ) (o : Ordering) → MatchOrdering o (c < d) (c ≡ d) (d < c) → is_lt o ≡ nat_lt c d
-cmp-test c d Less h = sym (lt-ltb c d h)
-cmp-test c d Equal h = sym (le-ltb c d (omega (arith, h)))
-cmp-test c d Greater h = sym (le-ltb c d (omega (arith, h)))
-
-not-eqb : (a b : ℕ) → a ≢ b → nat_eq a b ≡ false
-not-eqb a b other = elim (eqb_tells a b) [ inl same ↦ absurd (other same.1) | inr apart ↦ apart.0 ]
-
-then-test : (a b c d : ℕ) → is_lt (ordering_then (nat_cmp a b) (nat_cmp c d)) ≡ (nat_lt a b || (nat_eq a b && nat_lt c d))
-then-test a b c d = by (nat_cmp a b) (ranked a b (nat_cmp a b) refl)
-  where
-    by : (o : Ordering) → MatchOrdering o (a < b) (a ≡ b) (b < a) → is_lt (ordering_then o (nat_cmp c d)) ≡ (nat_lt a b || (nat_eq a b && nat_lt c d))
-    by Less h = sym (ap (λ t. t || (nat_eq a b && nat_lt c d)) (lt-ltb a b h))
-    by Equal h = cmp-test c d (nat_cmp c d) (ranked c d (nat_cmp c d) refl)
-        ∙ sym (λ i. le-ltb a b (omega (arith, h)) i || (eq-eqb a b h i && nat_lt c d))
-    by Greater h = sym (λ i. le-ltb a b (omega (arith, h)) i || (not-eqb a b (λ e. omega (arith, e, h)) i && nat_lt c d))
 
 module _ (places : List Placed) where
   abbrev columns_cmp : ℕ → ℕ → Ordering

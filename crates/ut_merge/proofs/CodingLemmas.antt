@@ -233,12 +233,12 @@ module _ (job : JobValue) (column : ℕ) (codes : List ℕ) (keys : List (List �
 
 -- ---- the recoding
 
-module _ (job : JobValue) (column : ℕ) (wide : column < job.width) (stays : stay_of job ≤ length job.parts) (is : IsJob job) (codes : List ℕ) (used_parts used_closed new : List Bool) (united : United) (found entries : List (Option ℕ))
+module _ (job : JobValue) (column : ℕ) (wide : column < job.width) (stays : stay_of job ≤ length job.parts) (is : IsJob job) (codes : List ℕ) (used_parts used_closed new : List Bool) (keys : List (List ℕ)) (from_parts from_closed found entries : List (Option ℕ))
     (size_parts : length used_parts ≡ length (rebuilt_keys job column (length job.parts))) (size_closed : length used_closed ≡ length (closed_keys job column)) (size_found : length found ≡ length (closed_keys job column))
     (marked : (i : ℕ) → i < length (rebuilt_keys job column (length job.parts)) + length (closed_keys job column) → get_or (used_parts ++ used_closed) i false ≡ list_any (nat_eq (length (staying_keys job column) + i)) codes)
     (below : AllBelow (length (laid_keys job column)) codes) (is_found : AreFound (staying_keys job column) (closed_keys job column) used_closed found) (new_is : new ≡ new_flags (staying_keys job column) (closed_keys job column) used_closed)
-    (h : IsUnited (rebuilt_keys job column (length job.parts)) used_parts (closed_keys job column) new united.keys united.parts.items united.closed.items)
-    (are : entries ≡ entries_of (length (staying_keys job column)) united.parts.items united.closed.items found) where
+    (h : IsUnited (rebuilt_keys job column (length job.parts)) used_parts (closed_keys job column) new keys from_parts from_closed)
+    (are : entries ≡ entries_of (length (staying_keys job column)) from_parts from_closed found) where
   abbrev stay : List (List ℕ)
   stay = staying_keys job column
 
@@ -248,8 +248,8 @@ module _ (job : JobValue) (column : ℕ) (wide : column < job.width) (stays : st
   abbrev closed : List (List ℕ)
   closed = closed_keys job column
 
-  same : IsUnited (rebuilt_keys job column (length job.parts)) used_parts (closed_keys job column) (new_flags (staying_keys job column) (closed_keys job column) used_closed) united.keys united.parts.items united.closed.items
-  same = subst (λ (fs : List Bool). IsUnited parts used_parts closed fs united.keys united.parts.items united.closed.items) new_is h
+  same : IsUnited (rebuilt_keys job column (length job.parts)) used_parts (closed_keys job column) (new_flags (staying_keys job column) (closed_keys job column) used_closed) keys from_parts from_closed
+  same = subst (λ (fs : List Bool). IsUnited parts used_parts closed fs keys from_parts from_closed) new_is h
 
   laid : laid_keys job column ≡ stay ++ (parts ++ closed)
   laid = laid-parts job column wide stays
@@ -258,13 +258,13 @@ module _ (job : JobValue) (column : ℕ) (wide : column < job.width) (stays : st
   low =
       subst (λ n. AllBelow n codes) (ap (λ (l : List (List ℕ)). length l) laid ∙ length-append stay (parts ++ closed) ∙ ap (λ n. length stay + n) (length-append parts closed)) below
 
-  pub recoding-is : IsRecoding job column codes united.keys entries
+  pub recoding-is : IsRecoding job column codes keys entries
   recoding-is = record {
     own =
-        united-own stay parts closed codes used_parts used_closed united.keys united.parts.items united.closed.items found same size_parts size_closed size_found marked low (parts-distinct job column wide stays) is_found
+        united-own stay parts closed codes used_parts used_closed keys from_parts from_closed found same size_parts size_closed size_found marked low (parts-distinct job column wide stays) is_found
         ∙ ap (λ (l : List (List ℕ)). own_dict stay (cells_of l codes)) (sym laid);
-    few = let all = keys-few job column wide stays is in let united = h.few in omega (arith, all, united);
+    few = let all = keys-few job column wide stays is in let more = h.few in omega (arith, all, more);
     leads = λ c at.
-        let r = united-leads stay parts closed codes used_parts used_closed united.keys united.parts.items united.closed.items found same size_parts size_closed size_found marked low (parts-distinct job column wide stays) is_found c at in
-        (r.0, ap (λ (l : List (Option ℕ)). get_or (with_staying (length stay) l) c None) are ∙ r.1, omega (arith, r.2, length-append stay united.keys), r.3 ∙ ap (λ (l : List (List ℕ)). get_or l c []) (sym laid));
+        let r = united-leads stay parts closed codes used_parts used_closed keys from_parts from_closed found same size_parts size_closed size_found marked low (parts-distinct job column wide stays) is_found c at in
+        (r.0, ap (λ (l : List (Option ℕ)). get_or (with_staying (length stay) l) c None) are ∙ r.1, omega (arith, r.2, length-append stay keys), r.3 ∙ ap (λ (l : List (List ℕ)). get_or l c []) (sym laid));
   }

@@ -1,13 +1,11 @@
 -- Rows sorted by their codes stand in re-sorted order.
-use Rattle.std.proofs.Common.{◌≡◌, ◌≢◌, inl, inr, ℕ, ◌<◌, Bool, true, false, cond, ◌&&◌, ◌||◌, nat_eq, nat_lt, List, [], ◌∷◌, length, get_or, All, refl, sym, ap, ◌∙◌, arith}
+use Rattle.std.proofs.Common.{◌≡◌, ◌≢◌, ℕ, ◌<◌, Bool, true, false, cond, List, [], ◌∷◌, length, get_or, All, refl, sym, ap, ◌∙◌, arith}
 use Rattle.std.specs.List.{range_with_len}
 use Rattle.std.specs.List.Sorted.{IsPermutation, IsSorted}
 use Rattle.std.specs.Cmp.{IsTotalOrder}
 use Rattle.std.specs.Ordering.{nat_cmp, is_lt, is_eq, eq_by_cmp, ordering_then, MatchOrdering}
 use Rattle.std.specs.declared.cmp.Ordering.{Ordering}
 use Rattle.std.specs.declared.cmp.Ordering.TheVariants.{Less, Equal, Greater}
-use Rattle.std.proofs.lemmas.Bool.{lt-ltb, le-ltb, eq-eqb}
-use Rattle.std.proofs.lemmas.Bool.Decides.{eqb_tells}
 use Rattle.std.proofs.lemmas.Cmp.{nat_cmp_total, nat_list_cmp_total, on_total, then_total, ranked}
 use Rattle.std.proofs.lemmas.List.{get_or_default}
 use Rattle.std.proofs.lemmas.List.Elements.{All-head, All-tail, All-cons, All-nil}
@@ -18,6 +16,7 @@ use Rattle.ut_l2.specs.KeyRows.{KeyRow, key_at, no_row}
 use Rattle.ut_plain.specs.Merges.{in_order, put}
 use Rattle.ut_resort.specs.Resorted.{column_cmp, columns_by, row_key_cmp, in_order as order_in, put as put_in}
 use Rattle.ut_resort.proofs.OrderLemmas.{only_order}
+use Rattle.ut_resort.proofs.PairLemmas.{then-test}
 use Rattle.ut_merge.specs.Resorting.{column_order, comes_first, distinct_in, resorted, row_cmp, width_of}
 use Rattle.ut_merge.specs.Jobs.{HaveOwnIds}
 
@@ -55,23 +54,6 @@ module _ {X : Type 0} (P : X → Type 0) (f g : X → X → Bool) (agree : (a b 
       ∙ ap (put g x) (order-agree xs (All-tail P x xs all))
 
 -- ---- the order of the columns
-
-cmp-test : (c d : ℕ) (o : Ordering) → MatchOrdering o (c < d) (c ≡ d) (d < c) → is_lt o ≡ nat_lt c d
-cmp-test c d Less h = sym (lt-ltb c d h)
-cmp-test c d Equal h = sym (le-ltb c d (omega (arith, h)))
-cmp-test c d Greater h = sym (le-ltb c d (omega (arith, h)))
-
-not-eqb : (a b : ℕ) → a ≢ b → nat_eq a b ≡ false
-not-eqb a b other = elim (eqb_tells a b) [ inl same ↦ absurd (other same.1) | inr apart ↦ apart.0 ]
-
-then-test : (a b c d : ℕ) → is_lt (ordering_then (nat_cmp a b) (nat_cmp c d)) ≡ (nat_lt a b || (nat_eq a b && nat_lt c d))
-then-test a b c d = by (nat_cmp a b) (ranked a b (nat_cmp a b) refl)
-  where
-    by : (o : Ordering) → MatchOrdering o (a < b) (a ≡ b) (b < a) → is_lt (ordering_then o (nat_cmp c d)) ≡ (nat_lt a b || (nat_eq a b && nat_lt c d))
-    by Less h = sym (ap (λ t. t || (nat_eq a b && nat_lt c d)) (lt-ltb a b h))
-    by Equal h = cmp-test c d (nat_cmp c d) (ranked c d (nat_cmp c d) refl)
-        ∙ sym (λ i. le-ltb a b (omega (arith, h)) i || (eq-eqb a b h i && nat_lt c d))
-    by Greater h = sym (λ i. le-ltb a b (omega (arith, h)) i || (not-eqb a b (λ e. omega (arith, e, h)) i && nat_lt c d))
 
 -- counts of different keys order the columns as the rows' keys do
 pub columns-same : (rows : List KeyRow) (counts : List ℕ) → length counts ≡ width_of rows → ((c : ℕ) → c < length counts → get_or counts c 0 ≡ distinct_in rows c) → columns_by counts ≡ column_order rows

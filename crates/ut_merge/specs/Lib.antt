@@ -5,3 +5,4 @@ pub mod Columns
 pub mod Uniting
 pub mod NewRows
 pub mod Gathering
+pub mod Recodings

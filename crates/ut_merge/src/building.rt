@@ -1,7 +1,7 @@
 //! The new part of a merge, built of its job.
-ghost use Rattle.std.specs.Prelude.{◌≡◌, ◌≤◌, IfOk};
+ghost use Rattle.std.specs.Prelude.{◌≡◌, ◌≤◌, length, IfOk};
 ghost use Rattle.ut_main.specs.Parts.{first_parts};
-ghost use Rattle.ut_merge.specs.Jobs.{new_rows, stay_of, IsJob};
+ghost use Rattle.ut_merge.specs.Jobs.{new_rows, stay_of, IsBuilt, IsJob};
 ghost use Rattle.ut_merge.specs.Columns.{main_before};
 ghost use Rattle.ut_merge.specs.NewRows.{AreColumns, AreNewRows};
 
@@ -9,6 +9,7 @@ use crate::arranging::{NewRows, arranged, kept};
 use crate::built::Built;
 use crate::job::Job;
 use crate::keys::keys_in;
+use crate::old::Old;
 use std::alloc::{AllocError, Global};
 use std::sync::Arc;
 use std::thread::Threads;
@@ -39,6 +40,40 @@ fn columns_of(
     Ok(columns)
 }
 
+/// Puts the new part of rows behind the parts that stay, and gives the old places of its rows.
+fn push_part(
+    alloc: Global,
+    job: &Job,
+    main: &mut Main,
+    rows: NewRows,
+) -> Result<Vec<Old>, AllocError>
+    requires job { IsJob job.now }
+    requires few { length job.now.parts ≤ 8 }
+    requires staying { main.old ≡ first_parts (stay_of job.now) (main_before job.now) }
+    requires rows { AreNewRows job.now (new_rows job.now) rows }
+    ensures { IfOk result (λ olds. IsBuilt job.now main.new olds.items) }
+{
+    let columns = columns_of(alloc, job, main, &rows)?;
+    let part = Part::of(rows.ids, columns);
+    main.push(Arc::new(alloc, part)?)?;
+    Ok(rows.olds)
+}
+
+/// What is built of a job, of the parts that stay and of the rows of the new one.
+fn built_of(alloc: Global, job: &Job, staying: Main, rows: NewRows) -> Result<Built, AllocError>
+    requires job { IsJob job.now }
+    requires few { length job.now.parts ≤ 8 }
+    requires staying { staying ≡ first_parts (stay_of job.now) (main_before job.now) }
+    requires rows { AreNewRows job.now (new_rows job.now) rows }
+    ensures { IfOk result (λ built. built ≡ job.now) }
+{
+    let mut main = staying;
+    let olds = push_part(alloc, job, &mut main, rows)?;
+    let stamps = Vec::with_capacity(alloc, olds.len())?;
+    let job = job.again(alloc)?;
+    Ok(Built::of(job, main, olds, stamps))
+}
+
 /// Builds the new part of a job, and with it main as it is behind the merge. The answer is the
 /// same for every number of pieces. It waits for nobody.
 pub fn build<R: Threads + Sync, H: Hook>(
@@ -51,14 +86,10 @@ pub fn build<R: Threads + Sync, H: Hook>(
     requires { (1 ≤ pieces) × (pieces ≤ 64) }
     ensures { IfOk result (λ built. built ≡ job.now) }
 {
-    let mut main = job.main().first(alloc, job.stay())?;
-    let rows = kept(rt, alloc, job, &main, pieces)?;
+    let staying = job.main().first(alloc, job.stay())?;
+    let rows = kept(rt, alloc, job, &staying, pieces)?;
     let rows = arranged(alloc, job, rows)?;
-    let columns = columns_of(alloc, job, &main, &rows)?;
-    let part = Part::of(rows.ids, columns);
-    main.push(Arc::new(alloc, part)?)?;
-    let stamps = Vec::with_capacity(alloc, rows.olds.len())?;
-    let job = job.again(alloc)?;
+    let built = built_of(alloc, job, staying, rows)?;
     hook.reach(Point::BuildDone);
-    Ok(Built::of(job, main, rows.olds, stamps))
+    Ok(built)
 }

@@ -1,19 +1,24 @@
 //! A column of the new part: its own dictionary, and its codes.
-ghost use Rattle.std.specs.Prelude.{◌≡◌, ◌+◌, ◌<◌, ◌≤◌, ◌++◌, length, map, All, IfOk, OnOk};
+ghost use Rattle.std.specs.Prelude.{◌≡◌, ◌+◌, ◌^◌, ◌<◌, ◌≤◌, ◌++◌, length, map, All, IfOk, OnOk};
 ghost use Rattle.std.specs.Arc.{arc_value};
 ghost use Rattle.ut_main.specs.Parts.{first_parts};
 ghost use Rattle.ut_merge.specs.Jobs.{row_of, stay_of, IsJob};
 ghost use Rattle.ut_merge.specs.Places.{IsOld};
-ghost use Rattle.ut_merge.specs.Columns.{closed_keys, laid_keys, main_before, rebuilt_keys, IsColumn, IsRecoding};
+ghost use Rattle.ut_l2.specs.KeyRows.{cells_at};
+ghost use Rattle.ut_merge.specs.Columns.{closed_keys, laid_keys, main_before, rebuilt_keys, staying_keys, AreCoded, IsColumn, IsRecoding};
 ghost use Rattle.ut_merge.specs.Uniting.{behind, chosen_all, entries_of, IsUnited, IsUpTo};
+ghost use Rattle.ut_merge.specs.Recodings.{IsMadeOf};
 ghost use Rattle.ut_bits.specs.Bits.{AllBelow};
+ghost use Rattle.ut_key.specs.Keys.{IsAscending};
+ghost use Rattle.ut_own.specs.Own.{recoded};
+ghost use Rattle.ut_recode.specs.Recode.{with_staying, HaveEntries};
 
 use crate::gathering::{gather, sources_of};
 use crate::job::Job;
 use crate::keys::keys_in;
 use crate::marking::mark_used;
 use crate::old::Old;
-use crate::seeking::{new_keys, seek};
+use crate::seeking::{Sought, new_keys, seek};
 use crate::uniting::{United, with_dict};
 use std::alloc::{AllocError, Global};
 use std::marker::Brand;
@@ -130,6 +135,35 @@ fn entries_of(
     Ok(entries)
 }
 
+/// The used keys of the rebuilt parts' dictionaries and the new ones of the closed stage, as one
+/// dictionary behind so many keys that stay, and where each code of before leads.
+fn recoding_over<R: Threads + Sync>(
+    rt: &R,
+    alloc: Global,
+    job: &Job,
+    column: u8,
+    stay: u32,
+    used: &[bool],
+    sought: &Sought,
+    pieces: u32,
+) -> Result<Recoding, AllocError>
+    requires job { IsJob job.now }
+    requires column { column < job.now.width }
+    requires stay { stay ≡ length (staying_keys job.now column) }
+    requires used { length used.now ≡ length (rebuilt_keys job.now column (length job.now.parts)) }
+    requires new { length sought.now.new.items ≡ length (closed_keys job.now column) }
+    requires found { length sought.now.found.items ≡ length (closed_keys job.now column) }
+    requires pieces { (1 ≤ pieces) × (pieces ≤ 64) }
+    ensures { IfOk result (λ recoding. IsMadeOf job.now column used.now sought.now recoding.keys recoding.entries.items) }
+{
+    let united = own_keys(rt, alloc, job, column, used, sought.new.as_slice(), pieces)?;
+    let entries = entries_of(alloc, stay, &united, sought.found.as_slice())?;
+    Ok(Recoding {
+        keys: united.keys,
+        entries,
+    })
+}
+
 /// A column's own dictionary, and where its codes of before lead, with a counter for reading keys
 /// over a new ledger.
 fn recoding_of<L: Ledger, R: Threads + Sync>(
@@ -152,26 +186,70 @@ fn recoding_of<L: Ledger, R: Threads + Sync>(
     requires pieces { (1 ≤ pieces) × (pieces ≤ 64) }
     ensures { IfOk result (λ recoding. IsRecoding job.now column codes.now recoding.keys recoding.entries.items) }
 {
-    let mut steps = Steps::<L>::new(blank);
     let chain = staying.dicts(alloc, column)?;
     let closed = job.closed().dict(column);
     let rebuilt = keys_in(job.main(), column) - chain.len();
     let used = mark_used(alloc, codes, chain.len(), rebuilt + closed.len())?;
     let (used_parts, used_closed) = used.as_slice().split_at(rebuilt as usize);
+    let mut steps = Steps::<L>::new(blank);
     let sought = seek(alloc, closed, used_closed, &chain, &mut steps)?;
-    let united = own_keys(
+    recoding_over(
         rt,
         alloc,
         job,
         column,
+        chain.len(),
         used_parts,
-        sought.new.as_slice(),
+        &sought,
         pieces,
-    )?;
-    let entries = entries_of(alloc, chain.len(), &united, sought.found.as_slice())?;
-    Ok(Recoding {
-        keys: united.keys,
-        entries,
+    )
+}
+
+/// The codes of before of the rows at old places.
+fn old_codes<R: Threads + Sync>(
+    rt: &R,
+    alloc: Global,
+    job: &Job,
+    column: u8,
+    olds: &[Old],
+    pieces: u32,
+) -> Result<Vec<u32>, AllocError>
+    requires column { column < job.now.width }
+    requires olds { All (IsOld job.now) olds.now }
+    requires few { length olds.now ≤ 2147483647 }
+    requires pieces { 1 ≤ pieces }
+    ensures { IfOk result (λ codes.
+        AreCoded (laid_keys job.now column) (cells_at column (map (row_of job.now) olds.now)) codes.items) }
+{
+    let sources = sources_of(alloc, job, column)?;
+    gather(rt, alloc, &sources, olds, pieces)
+}
+
+/// Codes led on behind so many keys that stay, and the dictionary of the keys.
+fn led_on<R: Threads + Sync>(
+    rt: &R,
+    alloc: Global,
+    start: u32,
+    codes: &[u32],
+    recoding: &Recoding,
+    pieces: u32,
+) -> Result<Coded, AllocError>
+    requires count { length codes.now ≤ 2 ^ 31 }
+    requires few { start + length recoding.now.keys ≤ 2147483647 }
+    requires ascending { IsAscending recoding.now.keys }
+    requires entries { HaveEntries (with_staying start recoding.now.entries.items) (start + length recoding.now.keys) codes.now }
+    requires pieces { (1 ≤ pieces) × (pieces ≤ 64) }
+    ensures { IfOk result (λ coded. (arc_value coded.dict ≡ recoding.now.keys)
+        × (coded.codes.items ≡ recoded (with_staying start recoding.now.entries.items) codes.now)
+        × AllBelow (start + length recoding.now.keys) coded.codes.items) }
+{
+    let reach = start + recoding.keys.len() as u32;
+    let entries = recoding.entries.as_slice();
+    let codes = recode(rt, alloc, codes, start, entries, reach, pieces)?;
+    let dict = PrefixDict::from_sorted(alloc, &recoding.keys)?;
+    Ok(Coded {
+        dict: Arc::new(alloc, dict)?,
+        codes,
     })
 }
 
@@ -194,8 +272,7 @@ pub(crate) fn code_column<R: Threads + Sync>(
     ensures { IfOk result (λ coded.
         IsColumn job.now column (map (row_of job.now) olds.now) (arc_value coded.dict) coded.codes.items) }
 {
-    let sources = sources_of(alloc, job, column)?;
-    let codes = gather(rt, alloc, &sources, olds, pieces)?;
+    let codes = old_codes(rt, alloc, job, column, olds, pieces)?;
     let codes = codes.as_slice();
     let recoding = recoding_of::<Brand, R>(
         rt,
@@ -207,13 +284,12 @@ pub(crate) fn code_column<R: Threads + Sync>(
         pieces,
         Blank::new(1),
     )?;
-    let start = keys_in(staying, column);
-    let reach = start + recoding.keys.len() as u32;
-    let entries = recoding.entries.as_slice();
-    let codes = recode(rt, alloc, codes, start, entries, reach, pieces)?;
-    let dict = PrefixDict::from_sorted(alloc, &recoding.keys)?;
-    Ok(Coded {
-        dict: Arc::new(alloc, dict)?,
+    led_on(
+        rt,
+        alloc,
+        keys_in(staying, column),
         codes,
-    })
+        &recoding,
+        pieces,
+    )
 }

@@ -1,11 +1,12 @@
 //! An own dictionary, put together one dictionary after the other.
-ghost use Rattle.std.specs.Prelude.{◌≡◌, ◌+◌, ◌^◌, ◌<◌, ◌≤◌, length, map, IfOk};
+ghost use Rattle.std.specs.Prelude.{◌≡◌, ◌+◌, ◌^◌, ◌<◌, ◌≤◌, true, length, map, replicate, IfOk};
+ghost use Rattle.ut_dictmerge.specs.Merge.{IsMerge};
 ghost use Rattle.ut_key.specs.Keys.{IsAscending};
 ghost use Rattle.ut_merge.specs.Uniting.{led, AddsDict};
 
 use std::alloc::{AllocError, Global};
 use std::thread::Threads;
-use ut_dictmerge::merge;
+use ut_dictmerge::{Merged, merge};
 use ut_key::KeyList;
 
 /// Keys, and where those of parts' dictionaries and of the closed stage stand among them.
@@ -38,6 +39,27 @@ fn lead(places: &mut Vec<Option<u32>>, to: &[Option<u32>])
     }
 }
 
+/// All of some keys, merged with the used keys of a dictionary.
+fn merged_with<R: Threads + Sync>(
+    rt: &R,
+    alloc: Global,
+    keys: &KeyList,
+    dict: &KeyList,
+    used: &[bool],
+    pieces: u32,
+) -> Result<Merged, AllocError>
+    requires ascending { IsAscending keys.now }
+    requires dict { IsAscending dict.now }
+    requires flags { length used.now ≡ length dict.now }
+    requires room { length keys.now + length dict.now < 2 ^ 31 }
+    requires pieces { (1 ≤ pieces) × (pieces ≤ 64) }
+    ensures { IfOk result (λ m.
+        IsMerge keys.now (replicate (length keys.now) true) dict.now used.now m.keys m.from_a.items m.from_b.items) }
+{
+    let all = vec![in alloc; true; keys.len()]?;
+    merge(rt, alloc, keys, all.as_slice(), dict, used, pieces)
+}
+
 /// The used keys of one dictionary more.
 pub(crate) fn with_dict<R: Threads + Sync>(
     rt: &R,
@@ -54,8 +76,7 @@ pub(crate) fn with_dict<R: Threads + Sync>(
     requires pieces { (1 ≤ pieces) × (pieces ≤ 64) }
     ensures { IfOk result (λ more. AddsDict dict.now used.now united more) }
 {
-    let all = vec![in alloc; true; united.keys.len()]?;
-    let merged = merge(rt, alloc, &united.keys, all.as_slice(), dict, used, pieces)?;
+    let merged = merged_with(rt, alloc, &united.keys, dict, used, pieces)?;
     let mut parts = united.parts;
     let mut closed = united.closed;
     lead(&mut parts, merged.from_a.as_slice());

@@ -1,3 +1,4 @@
 pub mod UnionLemmas
 pub mod MemberLemmas
 pub mod ColumnLemmas
+pub mod CountLemmas

@@ -48,10 +48,10 @@ pub none-set : (test : ℕ → Bool) (xs : List ℕ) → ((i : ℕ) → i < leng
 none-set test [] h = refl
 none-set test (x ∷ xs) h = unset (test x) (mask_l (map test xs)) (h 0 (omega arith)) (none-set test xs (λ i lt. h (suc i) (omega (arith, lt))))
 
--- 64 more codes all of which pass leave a mask as it is
-pub kept-all : (test : ℕ → Bool) (n k end : ℕ) (codes : List ℕ) (ms now : List Bool) → n ≤ length codes → k ≡ n + 64 → end ≡ n + min (length codes - n) 64 → now ≡ kept ms (map test (take n codes))
+-- more codes all of which pass leave a mask as it is
+pub kept-all : (test : ℕ → Bool) (w n k end : ℕ) (codes : List ℕ) (ms now : List Bool) → n ≤ length codes → k ≡ n + w → end ≡ n + min (length codes - n) w → now ≡ kept ms (map test (take n codes))
     → ((i : ℕ) → n ≤ i → i < end → test (get_or codes i 0) ≡ true) → now ≡ kept ms (map test (take k codes))
-kept-all test n k end codes ms now within more last is all =
+kept-all test w n k end codes ms now within more last is all =
     let some : end ≡ min k (length codes) = omega (arith, last, more, within) in
     kept-range test n end codes 0 true ms now now (omega (arith, last)) (omega (arith, last, within)) is all (sym (kept_from-all_true n (end - n) now))
     ∙ ap (λ (m : ℕ). kept ms (map test (take m codes))) some ∙ ap (λ (l : List ℕ). kept ms (map test l)) (take_min k codes)

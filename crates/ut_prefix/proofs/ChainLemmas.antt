@@ -253,6 +253,19 @@ dict_at dicts i item keys lt is here = (
   here ∙ ap (λ dict. arc_value dict) is ∙ sym (get_or-map (λ dict. arc_value dict) dicts i item [] lt),
 )
 
+-- a code behind the first dictionaries is in one of the others
+pub end_to_end-reached : {Z : Type 0} (dicts : List (Arc (List (List ℕ)) Z)) (i place code : ℕ) → code ≡ length (end_to_end (take i (shared_dicts dicts))) + place → code < length (end_to_end (shared_dicts dicts)) → i < length dicts
+end_to_end-reached dicts i place code at lt =
+    elim (cases_lt i (length dicts)) [
+      | inl within ↦ within
+      | inr past ↦ absurd (omega (
+        arith,
+        at,
+        lt,
+        ap (λ l. length (end_to_end l)) (take_all i (shared_dicts dicts) (subst (λ (n : ℕ). n ≤ i) (sym (length-map dicts (λ dict. arc_value dict))) past)),
+      ))
+    ]
+
 -- the steps of one more search
 pub steps-more : (chain : List (List (List ℕ))) (i : ℕ) (keys : List (List ℕ)) (initial now new : ℕ) → i < length chain → keys ≡ get_or chain i [] → now ≤ initial + chain_steps (take i chain) → new ≤ now + search_steps keys
     → new ≤ initial + chain_steps (take (i + 1) chain)

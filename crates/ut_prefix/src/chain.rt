@@ -38,14 +38,12 @@ fn key_in<L: Ledger>(dicts: &[Arc<PrefixDict>], code: u32, steps: &mut Steps<L>)
     ensures step { steps.new ≡ steps.old + 1 }
 {
     let mut place = code;
-    for dict in dicts {
-        let len = dict.len();
-        if place < len {
-            return dict.get(place, steps);
-        }
-        place -= len;
+    let mut dict = 0;
+    while place >= dicts[dict].len() {
+        place -= dicts[dict].len();
+        dict += 1;
     }
-    unreachable!()
+    dicts[dict].get(place, steps)
 }
 
 /// The place of a key among all keys.

@@ -1,5 +1,6 @@
 pub mod OrderLemmas
 pub mod PutLemmas
+pub mod PairLemmas
 pub mod SortLemmas
 mod PackLemmas
 pub mod ResortLaws

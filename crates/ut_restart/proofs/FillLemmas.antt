@@ -86,46 +86,39 @@ module _ (t : Drawn) (main : MainValue) (s : TableStages) (is : IsShown t main s
   l1-fit : AllByRecursion (λ (r : Row). IsTrue (fits_columns t.table.columns r.values)) t.l1
   l1-fit = subst (AllByRecursion (λ (r : Row). IsTrue (fits_columns t.table.columns r.values))) (sym is.l1) (delta-fit t.table.columns s.l1 is.rules.l1.rows)
 
-  -- the stages from one call to the next
-  module _ (columns : List Column) (a b : Staged) (stamps : List (List Stamp)) (same : columns ≡ t.table.columns) (made : a ≡ no_rows columns) where
-    made-is : a ≡ no_rows t.table.columns
-    made-is = made ∙ ap no_rows same
+  pub load-fit : All (λ (r : Row). IsTrue (fits_columns t.table.columns r.values)) t.l2
+  load-fit = all-fit t.table.columns t.l2 l2-fit
 
-    pub load-fit : All (λ (r : Row). IsTrue (fits_columns a.columns r.values)) t.l2
-    load-fit = subst (λ (x : Staged). All (λ (r : Row). IsTrue (fits_columns x.columns r.values)) t.l2) (sym made-is) (all-fit t.table.columns t.l2 l2-fit)
+  -- with the second delta's rows
+  module _ (b : Staged) (loaded : b ≡ entered_l2 (map (begun_row 0) t.l2) (no_rows t.table.columns)) where
+    pub main-empty : b.parts ≡ []
+    main-empty = ap (λ (x : Staged). x.parts) loaded
 
-    pub load-room : length t.l2 + length t.l1 ≤ 2147483648 → count_of a + length t.l2 ≤ 2147483648
-    load-room few = omega (arith, few, ap count_of made-is)
+    pub main-idle : b.merge ≡ None
+    main-idle = ap (λ (x : Staged). x.merge) loaded
 
-    module _ (loaded : b ≡ entered_l2 (map (begun_row 0) t.l2) a) where
-      loaded-is : b ≡ entered_l2 (map (begun_row 0) t.l2) (no_rows t.table.columns)
-      loaded-is = loaded ∙ ap (entered_l2 (map (begun_row 0) t.l2)) made-is
+    pub main-holds : (stamps : List (List Stamp)) → stamps ≡ map (map stamp_of_mark) (marks_of t.parts) → HoldsParts b.columns main stamps (map (map staged_place) s.parts)
+    main-holds stamps same = subst (λ (cs : List Column). HoldsParts cs main stamps (map (map staged_place) s.parts)) (sym (ap (λ (x : Staged). x.columns) loaded)) (holds-parts t main s stamps is same)
 
-      pub main-empty : b.parts ≡ []
-      main-empty = ap (λ (x : Staged). x.parts) loaded-is
+    pub main-is : (c : Staged) → c ≡ record b { parts = map (map staged_place) s.parts } → c ≡ record (staged_of t.table.columns s) { l1 = [] }
+    main-is c with_main =
+        let l2 : map (begun_row 0) t.l2 ≡ map staged_place s.l2 = ap (map (begun_row 0)) is.l2 ∙ delta-rows s.l2 is.rules.l2.live in
+        with_main ∙ ap (λ (x : Staged). record x { parts = map (map staged_place) s.parts }) loaded
+        ∙ (λ i. record { columns = t.table.columns; l1 = []; l2 = l2 i; closed = None; parts = map (map staged_place) s.parts; keep = []; merge = None })
 
-      pub main-idle : b.merge ≡ None
-      main-idle = ap (λ (x : Staged). x.merge) loaded-is
+  -- with main
+  module _ (c : Staged) (held : c ≡ record (staged_of t.table.columns s) { l1 = [] }) where
+    pub push-fit : AllByRecursion (λ (r : Row). IsTrue (fits_columns c.columns r.values)) t.l1
+    push-fit = subst (λ (x : Staged). AllByRecursion (λ (r : Row). IsTrue (fits_columns x.columns r.values)) t.l1) (sym held) l1-fit
 
-      pub main-holds : stamps ≡ map (map stamp_of_mark) (marks_of t.parts) → HoldsParts b.columns main stamps (map (map staged_place) s.parts)
-      main-holds stamps_are = subst (λ (cs : List Column). HoldsParts cs main stamps (map (map staged_place) s.parts)) (sym (ap (λ (x : Staged). x.columns) loaded-is)) (holds-parts t main s stamps is stamps_are)
+    pub push-room : length t.l2 + length t.l1 ≤ 2147483648 → count_of c + length t.l1 ≤ 2147483648
+    push-room few = omega (arith, few, ap count_of held, length-map s.l2 staged_place, ap (λ (l : List Row). length l) is.l2, length-map s.l2 row_in)
 
-      module _ (c : Staged) (with_main : c ≡ record b { parts = map (map staged_place) s.parts }) where
-        main-is : c ≡ record (entered_l2 (map (begun_row 0) t.l2) (no_rows t.table.columns)) { parts = map (map staged_place) s.parts }
-        main-is = with_main ∙ ap (λ (x : Staged). record x { parts = map (map staged_place) s.parts }) loaded-is
-
-        pub push-fit : AllByRecursion (λ (r : Row). IsTrue (fits_columns c.columns r.values)) t.l1
-        push-fit = subst (λ (x : Staged). AllByRecursion (λ (r : Row). IsTrue (fits_columns x.columns r.values)) t.l1) (sym main-is) l1-fit
-
-        pub push-room : length t.l2 + length t.l1 ≤ 2147483648 → count_of c + length t.l1 ≤ 2147483648
-        push-room few = omega (arith, few, ap count_of main-is, length-map t.l2 (begun_row 0))
-
-        pub filled-is : (d : Staged) → d ≡ record c { l1 = c.l1 ++ map live_row t.l1 } → d ≡ staged_of t.table.columns s
-        filled-is d pushed =
-            let l2 : map (begun_row 0) t.l2 ≡ map staged_place s.l2 = ap (map (begun_row 0)) is.l2 ∙ delta-rows s.l2 is.rules.l2.live in
-            let l1 : map live_row t.l1 ≡ map staged_place s.l1 = ap (map live_row) is.l1 ∙ delta-rows s.l1 is.rules.l1.live in
-            pushed ∙ ap (λ (x : Staged). record x { l1 = x.l1 ++ map live_row t.l1 }) main-is
-            ∙ (λ i. record { columns = t.table.columns; l1 = l1 i; l2 = l2 i; closed = None; parts = map (map staged_place) s.parts; keep = []; merge = None })
+    pub filled-is : (d : Staged) → d ≡ record c { l1 = c.l1 ++ map live_row t.l1 } → d ≡ staged_of t.table.columns s
+    filled-is d pushed =
+        let l1 : map live_row t.l1 ≡ map staged_place s.l1 = ap (map live_row) is.l1 ∙ delta-rows s.l1 is.rules.l1.live in
+        pushed ∙ ap (λ (x : Staged). record x { l1 = x.l1 ++ map live_row t.l1 }) held
+        ∙ (λ i. record { columns = t.table.columns; l1 = l1 i; l2 = map staged_place s.l2; closed = None; parts = map (map staged_place) s.parts; keep = []; merge = None })
 
 -- rows that are pushed one after the other
 

@@ -1,5 +1,5 @@
 //! The tables of an image, with their rows. The parts of main are taken as they are.
-ghost use Rattle.std.specs.Prelude.{◌≡◌, ◌+◌, ◌≤◌, ◌^◌, ◌++◌, IfOk, OnOk, IsTrue, length, map};
+ghost use Rattle.std.specs.Prelude.{[], ◌∷◌, ◌≡◌, ◌+◌, ◌≤◌, ◌^◌, ◌++◌, All, IfOk, OnOk, IsTrue, length, map};
 ghost use Rattle.std.specs.Global.{Vec};
 ghost use Rattle.std.specs.List.{AllByRecursion};
 ghost use Rattle.ut_value.specs.declared.value.Row.{Row};
@@ -7,7 +7,8 @@ ghost use Rattle.ut_plain.specs.declared.stage.TableStages.{TableStages};
 ghost use Rattle.ut_plain.specs.Stages as plain;
 ghost use Rattle.ut_plain.specs.Tables.{fits_columns};
 ghost use Rattle.ut_stamps.specs.declared.visibility.Stamp.{Stamp};
-ghost use Rattle.ut_staged.specs.Staged.{count_of};
+ghost use Rattle.ut_staged.specs.Staged.{count_of, begun_row, entered_l2, no_rows};
+ghost use Rattle.ut_table.specs.Contents.{TableValue};
 ghost use Rattle.ut_image.specs.declared.drawn.Drawn.{Drawn};
 ghost use Rattle.ut_restart.specs.Shown.{stamp_of_mark, marks_of, delta_count, staged_of, staged_all, IsShown, AreShown};
 ghost use Rattle.ut_restart.specs.Standing.{shown, live_row};
@@ -66,25 +67,62 @@ fn push_rows(stages: &mut Stages, rows: Seq<Row>) -> Result<(), AllocError>
     Ok(())
 }
 
+// The stages with the rows of the second delta, and no others.
+fn loaded(alloc: Global, drawn: &Drawn) -> Result<Stages, AllocError>
+    requires narrow { length drawn.now.table.columns ≤ 64 }
+    requires fit { All (λ (r : Row). IsTrue (fits_columns drawn.now.table.columns r.values)) drawn.now.l2 }
+    requires few { length drawn.now.l2 ≤ 2 ^ 31 }
+    ensures { IfOk result (λ stages. stages.stages ≡ entered_l2 (map (begun_row 0) drawn.now.l2) (no_rows drawn.now.table.columns)) }
+{
+    let columns = drawn.table.columns.duplicate(alloc)?;
+    let mut stages = Stages::new(alloc, columns)?;
+    stages.load(drawn.l2.as_slice(), BEFORE_ALL)?;
+    Ok(stages)
+}
+
+// The stages without the rows of the first delta.
+fn with_main(alloc: Global, drawn: &Drawn, main: Main) -> Result<Stages, AllocError>
+    requires shown { (s : TableStages) × IsShown drawn.now main s }
+    requires few { length drawn.now.l2 + length drawn.now.l1 ≤ 2 ^ 31 }
+    ensures { IfOk result (λ stages. (s : TableStages) → IsShown drawn.now main s
+        → stages.stages ≡ record (staged_of drawn.now.table.columns s) { l1 = [] }) }
+{
+    let stamps = stamps_of(alloc, drawn.parts.as_slice())?;
+    let mut stages = loaded(alloc, drawn)?;
+    stages.load_main(main, stamps);
+    Ok(stages)
+}
+
 fn fill(alloc: Global, drawn: Drawn, main: Main) -> Result<(Table, Stages), AllocError>
     requires shown { (s : TableStages) × IsShown drawn main s }
     requires few { length drawn.l2 + length drawn.l1 ≤ 2 ^ 31 }
     ensures table { IfOk result (λ r. r.0 ≡ drawn.table) }
     ensures stages { IfOk result (λ r. (s : TableStages) → IsShown drawn main s → r.1.stages ≡ staged_of drawn.table.columns s) }
 {
-    let Drawn {
-        table,
-        parts,
-        l2,
-        l1,
-    } = drawn;
-    let columns = table.columns.duplicate(alloc)?;
-    let mut stages = Stages::new(alloc, columns)?;
-    stages.load(l2.as_slice(), BEFORE_ALL)?;
-    let stamps = stamps_of(alloc, parts.as_slice())?;
-    stages.load_main(main, stamps);
+    let mut stages = with_main(alloc, &drawn, main)?;
+    let Drawn { table, l1, .. } = drawn;
     push_rows(&mut stages, l1)?;
     Ok((table, stages))
+}
+
+// One table more, and its stages.
+fn push_filled(
+    alloc: Global,
+    drawn: Drawn,
+    main: Main,
+    heads: &mut Vec<Table>,
+    filled: &mut Vec<Stages>,
+) -> Result<(), AllocError>
+    requires shown { (s : TableStages) × IsShown drawn main s }
+    requires few { length drawn.l2 + length drawn.l1 ≤ 2 ^ 31 }
+    ensures heads { OnOk result (heads.new.items ≡ heads.old.items ++ drawn.table ∷ []) }
+    ensures filled { OnOk result ((new : TableValue) × (filled.new.items ≡ filled.old.items ++ new ∷ [])
+        × ((s : TableStages) → IsShown drawn main s → new.stages ≡ staged_of drawn.table.columns s)) }
+{
+    let (table, stages) = fill(alloc, drawn, main)?;
+    heads.push(table)?;
+    filled.push(stages)?;
+    Ok(())
 }
 
 /// The tables, and each one's stages.
@@ -101,9 +139,7 @@ pub(crate) fn fill_all(
     let mut heads = Vec::new(alloc);
     let mut filled = Vec::new(alloc);
     for (drawn, main) in tables.into_vec().into_iter().zip(mains.into_vec()) {
-        let (table, stages) = fill(alloc, drawn, main)?;
-        heads.push(table)?;
-        filled.push(stages)?;
+        push_filled(alloc, drawn, main, &mut heads, &mut filled)?;
     }
     Ok((heads, filled))
 }

@@ -14,11 +14,21 @@ pub struct CapturedPart {
 }
 
 /// A table: its parts, and the rows of its deltas as a directory spells them, those of the second before those of the first.
-#[derive(Drop)]
 pub struct CapturedTable {
     pub table: Table,
     pub parts: Vec<CapturedPart>,
     pub deltas: Vec<u8>,
     ghost columns: { length table.columns ≤ 64 },
     ghost few: { vec_len parts ≤ 8 },
+}
+
+// One step of a proof, wherever one is dropped.
+impl Drop for CapturedTable {
+    fn drop(self) {
+        let CapturedTable {
+            table: _,
+            parts: _,
+            deltas: _,
+        } = self;
+    }
 }

@@ -29,24 +29,31 @@ pub comparisons-next : (c op v joint : List ℕ) (words : List (List ℕ)) → i
 comparisons-next c op v joint words h k =
     sym (onto_some (comparison_of c op v) (comparisons_of words) h) ∙ ap (λ (t : Bool). is_some (cond t (onto_comparisons (comparison_of c op v) (comparisons_of words)) None)) (sym k)
 
-first_some : (front : List Pred) (p : Option Pred) (ps : Option (List Pred)) → is_some (option_map (λ l. front ++ l) (onto_comparisons p ps)) ≡ true → is_some p ≡ true
-first_some front None ps h = cc
-first_some front (Some p) ps h = refl
-
 moved : (front : List Pred) (p : Pred) (o : Option (List Pred)) → option_map (λ l. (front ++ p ∷ []) ++ l) o ≡ option_map (λ l. front ++ l) (option_map (λ l. p ∷ l) o)
 moved front p None = refl
 moved front p (Some l) = ap (λ l. Some l) (append_assoc front (p ∷ []) l)
 
-next_by : (front : List Pred) (t : Bool) (p : Pred) (ps whole : Option (List Pred)) → is_some whole ≡ true → option_map (λ l. front ++ l) (cond t (onto_comparisons (Some p) ps) None) ≡ whole
-    → option_map (λ l. (front ++ p ∷ []) ++ l) ps ≡ whole
-next_by front true p ps whole some e = moved front p ps ∙ e
-next_by front false p ps whole some e = let none = ap (λ (o : Option (List Pred)). is_some o) e in cc
-
 -- one more comparison of the whole
-pub preds-next : (front : List Pred) (c op v joint : List ℕ) (words : List (List ℕ)) (p : Pred) (whole : Option (List Pred)) → is_some whole ≡ true → comparison_of c op v ≡ Some p
+pub preds-next : (front : List Pred) (c op v joint : List ℕ) (words : List (List ℕ)) (p : Pred) (whole : Option (List Pred)) → same_bytes joint (codes "and") ≡ true → comparison_of c op v ≡ Some p
     → option_map (λ l. front ++ l) (comparisons_of (c ∷ op ∷ v ∷ joint ∷ words)) ≡ whole → option_map (λ l. (front ++ p ∷ []) ++ l) (comparisons_of words) ≡ whole
-preds-next front c op v joint words p whole some h e = next_by front (same_bytes joint (codes "and")) p (comparisons_of words) whole some
-    (ap (λ (o : Option Pred). option_map (λ l. front ++ l) (cond (same_bytes joint (codes "and")) (onto_comparisons o (comparisons_of words)) None)) (sym h) ∙ e)
+preds-next front c op v joint words p whole k h e =
+    moved front p (comparisons_of words)
+    ∙ ap (λ (o : Option Pred). option_map (λ l. front ++ l) (onto_comparisons o (comparisons_of words))) (sym h)
+    ∙ ap (λ (t : Bool). option_map (λ l. front ++ l) (cond t (onto_comparisons (comparison_of c op v) (comparisons_of words)) None)) (sym k)
+    ∙ e
+
+-- the last comparison of the whole
+pub preds-last : (front : List Pred) (c op v : List ℕ) (p : Pred) → comparison_of c op v ≡ Some p → option_map (λ l. front ++ l) (comparisons_of (c ∷ op ∷ v ∷ [])) ≡ Some (front ++ p ∷ [])
+preds-last front c op v p h = ap (λ (o : Option Pred). option_map (λ l. front ++ l) (onto_comparisons o (Some []))) h
+
+-- words that begin with no comparison are none
+pub preds-none : (c op v : List ℕ) (words : List (List ℕ)) → comparison_of c op v ≡ None → comparisons_of (c ∷ op ∷ v ∷ words) ≡ None
+preds-none c op v [] h = ap (λ (o : Option Pred). onto_comparisons o (Some [])) h
+preds-none c op v (joint ∷ words) h = by (same_bytes joint (codes "and"))
+  where
+    by : (t : Bool) → cond t (onto_comparisons (comparison_of c op v) (comparisons_of words)) None ≡ None
+    by true = ap (λ (o : Option Pred). onto_comparisons o (comparisons_of words)) h
+    by false = refl
 
 named : (t : Bool) (front name : List ℕ) (op : Cmp) (value : Value) → cond t (Some front) None ≡ Some name
     → let P = λ (n : List ℕ). (let p : Pred = record { column = n; op = op; value = value } in p) in cond t (Some (P front)) None ≡ Some (P name)
@@ -61,12 +68,3 @@ comparison_of-is c op v name cmp value h k m =
     ap (λ (o : Option Cmp). comparison_with c o (value_of v)) k
     ∙ ap (λ (o : Option Value). comparison_with c (Some cmp) o) m
     ∙ named (is_name c) c name cmp value h
-
--- what stands behind the first word of conditions
-pub conditions-behind : (word : List ℕ) (words : List (List ℕ)) → is_some (conditions_of (word ∷ words)) ≡ true → conditions_of (word ∷ words) ≡ comparisons_of words
-unfolding conditions_of
-conditions-behind word words h = by_test (same_bytes word (codes "where")) (comparisons_of words) h
-  where
-    by_test : (t : Bool) (o : Option (List Pred)) → is_some (cond t o None) ≡ true → cond t o None ≡ o
-    by_test true o h = refl
-    by_test false o h = cc

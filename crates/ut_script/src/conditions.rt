@@ -5,12 +5,12 @@ ghost use Rattle.ut_script.specs.Words.{words_of};
 ghost use Rattle.ut_script.specs.Conditions.{operator_of, comparison_of, comparisons_of, conditions_of};
 ghost use Rattle.ut_script.specs.Statements.{is_chosen};
 
-use crate::spelled::Spelled;
+use crate::spelled::{Spelled, read_name};
 use crate::words::next_word;
 use std::alloc::{AllocError, Global};
 use ut_key::Cmp;
 use ut_plain::Pred;
-use ut_value::{Name, Seq, Value, is_name, same_bytes};
+use ut_value::{Seq, Value, is_name, same_bytes};
 
 /// Whether the words that are left are conditions.
 #[tactic(auto, unfolding(crate::specs::Conditions::conditions_of))]
@@ -38,15 +38,20 @@ pub(crate) fn next_chosen(line: &[u8]) -> Option<(&[u8], &[u8])>
     }
 }
 
-/// The conditions that the words that are left spell.
+/// The conditions that the words that are left spell, if they are such.
 #[tactic(auto, unfolding(crate::specs::Conditions::conditions_of))]
-pub(crate) fn read_conditions(alloc: Global, line: &[u8]) -> Result<Seq<Pred>, AllocError>
-    requires { is_some (conditions_of (words_of line.now)) ≡ true }
-    ensures { IfOk result (λ preds. conditions_of (words_of line.now) ≡ Some preds) }
+pub(crate) fn read_conditions(alloc: Global, line: &[u8]) -> Result<Option<Seq<Pred>>, AllocError>
+    ensures { IfOk result (λ preds. preds ≡ conditions_of (words_of line.now)) }
 {
     match next_word(line) {
-        None => Ok(Seq::new(alloc)),
-        Some((_, rest)) => Ok(Seq::from_vec(read_comparisons(alloc, rest)?)),
+        None => Ok(Some(Seq::new(alloc))),
+        Some((word, rest)) => {
+            if same_bytes(word, b"where") {
+                read_comparisons(alloc, rest)
+            } else {
+                Ok(None)
+            }
+        }
     }
 }
 
@@ -101,21 +106,25 @@ fn is_comparison(column: &[u8], op: &[u8], value: &[u8]) -> bool
     operator_of(op).is_some() && Value::is_spelled(value) && is_name(column)
 }
 
-fn read_comparisons(alloc: Global, line: &[u8]) -> Result<Vec<Pred>, AllocError>
-    requires { is_some (comparisons_of (words_of line.now)) ≡ true }
-    ensures { IfOk result (λ preds. comparisons_of (words_of line.now) ≡ Some preds.items) }
+fn read_comparisons(alloc: Global, line: &[u8]) -> Result<Option<Seq<Pred>>, AllocError>
+    ensures { IfOk result (λ preds. preds ≡ comparisons_of (words_of line.now)) }
 {
     let mut preds = Vec::new(alloc);
     let mut rest = line;
     while let Some(words) = next_comparison(rest) {
-        let pred = read_comparison(alloc, words.column, words.op, words.value)?;
-        preds.push(pred)?;
-        let Some((_, behind)) = next_word(words.rest) else {
-            return Ok(preds);
+        let Some(pred) = read_comparison(alloc, words.column, words.op, words.value)? else {
+            return Ok(None);
         };
+        preds.push(pred)?;
+        let Some((joint, behind)) = next_word(words.rest) else {
+            return Ok(Some(Seq::from_vec(preds)));
+        };
+        if !same_bytes(joint, b"and") {
+            return Ok(None);
+        }
         rest = behind;
     }
-    Ok(preds)
+    Ok(None)
 }
 
 #[tactic(auto, unfolding(crate::specs::Conditions::comparison_of))]
@@ -124,14 +133,20 @@ fn read_comparison(
     column: &[u8],
     op: &[u8],
     value: &[u8],
-) -> Result<Pred, AllocError>
-    requires { is_some (comparison_of column.now op.now value.now) ≡ true }
-    ensures { IfOk result (λ pred. comparison_of column.now op.now value.now ≡ Some pred) }
+) -> Result<Option<Pred>, AllocError>
+    ensures { IfOk result (λ pred. pred ≡ comparison_of column.now op.now value.now) }
 {
-    let op = operator_of(op).unwrap();
-    let value = Value::read(alloc, value)?;
-    let column = Name::read(alloc, column)?;
-    Ok(Pred { column, op, value })
+    let Some(op) = operator_of(op) else {
+        return Ok(None);
+    };
+    let Some(value) = Value::read(alloc, value)? else {
+        return Ok(None);
+    };
+    if !is_name(column) {
+        return Ok(None);
+    }
+    let column = read_name(alloc, column)?;
+    Ok(Some(Pred { column, op, value }))
 }
 
 #[tactic(auto, unfolding(crate::specs::Conditions::operator_of))]

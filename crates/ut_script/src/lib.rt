@@ -4,6 +4,7 @@
 mod conditions;
 mod laws;
 mod line;
+mod line_bytes;
 mod lines;
 mod listed;
 mod literals;

@@ -5,14 +5,12 @@ ghost use Rattle.ut_script.specs.Lines.{Reading, NextLine, StepsLine, AsksFew, C
 ghost use Rattle.ut_script.specs.Words.{has_bytes};
 ghost use Rattle.ut_script.specs.LineSteps.{IsLineEnd, SameCounts, CountsLine, TakesPiece, Fills};
 
+use crate::line_bytes::{LineBytes, MAX_LINE};
 use memchr::memchr;
 use std::alloc::{AllocError, Global};
 use std::marker::Model;
 use thiserror::Error;
 use ut_outside::{Source, Taken};
-
-/// The bytes of the longest line, without its end.
-const MAX_LINE: usize = 65536;
 
 /// The bytes that are read ahead.
 const BLOCK_LEN: usize = 65536;
@@ -33,7 +31,7 @@ pub enum LineError {
 /// A reader of the lines of a source, of so many lines at most. It takes memory when it is made, and none later.
 #[derive(Drop)]
 pub struct Lines {
-    line: Vec<u8>,
+    line: LineBytes,
     block: Vec<u8>,
     at: usize,
     filled: usize,
@@ -43,14 +41,14 @@ pub struct Lines {
 }
 
 impl Model for Lines {
-    ghost use Rattle.std.specs.Prelude.{◌≤◌, take, drop, vec_len, vec_capacity};
+    ghost use Rattle.std.specs.Prelude.{◌≤◌, take, drop, length, vec_len};
     ghost use Rattle.ut_script.specs.Lines.{Reading};
 
     ghost Value = { Reading };
 
-    ghost view = { λ l. record { held = drop l.at (take l.filled l.block.items); line = l.line.items; number = l.number; limit = l.limit; failed = l.failed } };
+    ghost view = { λ l. record { held = drop l.at (take l.filled l.block.items); line = l.line; number = l.number; limit = l.limit; failed = l.failed } };
 
-    ghost invariant = { λ l. (l.at ≤ l.filled) × (l.filled ≤ vec_len l.block) × (65536 ≤ vec_len l.block) × (65536 ≤ vec_capacity l.line) × (vec_len l.line ≤ 65536) × (l.number ≤ l.limit) };
+    ghost invariant = { λ l. (l.at ≤ l.filled) × (l.filled ≤ vec_len l.block) × (65536 ≤ vec_len l.block) × (length l.line ≤ 65536) × (l.number ≤ l.limit) };
 }
 
 impl Lines {
@@ -58,7 +56,7 @@ impl Lines {
     pub fn new(alloc: Global, limit: u32) -> Result<Lines, AllocError>
         ensures { IfOk result (λ lines. lines ≡ record { held = []; line = []; number = 0; limit = limit; failed = None }) }
     {
-        let line = Vec::with_capacity(alloc, MAX_LINE)?;
+        let line = LineBytes::new(alloc)?;
         let block = vec![in alloc; 0; BLOCK_LEN]?;
         Ok(Lines {
             line,
@@ -75,7 +73,7 @@ impl Lines {
     pub fn line(&self) -> &[u8]
         ensures { result.now ≡ self.now.line }
     {
-        &self.line
+        self.line.as_slice()
     }
 
     /// Reads the next line, and says whether there is one. After an error each call answers that error. The source, which sees what the
@@ -177,7 +175,7 @@ impl Lines {
         ensures some { result ≡ has_bytes self.old.line }
         ensures number { self.new ≡ (if result then counted self.old else self.old) }
     {
-        if self.line.is_empty() {
+        if self.line.len() == 0 {
             return false;
         }
         self.number += 1;
@@ -222,7 +220,7 @@ impl Lines {
                 if count > room {
                     return Err(LineError::TooLong);
                 }
-                put(&mut self.line, &held[..count]);
+                self.line.put(&held[..count]);
                 self.at += count + 1;
                 Ok(true)
             }
@@ -230,24 +228,11 @@ impl Lines {
                 if held.len() > room {
                     return Err(LineError::TooLong);
                 }
-                put(&mut self.line, held);
+                self.line.put(held);
                 self.at = self.filled;
                 Ok(false)
             }
         }
-    }
-}
-
-// Puts bytes behind those of a line, which has room for them.
-fn put(line: &mut Vec<u8>, bytes: &[u8])
-    requires { vec_len line.old + length bytes.now ≤ vec_capacity line.old }
-    ensures items { line.new.items ≡ line.old.items ++ bytes.now }
-    ensures len { vec_len line.new ≡ vec_len line.old + length bytes.now }
-    ensures capacity { vec_capacity line.old ≤ vec_capacity line.new }
-{
-    match line.extend_from_slice(bytes) {
-        Ok(()) => {}
-        Err(_) => unreachable!(),
     }
 }
 

@@ -4,11 +4,9 @@ ghost use Rattle.ut_script.specs.Words.{words_of, all_of};
 ghost use Rattle.ut_script.specs.Literals.{value_of};
 ghost use Rattle.ut_script.specs.Statements.{values_of};
 
-use crate::literals::{int_of, text_of};
-use crate::spelled::count_all;
+use crate::spelled::{Spelled, count_all};
 use crate::words::next_word;
 use std::alloc::{AllocError, Global};
-use ut_reply::QUOTE;
 use ut_value::{Seq, Value};
 
 /// One or more values, where each of the words that are left spells one.
@@ -52,34 +50,11 @@ fn each_value(alloc: Global, line: &[u8]) -> Result<Option<Seq<Value>>, AllocErr
     let mut values = Vec::new(alloc);
     let mut rest = line;
     while let Some((word, behind)) = next_word(rest) {
-        let Some(value) = value_of(alloc, word)? else {
+        let Some(value) = Value::read(alloc, word)? else {
             return Ok(None);
         };
         values.push(value)?;
         rest = behind;
     }
     Ok(Some(Seq::from_vec(values)))
-}
-
-// The value that a word spells.
-#[tactic(auto, unfolding(crate::specs::Literals::value_of))]
-fn value_of(alloc: Global, word: &[u8]) -> Result<Option<Value>, AllocError>
-    ensures { IfOk result (λ o. o ≡ value_of word.now) }
-{
-    match word {
-        [] => Ok(None),
-        [first, others @ ..] => {
-            if *first == QUOTE {
-                match text_of(alloc, others)? {
-                    Some(text) => Ok(Some(Value::Text(text))),
-                    None => Ok(None),
-                }
-            } else {
-                match int_of(word) {
-                    Some(number) => Ok(Some(Value::Int(number))),
-                    None => Ok(None),
-                }
-            }
-        }
-    }
 }

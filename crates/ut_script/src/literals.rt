@@ -151,7 +151,7 @@ fn is_text_byte(b: u8) -> bool
 }
 
 /// The text of a literal whose first quote was read.
-pub(crate) fn read_text(alloc: Global, bytes: &[u8]) -> Result<Text, AllocError>
+fn read_text(alloc: Global, bytes: &[u8]) -> Result<Text, AllocError>
     requires { is_some (text_of bytes.now) ≡ true }
     ensures { IfOk result (λ text. text_of bytes.now ≡ Some text) }
 {

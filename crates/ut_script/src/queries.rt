@@ -9,11 +9,11 @@ ghost use Rattle.ut_script.specs.Statements.{Reads, query_of, is_folded, chosen_
 
 use crate::conditions::{are_conditions, next_chosen, read_conditions};
 use crate::select::select_of;
-use crate::spelled::Spelled;
+use crate::spelled::read_name;
 use crate::words::next_word;
 use std::alloc::{AllocError, Global};
 use ut_plain::{Query, Statement};
-use ut_value::{Name, is_name, same_bytes};
+use ut_value::{is_name, same_bytes};
 
 /// `count T [W]` and the other statements that ask.
 pub(crate) fn query_of(
@@ -50,8 +50,10 @@ fn count_of(alloc: Global, line: &[u8]) -> Result<Option<Statement>, AllocError>
     let Some((table, rest)) = next_chosen(line) else {
         return Ok(None);
     };
-    let table = Name::read(alloc, table)?;
-    let preds = read_conditions(alloc, rest)?;
+    let table = read_name(alloc, table)?;
+    let Some(preds) = read_conditions(alloc, rest)? else {
+        return Ok(None);
+    };
     Ok(Some(Statement::Ask(Query::Count { table, preds })))
 }
 
@@ -63,9 +65,11 @@ fn sum_of(alloc: Global, line: &[u8]) -> Result<Option<Statement>, AllocError>
     let Some(folded) = next_folded(line) else {
         return Ok(None);
     };
-    let table = Name::read(alloc, folded.table)?;
-    let column = Name::read(alloc, folded.column)?;
-    let preds = read_conditions(alloc, folded.rest)?;
+    let table = read_name(alloc, folded.table)?;
+    let column = read_name(alloc, folded.column)?;
+    let Some(preds) = read_conditions(alloc, folded.rest)? else {
+        return Ok(None);
+    };
     Ok(Some(Statement::Ask(Query::Sum {
         table,
         column,
@@ -81,9 +85,11 @@ fn min_of(alloc: Global, line: &[u8]) -> Result<Option<Statement>, AllocError>
     let Some(folded) = next_folded(line) else {
         return Ok(None);
     };
-    let table = Name::read(alloc, folded.table)?;
-    let column = Name::read(alloc, folded.column)?;
-    let preds = read_conditions(alloc, folded.rest)?;
+    let table = read_name(alloc, folded.table)?;
+    let column = read_name(alloc, folded.column)?;
+    let Some(preds) = read_conditions(alloc, folded.rest)? else {
+        return Ok(None);
+    };
     Ok(Some(Statement::Ask(Query::Min {
         table,
         column,
@@ -99,9 +105,11 @@ fn max_of(alloc: Global, line: &[u8]) -> Result<Option<Statement>, AllocError>
     let Some(folded) = next_folded(line) else {
         return Ok(None);
     };
-    let table = Name::read(alloc, folded.table)?;
-    let column = Name::read(alloc, folded.column)?;
-    let preds = read_conditions(alloc, folded.rest)?;
+    let table = read_name(alloc, folded.table)?;
+    let column = read_name(alloc, folded.column)?;
+    let Some(preds) = read_conditions(alloc, folded.rest)? else {
+        return Ok(None);
+    };
     Ok(Some(Statement::Ask(Query::Max {
         table,
         column,
@@ -159,10 +167,12 @@ fn group_of(alloc: Global, line: &[u8]) -> Result<Option<Statement>, AllocError>
     if !are_conditions(rest) {
         return Ok(None);
     }
-    let table = Name::read(alloc, table)?;
-    let key = Name::read(alloc, key)?;
-    let sum = Name::read(alloc, sum)?;
-    let preds = read_conditions(alloc, rest)?;
+    let table = read_name(alloc, table)?;
+    let key = read_name(alloc, key)?;
+    let sum = read_name(alloc, sum)?;
+    let Some(preds) = read_conditions(alloc, rest)? else {
+        return Ok(None);
+    };
     Ok(Some(Statement::Ask(Query::Group {
         table,
         key,
@@ -193,10 +203,10 @@ fn join_of(alloc: Global, line: &[u8]) -> Result<Option<Statement>, AllocError>
     if !(is_name(left) && is_name(left_column) && is_name(right) && is_name(right_column)) {
         return Ok(None);
     }
-    let left = Name::read(alloc, left)?;
-    let left_column = Name::read(alloc, left_column)?;
-    let right = Name::read(alloc, right)?;
-    let right_column = Name::read(alloc, right_column)?;
+    let left = read_name(alloc, left)?;
+    let left_column = read_name(alloc, left_column)?;
+    let right = read_name(alloc, right)?;
+    let right_column = read_name(alloc, right_column)?;
     Ok(Some(Statement::Ask(Query::Join {
         left,
         left_column,

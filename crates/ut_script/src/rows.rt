@@ -7,11 +7,11 @@ ghost use Rattle.ut_script.specs.Statements.{Reads, create_of, rows_of, put_into
 
 use crate::conditions::{are_conditions, next_chosen, read_conditions};
 use crate::listed::values_of;
-use crate::spelled::{Spelled, count_all, read_all};
+use crate::spelled::{Spelled, count_all, read_all, read_name};
 use crate::words::next_word;
 use std::alloc::{AllocError, Global};
 use ut_plain::Statement;
-use ut_value::{COLUMNS_LIMIT, Column, Name, Value, is_name, same_bytes};
+use ut_value::{COLUMNS_LIMIT, Column, Value, is_name, same_bytes};
 
 /// The greatest number of columns of a table.
 const MAX_COLUMNS: usize = COLUMNS_LIMIT as usize;
@@ -32,8 +32,10 @@ pub(crate) fn create_of(alloc: Global, line: &[u8]) -> Result<Option<Statement>,
     if count < 1 || count > MAX_COLUMNS {
         return Ok(None);
     }
-    let table = Name::read(alloc, table)?;
-    let columns = read_all(alloc, rest, count)?;
+    let table = read_name(alloc, table)?;
+    let Some(columns) = read_all(alloc, rest, count)? else {
+        return Ok(None);
+    };
     Ok(Some(Statement::Create { table, columns }))
 }
 
@@ -61,7 +63,7 @@ pub(crate) fn rows_of(
     let Some(values) = values_of(alloc, rest)? else {
         return Ok(None);
     };
-    let table = Name::read(alloc, table)?;
+    let table = read_name(alloc, table)?;
     match stage {
         Stage::L1 => Ok(Some(Statement::Insert { table, values })),
         Stage::L2 => Ok(Some(Statement::Bulk { table, values })),
@@ -90,10 +92,14 @@ pub(crate) fn update_of(alloc: Global, line: &[u8]) -> Result<Option<Statement>,
     if !(Value::is_spelled(value) && are_conditions(rest)) {
         return Ok(None);
     }
-    let table = Name::read(alloc, table)?;
-    let column = Name::read(alloc, column)?;
-    let value = Value::read(alloc, value)?;
-    let preds = read_conditions(alloc, rest)?;
+    let table = read_name(alloc, table)?;
+    let column = read_name(alloc, column)?;
+    let Some(value) = Value::read(alloc, value)? else {
+        return Ok(None);
+    };
+    let Some(preds) = read_conditions(alloc, rest)? else {
+        return Ok(None);
+    };
     Ok(Some(Statement::Update {
         table,
         column,
@@ -109,7 +115,9 @@ pub(crate) fn delete_of(alloc: Global, line: &[u8]) -> Result<Option<Statement>,
     let Some((table, rest)) = next_chosen(line) else {
         return Ok(None);
     };
-    let table = Name::read(alloc, table)?;
-    let preds = read_conditions(alloc, rest)?;
+    let table = read_name(alloc, table)?;
+    let Some(preds) = read_conditions(alloc, rest)? else {
+        return Ok(None);
+    };
     Ok(Some(Statement::Delete { table, preds }))
 }

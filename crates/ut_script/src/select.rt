@@ -9,7 +9,7 @@ ghost use Rattle.ut_script.specs.Conditions.{conditions_of};
 ghost use Rattle.ut_script.specs.Statements.{Reads, select_of, columns_of_all, columns_named, names_before, from_where, is_where};
 
 use crate::conditions::{are_conditions, read_conditions};
-use crate::spelled::Spelled;
+use crate::spelled::read_name;
 use crate::words::next_word;
 use std::alloc::{AllocError, Global};
 use ut_plain::{Query, Statement};
@@ -43,8 +43,10 @@ fn columns_of_all(alloc: Global, table: &[u8], line: &[u8]) -> Result<Option<Sta
     if !are_conditions(line) {
         return Ok(None);
     }
-    let table = Name::read(alloc, table)?;
-    let preds = read_conditions(alloc, line)?;
+    let table = read_name(alloc, table)?;
+    let Some(preds) = read_conditions(alloc, line)? else {
+        return Ok(None);
+    };
     Ok(Some(Statement::Ask(Query::Select {
         table,
         columns: None,
@@ -66,9 +68,11 @@ fn columns_named(alloc: Global, table: &[u8], line: &[u8]) -> Result<Option<Stat
     if !are_conditions(rest) {
         return Ok(None);
     }
-    let table = Name::read(alloc, table)?;
+    let table = read_name(alloc, table)?;
     let columns = read_names(alloc, line, count)?;
-    let preds = read_conditions(alloc, rest)?;
+    let Some(preds) = read_conditions(alloc, rest)? else {
+        return Ok(None);
+    };
     Ok(Some(Statement::Ask(Query::Select {
         table,
         columns: Some(columns),
@@ -112,7 +116,7 @@ fn read_names(alloc: Global, line: &[u8], count: usize) -> Result<Seq<Name>, All
         if is_where(word) {
             return Ok(Seq::from_vec(names));
         }
-        names.push_reserved(Name::read(alloc, word)?);
+        names.push_reserved(read_name(alloc, word)?);
         rest = behind;
     }
     Ok(Seq::from_vec(names))

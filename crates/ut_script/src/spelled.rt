@@ -5,7 +5,7 @@ ghost use Rattle.ut_value.specs.Text.{is_name};
 ghost use Rattle.ut_script.specs.Words.{words_of, all_of};
 ghost use Rattle.ut_script.specs.Literals.{name_of, column_of, kind_of, colon_at, value_of};
 
-use crate::literals::{int_of, is_text_literal, read_text};
+use crate::literals::{int_of, is_text_literal, text_of};
 use crate::words::next_word;
 use std::alloc::{AllocError, Global};
 use ut_reply::QUOTE;
@@ -13,7 +13,7 @@ use ut_value::{Column, Kind, Name, Seq, Value, is_name, same_bytes};
 
 const COLON: u8 = b':';
 
-/// What one word can spell. A word is tested without memory, and read once it is known to spell something.
+/// What one word can spell. A word is tested without memory.
 pub(crate) trait Spelled: Drop {
     /// What a word spells.
     ghost spelled: { List ℕ → Option Self };
@@ -21,21 +21,18 @@ pub(crate) trait Spelled: Drop {
     fn is_spelled(word: &[u8]) -> bool
         ensures { result ≡ is_some (spelled word.now) };
 
-    fn read(alloc: Global, word: &[u8]) -> Result<Self, AllocError>
-        requires { is_some (spelled word.now) ≡ true }
-        ensures { IfOk result (λ item. spelled word.now ≡ Some item) };
+    /// What a word spells, if it spells anything.
+    fn read(alloc: Global, word: &[u8]) -> Result<Option<Self>, AllocError>
+        ensures { IfOk result (λ item. item ≡ spelled word.now) };
 }
 
-impl Spelled for Name {
-    ghost spelled = { name_of };
-
-    fn is_spelled(word: &[u8]) -> bool {
-        is_name(word)
-    }
-
-    fn read(alloc: Global, word: &[u8]) -> Result<Name, AllocError> {
-        Ok(Name::of(Vec::from_slice(alloc, word)?))
-    }
+/// The name that a word is.
+pub(crate) fn read_name(alloc: Global, word: &[u8]) -> Result<Name, AllocError>
+    requires { is_name word.now ≡ true }
+    ensures says { IfOk result (λ name. name_of word.now ≡ Some name) }
+    ensures same { IfOk result (λ name. name ≡ word.now) }
+{
+    Ok(Name::of(Vec::from_slice(alloc, word)?))
 }
 
 #[tactic(auto, unfolding(crate::specs::Literals::column_of))]
@@ -47,11 +44,16 @@ impl Spelled for Column {
         is_name(name) && kind_of(kind).is_some()
     }
 
-    fn read(alloc: Global, word: &[u8]) -> Result<Column, AllocError> {
+    fn read(alloc: Global, word: &[u8]) -> Result<Option<Column>, AllocError> {
         let (name, kind) = word.split_at(colon_at(word));
-        let kind = kind_of(kind).unwrap();
-        let name = Name::read(alloc, name)?;
-        Ok(Column { name, kind })
+        let Some(kind) = kind_of(kind) else {
+            return Ok(None);
+        };
+        if !is_name(name) {
+            return Ok(None);
+        }
+        let name = read_name(alloc, name)?;
+        Ok(Some(Column { name, kind }))
     }
 }
 
@@ -72,14 +74,20 @@ impl Spelled for Value {
         }
     }
 
-    fn read(alloc: Global, word: &[u8]) -> Result<Value, AllocError> {
+    fn read(alloc: Global, word: &[u8]) -> Result<Option<Value>, AllocError> {
         match word {
-            [] => unreachable!(),
+            [] => Ok(None),
             [first, others @ ..] => {
                 if *first == QUOTE {
-                    Ok(Value::Text(read_text(alloc, others)?))
+                    match text_of(alloc, others)? {
+                        Some(text) => Ok(Some(Value::Text(text))),
+                        None => Ok(None),
+                    }
                 } else {
-                    Ok(Value::Int(int_of(word).unwrap()))
+                    match int_of(word) {
+                        Some(number) => Ok(Some(Value::Int(number))),
+                        None => Ok(None),
+                    }
                 }
             }
         }
@@ -127,20 +135,23 @@ pub(crate) fn count_all<T: Spelled>(line: &[u8]) -> Option<usize>
     Some(count)
 }
 
-/// What the words that are left spell.
+/// What the words that are left spell, which are so many.
 pub(crate) fn read_all<T: Spelled>(
     alloc: Global,
     line: &[u8],
     count: usize,
-) -> Result<Seq<T>, AllocError>
+) -> Result<Option<Seq<T>>, AllocError>
     requires { option_map length (all_of T.spelled (words_of line.now)) ≡ Some count }
-    ensures { IfOk result (λ items. all_of T.spelled (words_of line.now) ≡ Some items) }
+    ensures { IfOk result (λ items. items ≡ all_of T.spelled (words_of line.now)) }
 {
     let mut items = Vec::with_capacity(alloc, count)?;
     let mut rest = line;
     while let Some((word, behind)) = next_word(rest) {
-        items.push_reserved(T::read(alloc, word)?);
+        let Some(item) = T::read(alloc, word)? else {
+            return Ok(None);
+        };
+        items.push_reserved(item);
         rest = behind;
     }
-    Ok(Seq::from_vec(items))
+    Ok(Some(Seq::from_vec(items)))
 }

@@ -8,12 +8,12 @@ ghost use Rattle.ut_script.specs.Words.{words_of};
 ghost use Rattle.ut_script.specs.Statements.{Reads, ReadsStatement, count_of, merge_kind_of, is_named_word, merge_l1_of, merge_begin_of, merge_end_of, merge_of, save_step_of, save_of, shape_of, store_statement_of};
 
 use crate::literals::{number_of, within};
-use crate::spelled::Spelled;
+use crate::spelled::read_name;
 use crate::statements::alone;
 use crate::words::next_word;
 use std::alloc::{AllocError, Global};
 use ut_plain::Statement;
-use ut_value::{COUNT_LIMIT, MergeKind, Name, is_name, same_bytes};
+use ut_value::{COUNT_LIMIT, MergeKind, is_name, same_bytes};
 
 /// The greatest number of rows or pages that a statement names.
 const MAX_COUNT: u64 = COUNT_LIMIT as u64;
@@ -127,7 +127,7 @@ fn merge_l1_of(alloc: Global, line: &[u8]) -> Result<Option<Statement>, AllocErr
     let Some(n) = count_of(word) else {
         return Ok(None);
     };
-    let table = Name::read(alloc, table)?;
+    let table = read_name(alloc, table)?;
     Ok(Some(Statement::MergeL1 { table, n }))
 }
 
@@ -141,7 +141,7 @@ fn merge_begin_of(alloc: Global, line: &[u8]) -> Result<Option<Statement>, Alloc
     let Some(kind) = merge_kind_of(word) else {
         return Ok(None);
     };
-    let table = Name::read(alloc, table)?;
+    let table = read_name(alloc, table)?;
     Ok(Some(Statement::MergeBegin { table, kind }))
 }
 
@@ -158,7 +158,7 @@ fn shape_of(alloc: Global, line: &[u8]) -> Result<Option<Statement>, AllocError>
     if !is_name(table) {
         return Ok(None);
     }
-    let table = Name::read(alloc, table)?;
+    let table = read_name(alloc, table)?;
     Ok(Some(Statement::Shape { table }))
 }
 

@@ -15,10 +15,16 @@ use std::sync::ledger::Ledger;
 use ut_key::{Key, Steps};
 
 /// Different keys, in the order in which they were first seen.
-#[derive(Drop)]
 pub struct UnsortedDict {
     held: Held,
     alloc: Global,
+}
+
+// One step of a proof, wherever one is dropped.
+impl Drop for UnsortedDict {
+    fn drop(self) {
+        let UnsortedDict { held: _, alloc: _ } = self;
+    }
 }
 
 impl Model for UnsortedDict {

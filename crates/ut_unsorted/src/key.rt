@@ -33,12 +33,11 @@ impl Word {
         requires { length key.now ≡ 8 }
         ensures { result ≡ key.now }
     {
-        match key {
-            [a, b, c, d, e, f, g, h] => Word {
-                bytes: [*a, *b, *c, *d, *e, *f, *g, *h],
-                align: [],
-            },
-            _ => unreachable!(),
+        Word {
+            bytes: [
+                key[0], key[1], key[2], key[3], key[4], key[5], key[6], key[7],
+            ],
+            align: [],
         }
     }
 

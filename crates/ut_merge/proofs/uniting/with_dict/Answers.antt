@@ -1,5 +1,4 @@
-use Rattle.std.proofs.Common.{◌∙◌, ◌++◌, List, ℕ, Bool, true, Option, map, replicate, sym, ap, subst}
-use Rattle.ut_dictmerge.specs.Merge.{IsMerge}
+use Rattle.std.proofs.Common.{◌∙◌, ◌++◌, List, ℕ, Option, map, sym, ap, subst}
 use Rattle.ut_merge.specs.Uniting.{led, IsUnited}
 use Rattle.ut_merge.proofs.UniteLemmas.{united-more}
 use Rattle.ut_merge.proofs.uniting.with_dict.Goals as goal
@@ -11,10 +10,9 @@ returns g c parts used_parts closed fresh sizes h =
     let dict = c.args.dict.now in
     let flags = c.args.used.now in
     let from_a = merged.from_a.items in
-    let all = c.as_slice.ensures.value ∙ c.in_ok-all.ensures.items_if_clones_equal (λ y e. e) ∙ ap (λ n. replicate n true) c.len.ensures.len in
-    let m = subst (λ (l : List Bool). IsMerge united.keys l dict flags merged.keys from_a merged.from_b.items) all c.in_ok-merged.ensures in
-    let new_parts = c.in_ok-extend_from_slice.ensures.items ∙ (λ i. (c.lead.ensures ∙ ap (λ (l : List (Option ℕ)). map (led l) united.parts.items) c.as_slice-2.ensures.value) i ++ c.as_slice-4.ensures.value i) in
-    let new_closed = c.lead-2.ensures ∙ ap (λ (l : List (Option ℕ)). map (led l) united.closed.items) c.as_slice-3.ensures.value in
+    let m = c.in_ok-merged.ensures in
+    let new_parts = c.in_ok-extend_from_slice.ensures.items ∙ (λ i. (c.lead.ensures ∙ ap (λ (l : List (Option ℕ)). map (led l) united.parts.items) c.as_slice.ensures.value) i ++ c.as_slice-3.ensures.value i) in
+    let new_closed = c.lead-2.ensures ∙ ap (λ (l : List (Option ℕ)). map (led l) united.closed.items) c.as_slice-2.ensures.value in
     subst (λ (l : List (Option ℕ)). IsUnited (parts ++ dict) (used_parts ++ flags) closed fresh merged.keys l c.lead-2.new.places.items) (sym new_parts)
     (subst (λ (l : List (Option ℕ)). IsUnited (parts ++ dict) (used_parts ++ flags) closed fresh merged.keys (map (led from_a) united.parts.items ++ merged.from_b.items) l) (sym new_closed)
     (united-more parts used_parts closed fresh united.keys united.parts.items united.closed.items dict flags merged.keys from_a merged.from_b.items h m sizes))

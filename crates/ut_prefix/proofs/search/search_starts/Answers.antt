@@ -1,7 +1,7 @@
-use Rattle.std.proofs.Common.{◌≡◌, ◌+◌, ◌-◌, ◌*◌, ◌/◌, ◌^◌, ◌<◌, ◌≤◌, ℕ, zero, suc, List, get_or, [], arith, sym, ap, ◌∙◌, inl, inr}
-use Rattle.std.proofs.Math.Nat.{pow-suc}
+use Rattle.std.proofs.Common.{◌≡◌, ◌+◌, ◌-◌, ◌*◌, ◌/◌, ℕ, List, get_or, [], arith, sym, ap, ◌∙◌, inl, inr}
 use Rattle.std.specs.declared.cmp.Ordering.TheVariants.{Less, Equal, Greater}
 use Rattle.ut_key.specs.Keys.{key_cmp}
+use Rattle.ut_key.proofs.HalfLemmas.{halves}
 use Rattle.ut_prefix.specs.Reading.{keys_of}
 use Rattle.ut_prefix.proofs.LayoutLemmas.{block_at, first-in_block, IsBlock-at}
 use Rattle.ut_prefix.proofs.search.search_starts.Goals as goal
@@ -12,17 +12,6 @@ block_of-block-requires-clause-start g c = (block_at c.args.starts.now c.args.le
 pub first_of-requires : goal.first_of-requires
 first_of-requires g c =
     IsBlock-at c.args.starts.now c.args.len c.args.bytes.now c.block_of-block.result.now (c.loop-low.low + (c.loop-low.high - c.loop-low.low) / 2) 1 c.requires.blocks (omega arith) c.block_of-block.ensures (omega arith)
-
--- half of what is left
-halved : (size half left before now digits : ℕ) → 0 < size → half ≤ size / 2 → size < 2 ^ left → now + left ≤ before + digits
-    → (next : ℕ) × (half < 2 ^ next) × (now + 1 + next ≤ before + digits)
-halved size half zero before now digits pos le lt cost = absurd (omega arith)
-halved size half (suc left) before now digits pos le lt cost = (left, omega (arith, pow-suc 2 left), omega arith)
-
-halves : (size half before now after digits : ℕ) → 0 < size → half ≤ size / 2 → after ≡ now + 1 → (left : ℕ) × (size < 2 ^ left) × (now + left ≤ before + digits)
-    → (next : ℕ) × (half < 2 ^ next) × (after + next ≤ before + digits)
-halves size half before now after digits pos le e h =
-    let n = halved size half h.0 before now digits pos le h.1 h.2 in (n.0, n.1, omega (arith, n.2))
 
 less_greater : Less ≡ Greater → ⊥
 less_greater e = cc

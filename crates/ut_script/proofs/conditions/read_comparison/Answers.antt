@@ -4,4 +4,4 @@ use Rattle.ut_script.proofs.conditions.read_comparison.Goals as goal
 
 pub returns : goal.returns
 returns c =
-    comparison_of-is c.args.column.now c.args.op.now c.args.value.now _ c.unwrap-op.result c.in_ok-value.value c.in_ok-column.ensures (sym c.operator_of.ensures ∙ c.unwrap-op.ensures) c.in_ok-value.ensures
+    sym (comparison_of-is c.args.column.now c.args.op.now c.args.value.now _ c.in-Some.op c.in-Some-2.value c.in_ok-column.ensures.says (sym c.operator_of.ensures ∙ c.in-Some.is) (sym c.in_ok-value.ensures ∙ c.in-Some-2.is))

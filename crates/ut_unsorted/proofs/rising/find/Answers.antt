@@ -1,25 +1,14 @@
-use Rattle.std.proofs.Common.{◌≡◌, ◌∙◌, ℕ, zero, suc, ◌+◌, ◌-◌, ◌/◌, ◌^◌, ◌<◌, ◌≤◌, List, [], length, get_or, ap, sym, refl, arith}
-use Rattle.std.proofs.Math.Nat.{pow-suc}
+use Rattle.std.proofs.Common.{◌≡◌, ◌∙◌, ℕ, ◌+◌, ◌-◌, ◌/◌, ◌^◌, ◌<◌, ◌≤◌, List, [], length, get_or, ap, sym, refl, arith}
 use Rattle.std.specs.Int.{to_be_bytes, w64}
 use Rattle.std.specs.Ordering.{is_lt}
 use Rattle.ut_key.specs.Keys.{key_cmp}
+use Rattle.ut_key.proofs.HalfLemmas.{halves}
 use Rattle.ut_unsorted.specs.FirstSeen.{key_eq}
 use Rattle.ut_unsorted.proofs.RisingLemmas.{rising-found, rising-absent}
 use Rattle.ut_unsorted.proofs.WordLemmas.{bytes-not_below, words-differ, words-less}
 use Rattle.ut_unsorted.proofs.rising.find.Invariants.{IsBetween}
 use Rattle.ut_unsorted.proofs.rising.find.Goals.{else-low-words-via-then-low-words+else-number_at-number-2, else-low-words-via-else-low-words}
 use Rattle.ut_unsorted.proofs.rising.find.Goals as goal
-
--- half of what is left
-halved : (size half left before now digits : ℕ) → 0 < size → half ≤ size / 2 → size < 2 ^ left → now + left ≤ before + digits
-    → (next : ℕ) × (half < 2 ^ next) × (now + 1 + next ≤ before + digits)
-halved size half zero before now digits pos le lt cost = absurd (omega arith)
-halved size half (suc left) before now digits pos le lt cost = (left, omega (arith, pow-suc 2 left), omega arith)
-
-halves : (size half before now after digits : ℕ) → 0 < size → half ≤ size / 2 → after ≡ now + 1 → (left : ℕ) × (size < 2 ^ left) × (now + left ≤ before + digits)
-    → (next : ℕ) × (half < 2 ^ next) × (after + next ≤ before + digits)
-halves size half before now after digits pos le e h =
-    let n = halved size half h.0 before now digits pos le h.1 h.2 in (n.0, n.1, omega (arith, n.2))
 
 module _ (ws : List (List ℕ)) (n low high m x before now after : ℕ) (between : IsBetween ws (to_be_bytes w64 n) low high before now) (at : to_be_bytes w64 x ≡ get_or ws m []) (small : n < 2 ^ 64) (fits : x < 2 ^ 64) (middle : m ≡ low + (high - low) / 2) (some : low < high) (step : after ≡ now + 1) where
   -- the search goes on behind a word that is less

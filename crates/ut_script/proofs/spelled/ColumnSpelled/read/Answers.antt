@@ -5,5 +5,5 @@ use Rattle.ut_script.proofs.spelled.ColumnSpelled.read.Goals as goal
 pub returns : goal.returns
 returns c =
     let word = c.args.word.now in
-    column_of-is word _ _ _ c.unwrap-kind.result (c.split_at.ensures.front ∙ ap (λ (n : ℕ). take n word) c.colon_at.ensures.value) (c.split_at.ensures.back ∙ ap (λ (n : ℕ). drop n word) c.colon_at.ensures.value)
-    c.in_ok-name.ensures (sym c.kind_of.ensures ∙ c.unwrap-kind.ensures)
+    sym (column_of-is word _ _ _ c.in-Some.kind (c.split_at.ensures.front ∙ ap (λ (n : ℕ). take n word) c.colon_at.ensures.value) (c.split_at.ensures.back ∙ ap (λ (n : ℕ). drop n word) c.colon_at.ensures.value)
+    c.in_ok-name.ensures.says (sym c.kind_of.ensures ∙ c.in-Some.is))
