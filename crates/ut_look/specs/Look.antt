@@ -19,7 +19,7 @@ abbrev pub sight : Look → Sight
 sight look = record {
   tables = look.tables.now;
   staged = map (λ (t : TableValue). t.stages) look.stages.now;
-  fates = look.fates.now;
-  snapshot = look.snapshot;
-  own = look.own;
+  fates = look.snapshot.fates.now;
+  snapshot = look.snapshot.at;
+  own = look.snapshot.own;
 }

@@ -9,7 +9,7 @@ use Rattle.ut_stamps.specs.declared.place.Place.TheVariants.{Main}
 use Rattle.ut_stamps.specs.declared.visibility.Stamp.{Stamp}
 use Rattle.ut_l2.specs.KeyRows.{KeyRow}
 use Rattle.ut_scan.specs.declared.place.Found.{Found}
-use Rattle.ut_scan.specs.declared.probe.Viewer.{Viewer}
+use Rattle.ut_stamps.specs.declared.visibility.Snapshot.{Snapshot}
 use Rattle.ut_scan.specs.Coded.{seen_at, standing}
 use Rattle.ut_scan.specs.Finds.{all_places, found_at}
 use Rattle.ut_scan.specs.Probes.{is_seen, AreSeenAs}
@@ -64,7 +64,7 @@ parts-counted found count more new n so_far one e =
     let all = ap length (parts-more found [] (flat_map found (range_with_len 0 n)) (flat_map found (range_with_len 0 n) ++ found n) n refl refl) in
     omega (arith, so_far, one, e, all, length-append (flat_map found (range_with_len 0 n)) (found n))
 
-module _ (v : Viewer) (number : ℕ) (rows : List KeyRow) (stamps : List Stamp) (stamped : length stamps ≡ length rows) where
+module _ (v : Snapshot) (number : ℕ) (rows : List KeyRow) (stamps : List Stamp) (stamped : length stamps ≡ length rows) where
   -- where all rows are seen there are as many as the part has
   pub all-seen : (n : ℕ) → AreSeenAs v stamps true → n ≡ length rows → n ≡ length (seen_at v number rows stamps (all_places rows))
   all-seen n h e =
@@ -92,7 +92,7 @@ module _ (v : Viewer) (number : ℕ) (rows : List KeyRow) (stamps : List Stamp) 
       ∙ length-filter (λ (b : Bool). b) mask)
 
 -- the places that stand in a mask, tested one by one
-pub standing-counted : (v : Viewer) (number : ℕ) (rows : List KeyRow) (stamps : List Stamp) (mask : List Bool) → length mask ≡ length rows
+pub standing-counted : (v : Snapshot) (number : ℕ) (rows : List KeyRow) (stamps : List Stamp) (mask : List Bool) → length mask ≡ length rows
     → length (filter (stands_seen v stamps mask) (range_with_len 0 (length mask))) ≡ length (seen_at v number rows stamps (standing mask))
 standing-counted v number rows stamps mask size =
     sym (length-map (filter (stands_seen v stamps mask) (range_with_len 0 (length mask))) (found_at (Main number) rows))

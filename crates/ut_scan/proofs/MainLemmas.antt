@@ -20,7 +20,7 @@ use Rattle.ut_scan.specs.declared.coded.CodedPred.{CodedPred}
 use Rattle.ut_key.specs.declared.comparison.ColumnPred.{ColumnPred}
 use Rattle.ut_scan.specs.declared.place.Found.{Found}
 use Rattle.ut_scan.specs.Coded.{AreCoded, code_at, codes_in, held_mask, held_places, is_held, seen_at, standing}
-use Rattle.ut_scan.specs.declared.probe.Viewer.{Viewer}
+use Rattle.ut_stamps.specs.declared.visibility.Snapshot.{Snapshot}
 use Rattle.ut_scan.specs.declared.parts.PartProbe.{PartProbe}
 use Rattle.ut_scan.specs.PartProbes.{IsProbeOf}
 use Rattle.ut_scan.specs.Probes.{is_seen}
@@ -39,7 +39,7 @@ stamps-at parts stamps p h lt =
     )
 
 -- whether a place stands in a mask and its row is seen
-abbrev pub stands_seen : Viewer → List Stamp → List Bool → ℕ → Bool
+abbrev pub stands_seen : Snapshot → List Stamp → List Bool → ℕ → Bool
 stands_seen v stamps mask i = get_or mask i false && is_seen v stamps i
 
 -- the seen rows whose codes stand in the ranges are those that meet the comparisons
@@ -66,17 +66,17 @@ module _ (main : MainValue) (p : ℕ) (part : PartValue) (at : IsPartOf main p p
   part-columns coded h = subst (λ n. All (λ (q : CodedPred). q.column < n) coded) (sym (part-width main p part at)) h
 
 -- a probe of a part of main
-module _ (v : Viewer) (read : List CodedPred) (main : MainValue) (all : List (List Stamp)) (p : ℕ) (probe : PartProbe) (h : IsProbeOf v read main all p probe) (there : p < length main.parts) where
+module _ (v : Snapshot) (read : List CodedPred) (main : MainValue) (all : List (List Stamp)) (p : ℕ) (probe : PartProbe) (h : IsProbeOf v read main all p probe) (there : p < length main.parts) where
   pub probe-part : IsPartOf main p probe.part.now
   probe-part = record { there = there; rows = h.rows; before = h.before }
 
   -- what it finds
   pub probe-seen : (preds : List ColumnPred) (coded : List CodedPred) → read ≡ coded → AreCoded main preds coded → All (λ q. q.column < main.width) preds
-      → seen_at probe.viewer.now probe.number probe.part.now.rows probe.stamps.now (held_places probe.coded.now probe.part.now) ≡ found_in_part v.fates.now v.snapshot v.own preds main.parts all p
+      → seen_at probe.snapshot.now probe.number probe.part.now.rows probe.stamps.now (held_places probe.coded.now probe.part.now) ≡ found_in_part v.fates.now v.at v.own preds main.parts all p
   probe-seen preds coded is exact columns =
       let part = probe.part.now in
-      (λ i. seen_at (h.viewer i) (h.number i) part.rows (h.stamps i) (held_places ((h.coded ∙ is) i) part))
-      ∙ part-found main preds coded p part v.fates.now v.snapshot v.own (get_or all p []) exact columns probe-part
+      (λ i. seen_at (h.snapshot i) (h.number i) part.rows (h.stamps i) (held_places ((h.coded ∙ is) i) part))
+      ∙ part-found main preds coded p part v.fates.now v.at v.own (get_or all p []) exact columns probe-part
 
 range-more : (a n : ℕ) → range_with_len a n ++ (a + n) ∷ [] ≡ range_with_len a (n + 1)
 range-more a zero = let e : a + 0 ≡ a = omega arith in rw e refl
@@ -146,8 +146,8 @@ standing-held coded part mask is =
     ap held zero_more ∙ sym (get_or-map-range_with_len held 0 (length part.rows) k k false there zero_more))
     ∙ ap (λ n. filter held (range_with_len 0 n)) (length-held coded part)
 
--- and that a viewer sees: tested place by place
-pub standing-seen : (v : Viewer) (number : ℕ) (rows : List KeyRow) (stamps : List Stamp) (mask : List Bool) → length mask ≡ length rows
+-- and that a snapshot sees: tested place by place
+pub standing-seen : (v : Snapshot) (number : ℕ) (rows : List KeyRow) (stamps : List Stamp) (mask : List Bool) → length mask ≡ length rows
     → seen_at v number rows stamps (standing mask) ≡ map (found_at (Main number) rows) (filter (stands_seen v stamps mask) (range_with_len 0 (length mask)))
 standing-seen v number rows stamps mask size =
     ap (λ (l : List ℕ). seen_at v number rows stamps l) (places-filter (λ (b : Bool). b) (λ i. get_or mask i false) false 0 mask (λ k lt. let e : 0 + k ≡ k = omega arith in ap (λ i. get_or mask i false) e))

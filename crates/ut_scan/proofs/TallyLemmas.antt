@@ -18,7 +18,7 @@ use Rattle.ut_l2.specs.KeyRows.{KeyRow}
 use Rattle.ut_main.specs.Parts.{MainValue, PartValue, rows_in}
 use Rattle.ut_scan.specs.declared.coded.CodedPred.{CodedPred}
 use Rattle.ut_scan.specs.declared.place.Found.{Found}
-use Rattle.ut_scan.specs.declared.probe.Viewer.{Viewer}
+use Rattle.ut_stamps.specs.declared.visibility.Snapshot.{Snapshot}
 use Rattle.ut_scan.specs.Coded.{code_at, codes_in, held_places, is_held, keys_in, standing}
 use Rattle.ut_scan.specs.Finds.{all_places, found_at}
 use Rattle.ut_scan.specs.Probes.{is_seen, AreSeenAs}
@@ -173,25 +173,25 @@ module _ (part : PartValue) (column : ℕ) (counts : List ℕ) (codes : List ℕ
       later k lt = let e : a + 1 + k ≡ a + suc k = omega arith in ap w e ∙ h (suc k) (omega (arith, lt))
 
   -- where all rows are seen
-  pub all-codes : (v : Viewer) (stamps : List Stamp) → length stamps ≡ length part.rows → AreSeenAs v stamps true → codes ≡ seen_codes v part column stamps (all_places part.rows)
+  pub all-codes : (v : Snapshot) (stamps : List Stamp) → length stamps ≡ length part.rows → AreSeenAs v stamps true → codes ≡ seen_codes v part column stamps (all_places part.rows)
   all-codes v stamps stamped seen =
       sym (reads 0 (λ i. code_at part i column) codes (λ k lt. let e : 0 + k ≡ k = omega arith in ap (λ i. code_at part i column) e ∙ ap (λ (l : List ℕ). get_or l k 0) (sym is)))
       ∙ ap (λ n. map (λ i. code_at part i column) (range_with_len 0 n)) size
       ∙ ap (map (λ i. code_at part i column)) (sym (filter-each (is_seen v stamps) 0 (length part.rows) (λ i low high. seen i (omega (arith, high, stamped)))))
 
 -- where none is seen
-pub none-coded : (v : Viewer) (part : PartValue) (column : ℕ) (stamps : List Stamp) → length stamps ≡ length part.rows → AreSeenAs v stamps false → [] ≡ seen_codes v part column stamps (all_places part.rows)
+pub none-coded : (v : Snapshot) (part : PartValue) (column : ℕ) (stamps : List Stamp) → length stamps ≡ length part.rows → AreSeenAs v stamps false → [] ≡ seen_codes v part column stamps (all_places part.rows)
 none-coded v part column stamps stamped none =
     ap (map (λ i. code_at part i column)) (sym (filter-none (is_seen v stamps) 0 (length part.rows) (λ i low high. none i (omega (arith, high, stamped)))))
 
-pub none-held : (v : Viewer) (part : PartValue) (column : ℕ) (coded : List CodedPred) (stamps : List Stamp) → length stamps ≡ length part.rows → AreSeenAs v stamps false → [] ≡ seen_codes v part column stamps (held_places coded part)
+pub none-held : (v : Snapshot) (part : PartValue) (column : ℕ) (coded : List CodedPred) (stamps : List Stamp) → length stamps ≡ length part.rows → AreSeenAs v stamps false → [] ≡ seen_codes v part column stamps (held_places coded part)
 none-held v part column coded stamps stamped none =
     ap (map (λ i. code_at part i column)) (sym (
     filter-both (is_held coded part) (is_seen v stamps) (λ i. is_held coded part i && is_seen v stamps i) 0 (length part.rows) (λ i low high. refl)
     ∙ filter-none (λ i. is_held coded part i && is_seen v stamps i) 0 (length part.rows) (λ i low high. both-false (is_held coded part i) (is_seen v stamps i) (none i (omega (arith, high, stamped))))))
 
 -- the codes of the places that stand in a mask, tested one by one
-pub standing-codes : (v : Viewer) (part : PartValue) (column : ℕ) (stamps : List Stamp) (mask : List Bool) → map (λ i. code_at part i column) (filter (stands_seen v stamps mask) (range_with_len 0 (length mask))) ≡ seen_codes v part column stamps (standing mask)
+pub standing-codes : (v : Snapshot) (part : PartValue) (column : ℕ) (stamps : List Stamp) (mask : List Bool) → map (λ i. code_at part i column) (filter (stands_seen v stamps mask) (range_with_len 0 (length mask))) ≡ seen_codes v part column stamps (standing mask)
 standing-codes v part column stamps mask =
     ap (map (λ i. code_at part i column)) (sym (
     ap (filter (is_seen v stamps)) (places-filter (λ (b : Bool). b) (λ i. get_or mask i false) false 0 mask (λ k lt. let e : 0 + k ≡ k = omega arith in ap (λ i. get_or mask i false) e))
@@ -216,7 +216,7 @@ module _ (main : MainValue) (column p : ℕ) (part : PartValue) (at : IsPartOf m
       slice_get-get_or (keys_in main column) (code_at part i column) [] code.0
       ∙ ap Some (code.1 ∙ ap (λ (rows : List KeyRow). key_in (record { width = main.width; parts = rows ∷ [] }) column (Main 0 i)) at.rows)
 
-  pub tallies-more : (v : Viewer) (coded : List CodedPred) (stamps : List Stamp) (found more : List Found) (old new : List ℕ) → Tallies main column found old → AreMore (seen_codes v part column stamps (held_places coded part)) old new
+  pub tallies-more : (v : Snapshot) (coded : List CodedPred) (stamps : List Stamp) (found more : List Found) (old new : List ℕ) → Tallies main column found old → AreMore (seen_codes v part column stamps (held_places coded part)) old new
       → map (found_at (Main p) part.rows) (filter (is_seen v stamps) (held_places coded part)) ≡ more → Tallies main column (found ++ more) new
   tallies-more v coded stamps found more old new so_far one is =
       let places = filter (is_seen v stamps) (held_places coded part) in
@@ -243,7 +243,7 @@ module _ (main : MainValue) (column p : ℕ) (part : PartValue) (at : IsPartOf m
       }
 
   -- and no count is above the rows so far
-  pub few-more : (v : Viewer) (coded : List CodedPred) (stamps : List Stamp) (old new : List ℕ) → AreMore (seen_codes v part column stamps (held_places coded part)) old new
+  pub few-more : (v : Snapshot) (coded : List CodedPred) (stamps : List Stamp) (old new : List ℕ) → AreMore (seen_codes v part column stamps (held_places coded part)) old new
       → ((code : ℕ) → get_or old code 0 ≤ sum_by (λ (rows : List KeyRow). length rows) (take p main.parts)) → (code : ℕ) → get_or new code 0 ≤ sum_by (λ (rows : List KeyRow). length rows) (take (p + 1) main.parts)
   few-more v coded stamps old new one few k =
       let held = held_places coded part in

@@ -13,7 +13,7 @@ use Rattle.ut_main.specs.Parts.{MainValue, PartValue, dicts_behind}
 use Rattle.ut_scan.specs.declared.coded.CodedPred.{CodedPred}
 use Rattle.ut_key.specs.declared.comparison.ColumnPred.{ColumnPred}
 use Rattle.ut_scan.specs.declared.place.Found.{Found}
-use Rattle.ut_scan.specs.declared.probe.Viewer.{Viewer}
+use Rattle.ut_stamps.specs.declared.visibility.Snapshot.{Snapshot}
 use Rattle.ut_scan.specs.Finds.{all_places, found_at}
 use Rattle.ut_scan.specs.Probes.{is_seen}
 
@@ -77,6 +77,6 @@ held_mask coded part = map (is_held coded part) (all_places part.rows)
 abbrev pub standing : List Bool → List ℕ
 standing mask = places_where (λ b. b) mask
 
--- the rows of a part at those places that a viewer sees
-abbrev pub seen_at : Viewer → ℕ → List KeyRow → List Stamp → List ℕ → List Found
+-- the rows of a part at those places that a snapshot sees
+abbrev pub seen_at : Snapshot → ℕ → List KeyRow → List Stamp → List ℕ → List Found
 seen_at v number rows stamps places = map (found_at (Main number) rows) (filter (is_seen v stamps) places)

@@ -10,7 +10,7 @@ use Rattle.ut_stamps.specs.declared.place.Place.TheVariants.{L2, Closed}
 use Rattle.ut_scan.specs.declared.probe.DeltaStage.{DeltaStage}
 use Rattle.ut_scan.specs.declared.probe.DeltaStage.TheVariants.{L2 as in_l2, Closed as in_closed}
 use Rattle.ut_scan.specs.declared.probe.Probe.{Probe}
-use Rattle.ut_scan.specs.declared.probe.Viewer.{Viewer}
+use Rattle.ut_stamps.specs.declared.visibility.Snapshot.{Snapshot}
 use Rattle.ut_scan.specs.Finds.{all_places, found_at, found_in, is_hit, meets_at, passes}
 use Rattle.ut_scan.specs.StageRows.{found_in_parts}
 use Rattle.ut_stamps.specs.StampLists.{no_stamp}
@@ -20,36 +20,36 @@ abbrev pub place_in : DeltaStage → ℕ → Place
 place_in in_l2 = L2
 place_in in_closed = Closed
 
--- whether the viewer sees the row at place i
-abbrev pub is_seen : Viewer → List Stamp → ℕ → Bool
-is_seen v stamps i = sees v.fates.now v.snapshot v.own (get_or stamps i no_stamp)
+-- whether the snapshot sees the row at place i
+abbrev pub is_seen : Snapshot → List Stamp → ℕ → Bool
+is_seen v stamps i = sees v.fates.now v.at v.own (get_or stamps i no_stamp)
 
--- the viewer sees all rows with these stamps, or none
-abbrev pub AreSeenAs : Viewer → List Stamp → Bool → Type 0
+-- the snapshot sees all rows with these stamps, or none
+abbrev pub AreSeenAs : Snapshot → List Stamp → Bool → Type 0
 AreSeenAs v stamps seen = (i : ℕ) → i < length stamps → is_seen v stamps i ≡ seen
 
 -- what is told of all rows holds
-abbrev pub Tells : Viewer → List Stamp → Option Bool → Type 0
+abbrev pub Tells : Snapshot → List Stamp → Option Bool → Type 0
 Tells v stamps told = (seen : Bool) → told ≡ Some seen → AreSeenAs v stamps seen
 
--- the viewer sees the row at place i, and it meets each comparison
-abbrev pub hits : Viewer → List ColumnPred → List KeyRow → List Stamp → ℕ → Bool
-hits v preds rows stamps i = is_hit v.fates.now v.snapshot v.own preds rows stamps i
+-- the snapshot sees the row at place i, and it meets each comparison
+abbrev pub hits : Snapshot → List ColumnPred → List KeyRow → List Stamp → ℕ → Bool
+hits v preds rows stamps i = is_hit v.fates.now v.at v.own preds rows stamps i
 
--- the rows of a stage that the viewer sees and that meet each comparison
-abbrev pub found_for : Viewer → List ColumnPred → (ℕ → Place) → List KeyRow → List Stamp → List Found
-found_for v preds place rows stamps = found_in v.fates.now v.snapshot v.own preds place rows stamps
+-- the rows of a stage that the snapshot sees and that meet each comparison
+abbrev pub found_for : Snapshot → List ColumnPred → (ℕ → Place) → List KeyRow → List Stamp → List Found
+found_for v preds place rows stamps = found_in v.fates.now v.at v.own preds place rows stamps
 
 -- the same of all parts of main
-abbrev pub found_in_main : Viewer → List ColumnPred → List (List KeyRow) → List (List Stamp) → List Found
-found_in_main v preds parts stamps = found_in_parts v.fates.now v.snapshot v.own preds parts stamps
+abbrev pub found_in_main : Snapshot → List ColumnPred → List (List KeyRow) → List (List Stamp) → List Found
+found_in_main v preds parts stamps = found_in_parts v.fates.now v.at v.own preds parts stamps
 
 -- the row at place i meets the comparisons that are left, and is seen
 abbrev pub finds : Probe → ℕ → Bool
 finds p i =
     (passes p.before.now (get_or p.l2.now.rows i no_row)
     && passes p.after.now (get_or p.l2.now.rows i no_row))
-    && is_seen p.viewer.now p.stamps.now i
+    && is_seen p.snapshot.now p.stamps.now i
 
 -- the rows at those places that a probe finds
 abbrev pub found_by : Probe → List ℕ → List Found
@@ -60,5 +60,5 @@ abbrev pub found_with : ColumnPred → Probe → List Found
 found_with pred p = map (found_at (place_in p.stage) p.l2.now.rows) (filter (λ i. meets_at pred p.l2.now.rows i && finds p i) (all_places p.l2.now.rows))
 
 -- a row is a hit where it meets comparison k and the probe finds it
-abbrev pub IsRest : Viewer → List ColumnPred → ℕ → List KeyRow → List Stamp → Probe → Type 0
+abbrev pub IsRest : Snapshot → List ColumnPred → ℕ → List KeyRow → List Stamp → Probe → Type 0
 IsRest v preds k rows stamps p = (d : ColumnPred) (i : ℕ) → hits v preds rows stamps i ≡ (meets_at (get_or preds k d) rows i && finds p i)

@@ -46,9 +46,9 @@ pub record AreStamped (stages : Stages) : Type 0 where
 
 -- it asks for the rows that are seen at a snapshot, with the changes of an own transaction, and that meet comparisons
 pub record AsksFor (fates : List Fate) (snapshot : ℕ) (own : Option ℕ) (preds : List ColumnPred) (asked : Asked) : Type 0 where
-  pub fates_are : asked.viewer.fates.now ≡ fates
-  pub snapshot_is : asked.viewer.snapshot ≡ snapshot
-  pub own_is : asked.viewer.own ≡ own
+  pub fates_are : asked.snapshot.fates.now ≡ fates
+  pub snapshot_is : asked.snapshot.at ≡ snapshot
+  pub own_is : asked.snapshot.own ≡ own
   pub preds_are : asked.preds.now ≡ preds
 
 -- each row has a stamp, and the columns that are asked for are there
@@ -78,11 +78,11 @@ module _ (fates : List Fate) (snapshot : ℕ) (own : Option ℕ) (preds : List C
 
 -- the rows that are asked for, of stages as they stand
 abbrev pub rows_asked : Asked → Stages → List Found
-rows_asked a stages = found_rows a.viewer.fates.now a.viewer.snapshot a.viewer.own a.preds.now (rows_in stages) stages.stamps.now
+rows_asked a stages = found_rows a.snapshot.fates.now a.snapshot.at a.snapshot.own a.preds.now (rows_in stages) stages.stamps.now
 
 -- those of them outside of main
 abbrev pub outside_asked : Asked → Stages → List Found
-outside_asked a stages = found_outside a.viewer.fates.now a.viewer.snapshot a.viewer.own a.preds.now (rows_in stages) stages.stamps.now
+outside_asked a stages = found_outside a.snapshot.fates.now a.snapshot.at a.snapshot.own a.preds.now (rows_in stages) stages.stamps.now
 
 -- the most steps of a scan: for each comparison those of one search in all the dictionaries of its column
 abbrev pub scan_steps : MainValue → List ColumnPred → ℕ

@@ -8,7 +8,7 @@ use Rattle.ut_l2.specs.KeyRows.{key_at, no_row}
 use Rattle.ut_main.specs.Parts.{MainValue, PartValue}
 use Rattle.ut_scan.specs.declared.asked.Asked.{Asked}
 use Rattle.ut_scan.specs.declared.place.Found.{Found}
-use Rattle.ut_scan.specs.declared.probe.Viewer.{Viewer}
+use Rattle.ut_stamps.specs.declared.visibility.Snapshot.{Snapshot}
 use Rattle.ut_scan.specs.declared.stages.Stages.{Stages}
 use Rattle.ut_scan.specs.Coded.{code_at, codes_in, keys_in}
 use Rattle.ut_scan.specs.Probes.{found_in_main, is_seen}
@@ -33,12 +33,12 @@ pub record Tallies (main : MainValue) (column : ℕ) (found : List Found) (count
 
 -- the same of those rows of main that are asked for
 abbrev pub TalliesAsked : Asked → Stages → ℕ → List ℕ → Type 0
-TalliesAsked a stages column counts = Tallies stages.main.now column (found_in_main a.viewer a.preds.now stages.main.now.parts stages.stamps.now.parts) counts
+TalliesAsked a stages column counts = Tallies stages.main.now column (found_in_main a.snapshot a.preds.now stages.main.now.parts stages.stamps.now.parts) counts
 
 -- ---- one part more
 
--- the codes of a part's rows at those places that a viewer sees
-abbrev pub seen_codes : Viewer → PartValue → ℕ → List Stamp → List ℕ → List ℕ
+-- the codes of a part's rows at those places that a snapshot sees
+abbrev pub seen_codes : Snapshot → PartValue → ℕ → List Stamp → List ℕ → List ℕ
 seen_codes v part column stamps places = map (λ i. code_at part i column) (filter (is_seen v stamps) places)
 
 -- counts, to which codes came

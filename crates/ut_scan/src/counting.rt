@@ -27,12 +27,12 @@ pub fn count<L: Ledger>(
     ensures count { IfOk result (λ count. count ≡ length (rows_asked asked.now stages.now)) }
     ensures steps { steps.new ≤ steps.old + scan_steps stages.now.main.now asked.now.preds.now }
 {
-    let viewer = &asked.viewer;
+    let snapshot = &asked.snapshot;
     let preds = asked.preds;
     let l2 = count_delta(alloc, asked, DeltaStage::L2, stages.l2, stages.stamps.l2())?;
-    let l1 = count_rows(viewer, preds, stages.l1.rows(), stages.stamps.l1());
+    let l1 = count_rows(snapshot, preds, stages.l1.rows(), stages.stamps.l1());
     let closed = count_closed(alloc, stages, asked)?;
-    let main = count_parts(alloc, viewer, preds, stages.main, stages.stamps, steps)?;
+    let main = count_parts(alloc, snapshot, preds, stages.main, stages.stamps, steps)?;
     Ok(u64::from(l2) + u64::from(l1) + u64::from(closed) + main)
 }
 
@@ -42,7 +42,7 @@ fn count_closed(alloc: Global, stages: &Stages<'_>, asked: &Asked<'_>) -> Result
     ensures { let rows = if_closed (rows_in stages.now).closed in
         let stamps = if_closed stages.now.stamps.now.closed in
         IfOk result (λ count.
-        count ≡ length (found_for asked.now.viewer asked.now.preds.now Place.Closed rows stamps)) }
+        count ≡ length (found_for asked.now.snapshot asked.now.preds.now Place.Closed rows stamps)) }
 {
     let Some(l2) = stages.closed else {
         return Ok(0);

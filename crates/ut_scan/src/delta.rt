@@ -28,13 +28,13 @@ pub fn scan_delta(
     requires stamped { length stamps.now ≡ length l2.now.rows }
     requires columns { All (λ p. p.column < l2.now.width) asked.now.preds.now }
     ensures { OnOk result (out.new.items ≡ out.old.items
-        ++ found_for asked.now.viewer asked.now.preds.now (place_in stage) l2.now.rows stamps.now) }
+        ++ found_for asked.now.snapshot asked.now.preds.now (place_in stage) l2.now.rows stamps.now) }
 {
-    let viewer = &asked.viewer;
+    let snapshot = &asked.snapshot;
     let preds = asked.preds;
     let Some(k) = leading(l2, preds) else {
         let probe = Probe {
-            viewer,
+            snapshot,
             stage,
             l2,
             stamps,
@@ -44,7 +44,7 @@ pub fn scan_delta(
         return scan_all(&probe, out);
     };
     let pred = &preds[k];
-    let probe = Probe::around(viewer, stage, l2, stamps, preds, k);
+    let probe = Probe::around(snapshot, stage, l2, stamps, preds, k);
     match pred.op {
         Cmp::Eq => scan_equal(&probe, pred, out),
         _ => {

@@ -26,13 +26,13 @@ pub fn count_delta(
     requires stamped { length stamps.now ≡ length l2.now.rows }
     requires columns { All (λ p. p.column < l2.now.width) asked.now.preds.now }
     ensures { IfOk result (λ count. count
-        ≡ length (found_for asked.now.viewer asked.now.preds.now (place_in stage) l2.now.rows stamps.now)) }
+        ≡ length (found_for asked.now.snapshot asked.now.preds.now (place_in stage) l2.now.rows stamps.now)) }
 {
-    let viewer = &asked.viewer;
+    let snapshot = &asked.snapshot;
     let preds = asked.preds;
     let Some(k) = leading(l2, preds) else {
         let probe = Probe {
-            viewer,
+            snapshot,
             stage,
             l2,
             stamps,
@@ -42,7 +42,7 @@ pub fn count_delta(
         return Ok(count_all(&probe));
     };
     let pred = &preds[k];
-    let probe = Probe::around(viewer, stage, l2, stamps, preds, k);
+    let probe = Probe::around(snapshot, stage, l2, stamps, preds, k);
     match pred.op {
         Cmp::Eq => Ok(count_equal(&probe, pred)),
         _ => {

@@ -20,7 +20,6 @@ mod tallying;
 pub use asked::Asked;
 pub use counting::count;
 pub use place::{ColumnPred, Found, Place};
-pub use probe::Viewer;
 pub use stages::Stages;
 pub use table::scan;
 pub use tallying::{CodeTally, tally};

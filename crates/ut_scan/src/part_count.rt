@@ -8,18 +8,17 @@ ghost use Rattle.ut_scan.specs.StageRows.{scan_steps, AreStampedParts};
 use crate::coded::coded_preds;
 use crate::parts::PartProbe;
 use crate::place::ColumnPred;
-use crate::probe::Viewer;
 use std::alloc::{AllocError, Global};
 use std::sync::ledger::Ledger;
 use ut_key::Steps;
 use ut_main::Main;
 use ut_mask::Mask;
-use ut_stamps::StampTable;
+use ut_stamps::{Snapshot, StampTable};
 
 /// How many rows of main are seen and meet each comparison.
 pub fn count_parts<'a, L: Ledger>(
     alloc: Global,
-    viewer: &'a Viewer<'a>,
+    snapshot: &'a Snapshot<'a>,
     preds: &[ColumnPred],
     main: &'a Main,
     stamps: &'a StampTable,
@@ -28,7 +27,7 @@ pub fn count_parts<'a, L: Ledger>(
     requires columns { All (λ p. p.column < main.now.width) preds.now }
     requires stamped { AreStampedParts main.now.parts stamps.now.parts }
     ensures count { IfOk result (λ count. count
-        ≡ length (found_in_main viewer.now preds.now main.now.parts stamps.now.parts)) }
+        ≡ length (found_in_main snapshot.now preds.now main.now.parts stamps.now.parts)) }
     ensures few { IfOk result (λ count. count ≤ 8 * 2 ^ 32) }
     ensures cost { steps.new ≤ steps.old + scan_steps main.now preds.now }
 {
@@ -38,7 +37,7 @@ pub fn count_parts<'a, L: Ledger>(
     let coded = coded_preds(alloc, main, preds, steps)?;
     let mut count: u64 = 0;
     for number in 0..main.parts() {
-        let probe = PartProbe::of(viewer, coded.as_slice(), main, stamps, number);
+        let probe = PartProbe::of(snapshot, coded.as_slice(), main, stamps, number);
         let more = probe.count(alloc)?;
         count += u64::from(more);
     }
@@ -50,7 +49,7 @@ impl PartProbe<'_, '_> {
     fn count(&self, alloc: Global) -> Result<u32, AllocError>
         ensures { let p = self.now in let held = held_places p.coded.now p.part.now in
             IfOk result (λ count. count
-            ≡ length (seen_at p.viewer.now p.number p.part.now.rows p.stamps.now held)) }
+            ≡ length (seen_at p.snapshot.now p.number p.part.now.rows p.stamps.now held)) }
     {
         if self.is_hidden() {
             return Ok(0);
@@ -68,7 +67,7 @@ impl PartProbe<'_, '_> {
     /// How many rows are seen.
     fn count_all(&self) -> u32
         ensures { let p = self.now in let rows = p.part.now.rows in
-            result ≡ length (seen_at p.viewer.now p.number rows p.stamps.now (all_places rows)) }
+            result ≡ length (seen_at p.snapshot.now p.number rows p.stamps.now (all_places rows)) }
     {
         match self.seen {
             Some(seen) => { if seen { self.part.len() } else { 0 } }
@@ -79,7 +78,7 @@ impl PartProbe<'_, '_> {
     /// How many rows are seen, each looked at.
     fn count_each(&self) -> u32
         ensures { let p = self.now in let rows = p.part.now.rows in
-            result ≡ length (seen_at p.viewer.now p.number rows p.stamps.now (all_places rows)) }
+            result ≡ length (seen_at p.snapshot.now p.number rows p.stamps.now (all_places rows)) }
     {
         let mut count = 0;
         for i in 0..self.part.len() {
@@ -94,7 +93,7 @@ impl PartProbe<'_, '_> {
     fn count_standing(&self, mask: &Mask) -> u32
         requires { length mask.now ≡ length self.now.part.now.rows }
         ensures { let p = self.now in result
-            ≡ length (seen_at p.viewer.now p.number p.part.now.rows p.stamps.now (standing mask.now)) }
+            ≡ length (seen_at p.snapshot.now p.number p.part.now.rows p.stamps.now (standing mask.now)) }
     {
         match self.seen {
             Some(seen) => { if seen { mask.count() } else { 0 } }
@@ -106,7 +105,7 @@ impl PartProbe<'_, '_> {
     fn count_each_standing(&self, mask: &Mask) -> u32
         requires { length mask.now ≡ length self.now.part.now.rows }
         ensures { let p = self.now in result
-            ≡ length (seen_at p.viewer.now p.number p.part.now.rows p.stamps.now (standing mask.now)) }
+            ≡ length (seen_at p.snapshot.now p.number p.part.now.rows p.stamps.now (standing mask.now)) }
     {
         let mut count = 0;
         let mut from = 0;

@@ -10,20 +10,19 @@ ghost use Rattle.ut_scan.specs.Tallies.{seen_codes, AreMore, HasRoom, Tallies};
 use crate::coded::{all_dicts, coded_preds};
 use crate::parts::PartProbe;
 use crate::place::ColumnPred;
-use crate::probe::Viewer;
 use std::alloc::{AllocError, Global};
 use std::sync::ledger::Ledger;
 use ut_codes::{CodeVec, Form};
 use ut_key::Steps;
 use ut_main::Main;
 use ut_mask::Mask;
-use ut_stamps::StampTable;
+use ut_stamps::{Snapshot, StampTable};
 
 /// For each code of a column of main, how many of the rows that are seen and meet each comparison
 /// have it.
 pub fn tally_parts<'a, L: Ledger>(
     alloc: Global,
-    viewer: &'a Viewer<'a>,
+    snapshot: &'a Snapshot<'a>,
     preds: &[ColumnPred],
     main: &'a Main,
     stamps: &'a StampTable,
@@ -34,7 +33,7 @@ pub fn tally_parts<'a, L: Ledger>(
     requires column { column < main.now.width }
     requires stamped { AreStampedParts main.now.parts stamps.now.parts }
     ensures counts { IfOk result (λ counts. Tallies main.now column
-        (found_in_main viewer.now preds.now main.now.parts stamps.now.parts) counts.items) }
+        (found_in_main snapshot.now preds.now main.now.parts stamps.now.parts) counts.items) }
     ensures few { IfOk result (λ counts. length counts.items < 2 ^ 31) }
     ensures cost { steps.new ≤ steps.old + scan_steps main.now preds.now }
 {
@@ -44,7 +43,7 @@ pub fn tally_parts<'a, L: Ledger>(
     let coded = coded_preds(alloc, main, preds, steps)?;
     let mut counts = no_counts(alloc, main, column)?;
     for number in 0..main.parts() {
-        let probe = PartProbe::of(viewer, coded.as_slice(), main, stamps, number);
+        let probe = PartProbe::of(snapshot, coded.as_slice(), main, stamps, number);
         probe.tally(alloc, column, counts.as_mut_slice())?;
     }
     Ok(counts)
@@ -70,7 +69,7 @@ impl PartProbe<'_, '_> {
         requires column { column < length self.now.part.now.before }
         requires room { HasRoom self.now.part.now column counts.old }
         ensures { let p = self.now in let held = held_places p.coded.now p.part.now in
-            OnOk result (AreMore (seen_codes p.viewer.now p.part.now column p.stamps.now held)
+            OnOk result (AreMore (seen_codes p.snapshot.now p.part.now column p.stamps.now held)
             counts.old counts.new) }
     {
         if self.is_hidden() {
@@ -92,7 +91,7 @@ impl PartProbe<'_, '_> {
         requires column { column < length self.now.part.now.before }
         requires room { HasRoom self.now.part.now column counts.old }
         ensures { let p = self.now in let places = all_places p.part.now.rows in
-            OnOk result (AreMore (seen_codes p.viewer.now p.part.now column p.stamps.now places)
+            OnOk result (AreMore (seen_codes p.snapshot.now p.part.now column p.stamps.now places)
             counts.old counts.new) }
     {
         match self.seen {
@@ -111,7 +110,7 @@ impl PartProbe<'_, '_> {
         requires column { column < length self.now.part.now.before }
         requires room { HasRoom self.now.part.now column counts.old }
         ensures { let p = self.now in let places = all_places p.part.now.rows in
-            AreMore (seen_codes p.viewer.now p.part.now column p.stamps.now places)
+            AreMore (seen_codes p.snapshot.now p.part.now column p.stamps.now places)
             counts.old counts.new }
     {
         let codes = self.part.codes(column);
@@ -128,7 +127,7 @@ impl PartProbe<'_, '_> {
         requires column { column < length self.now.part.now.before }
         requires room { HasRoom self.now.part.now column counts.old }
         ensures { let p = self.now in let places = standing mask.now in
-            AreMore (seen_codes p.viewer.now p.part.now column p.stamps.now places)
+            AreMore (seen_codes p.snapshot.now p.part.now column p.stamps.now places)
             counts.old counts.new }
     {
         let codes = self.part.codes(column);

@@ -8,19 +8,18 @@ ghost use Rattle.ut_scan.specs.StageRows.{scan_steps, AreStampedParts};
 
 use crate::coded::{CodedPred, below, coded_preds};
 use crate::place::{ColumnPred, Found, Place};
-use crate::probe::Viewer;
 use std::alloc::{AllocError, Global};
 use std::sync::ledger::Ledger;
 use ut_codes::CodeVec;
 use ut_key::{CodeRange, Steps};
 use ut_main::{Main, Part};
 use ut_mask::Mask;
-use ut_stamps::{PartStamps, StampTable};
+use ut_stamps::{PartStamps, Snapshot, StampTable};
 
 /// A part of main with its number and its stamps, and what its rows must meet.
 #[derive(Drop)]
 pub struct PartProbe<'a, 'c> {
-    pub viewer: &'a Viewer<'a>,
+    pub snapshot: &'a Snapshot<'a>,
     pub coded: &'c [CodedPred],
     pub number: u8,
     pub part: &'a Part,
@@ -28,14 +27,14 @@ pub struct PartProbe<'a, 'c> {
     /// Whether all rows are seen or none, where one stamp tells.
     pub seen: Option<bool>,
     ghost stamped: { length stamps.now ≡ length part.now.rows },
-    ghost sight: { Tells viewer.now stamps.now seen },
+    ghost sight: { Tells snapshot.now stamps.now seen },
     ghost columns: { All (λ c. c.column < length part.now.before) coded.now },
 }
 
 /// Appends the seen rows of main that meet each comparison.
 pub fn scan_parts<'a, L: Ledger>(
     alloc: Global,
-    viewer: &'a Viewer<'a>,
+    snapshot: &'a Snapshot<'a>,
     preds: &[ColumnPred],
     main: &'a Main,
     stamps: &'a StampTable,
@@ -45,7 +44,7 @@ pub fn scan_parts<'a, L: Ledger>(
     requires columns { All (λ p. p.column < main.now.width) preds.now }
     requires stamped { AreStampedParts main.now.parts stamps.now.parts }
     ensures rows { OnOk result (out.new.items ≡ out.old.items
-        ++ found_in_main viewer.now preds.now main.now.parts stamps.now.parts) }
+        ++ found_in_main snapshot.now preds.now main.now.parts stamps.now.parts) }
     ensures cost { steps.new ≤ steps.old + scan_steps main.now preds.now }
 {
     if main.parts() == 0 {
@@ -53,18 +52,18 @@ pub fn scan_parts<'a, L: Ledger>(
     }
     let coded = coded_preds(alloc, main, preds, steps)?;
     for number in 0..main.parts() {
-        let probe = PartProbe::of(viewer, coded.as_slice(), main, stamps, number);
+        let probe = PartProbe::of(snapshot, coded.as_slice(), main, stamps, number);
         probe.append(alloc, out)?;
     }
     Ok(())
 }
 
 /// Whether all rows of a part are seen or none, where one stamp tells.
-fn joint_sight(viewer: &Viewer<'_>, stamps: &PartStamps) -> Option<bool>
-    ensures { Tells viewer.now stamps.now result }
+fn joint_sight(snapshot: &Snapshot<'_>, stamps: &PartStamps) -> Option<bool>
+    ensures { Tells snapshot.now stamps.now result }
 {
     match stamps.joint() {
-        Some(stamp) => Some(viewer.sees(&stamp)),
+        Some(stamp) => Some(snapshot.sees(&stamp)),
         None => None,
     }
 }
@@ -74,7 +73,7 @@ impl<'a, 'c> PartProbe<'a, 'c> {
 
     /// The probe of the part of a number.
     pub fn of(
-        viewer: &'a Viewer<'a>,
+        snapshot: &'a Snapshot<'a>,
         coded: &'c [CodedPred],
         main: &'a Main,
         stamps: &'a StampTable,
@@ -83,13 +82,13 @@ impl<'a, 'c> PartProbe<'a, 'c> {
         requires columns { All (λ c. c.column < main.now.width) coded.now }
         requires stamped { AreStampedParts main.now.parts stamps.now.parts }
         requires there { number < length main.now.parts }
-        ensures { IsProbeOf viewer.now coded.now main.now stamps.now.parts number result }
+        ensures { IsProbeOf snapshot.now coded.now main.now stamps.now.parts number result }
     {
         let part = main.part(number);
         let stamps = stamps.part(number);
-        let seen = joint_sight(viewer, stamps);
+        let seen = joint_sight(snapshot, stamps);
         PartProbe {
-            viewer,
+            snapshot,
             coded,
             number,
             part,
@@ -102,7 +101,7 @@ impl<'a, 'c> PartProbe<'a, 'c> {
     fn append(&self, alloc: Global, out: &mut Vec<Found>) -> Result<(), AllocError>
         ensures { let p = self.now in let held = held_places p.coded.now p.part.now in
             OnOk result (out.new.items ≡ out.old.items
-            ++ seen_at p.viewer.now p.number p.part.now.rows p.stamps.now held) }
+            ++ seen_at p.snapshot.now p.number p.part.now.rows p.stamps.now held) }
     {
         if self.is_hidden() {
             return Ok(());
@@ -132,7 +131,7 @@ impl<'a, 'c> PartProbe<'a, 'c> {
     /// Whether one stamp tells that no row is seen.
     pub fn is_hidden(&self) -> bool
         ensures { let p = self.now in
-            IsTrue result → AreSeenAs p.viewer.now p.stamps.now false }
+            IsTrue result → AreSeenAs p.snapshot.now p.stamps.now false }
     {
         match self.seen {
             Some(seen) => !seen,
@@ -177,7 +176,7 @@ impl<'a, 'c> PartProbe<'a, 'c> {
     fn append_all(&self, out: &mut Vec<Found>) -> Result<(), AllocError>
         ensures { let p = self.now in let rows = p.part.now.rows in
             OnOk result (out.new.items ≡ out.old.items
-            ++ seen_at p.viewer.now p.number rows p.stamps.now (all_places rows)) }
+            ++ seen_at p.snapshot.now p.number rows p.stamps.now (all_places rows)) }
     {
         for i in 0..self.part.len() {
             if self.sees(i) {
@@ -191,7 +190,7 @@ impl<'a, 'c> PartProbe<'a, 'c> {
     fn append_standing(&self, mask: &Mask, out: &mut Vec<Found>) -> Result<(), AllocError>
         requires { length mask.now ≡ length self.now.part.now.rows }
         ensures { let p = self.now in OnOk result (out.new.items ≡ out.old.items
-            ++ seen_at p.viewer.now p.number p.part.now.rows p.stamps.now (standing mask.now)) }
+            ++ seen_at p.snapshot.now p.number p.part.now.rows p.stamps.now (standing mask.now)) }
     {
         let mut from = 0;
         while from < mask.len() {
@@ -209,11 +208,11 @@ impl<'a, 'c> PartProbe<'a, 'c> {
     /// Whether the row at a place is seen. No stamp is looked at where one has told for all.
     pub fn sees(&self, i: u32) -> bool
         requires { i < length self.now.part.now.rows }
-        ensures { result ≡ is_seen self.now.viewer.now self.now.stamps.now i }
+        ensures { result ≡ is_seen self.now.snapshot.now self.now.stamps.now i }
     {
         match self.seen {
             Some(seen) => seen,
-            None => self.viewer.sees(&self.stamps.get(i as usize)),
+            None => self.snapshot.sees(&self.stamps.get(i as usize)),
         }
     }
 

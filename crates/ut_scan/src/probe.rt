@@ -1,28 +1,11 @@
 //! The test of a row of L2 or of the closed stage.
 ghost use Rattle.std.specs.Prelude.{◌≡◌, ◌<◌, length, get_or, All};
-ghost use Rattle.ut_stamps.specs.Stamps.{sees as sees_stamp};
 ghost use Rattle.ut_l2.specs.KeyRows.{no_row};
 ghost use Rattle.ut_scan.specs.Finds.{passes, found_at};
 
 use crate::place::{ColumnPred, Found, Place};
 use ut_l2::L2;
-use ut_stamps::{Fates, Stamp, sees};
-
-/// A snapshot, and perhaps a transaction whose changes are one's own.
-#[derive(Clone, Copy)]
-pub struct Viewer<'a> {
-    pub fates: &'a Fates,
-    pub snapshot: u32,
-    pub own: Option<u64>,
-}
-
-impl Viewer<'_> {
-    pub fn sees(&self, stamp: &Stamp) -> bool
-        ensures { result ≡ sees_stamp self.now.fates.now self.now.snapshot self.now.own stamp.now }
-    {
-        sees(self.fates, stamp, self.snapshot, self.own)
-    }
-}
+use ut_stamps::{Snapshot, Stamp};
 
 /// A stage in columns that a merge has not yet reached.
 #[derive(Clone, Copy)]
@@ -48,7 +31,7 @@ impl DeltaStage {
 /// seen.
 #[derive(Drop)]
 pub struct Probe<'a> {
-    pub viewer: &'a Viewer<'a>,
+    pub snapshot: &'a Snapshot<'a>,
     pub stage: DeltaStage,
     pub l2: &'a L2,
     pub stamps: &'a [Stamp],
@@ -64,7 +47,7 @@ impl<'a> Probe<'a> {
 
     /// What is left to meet where comparison k has picked the candidates.
     pub fn around(
-        viewer: &'a Viewer<'a>,
+        snapshot: &'a Snapshot<'a>,
         stage: DeltaStage,
         l2: &'a L2,
         stamps: &'a [Stamp],
@@ -76,12 +59,12 @@ impl<'a> Probe<'a> {
         requires columns { All (λ p. p.column < l2.now.width) preds.now }
         ensures stage { result.stage ≡ stage }
         ensures rows { result.l2.now ≡ l2.now }
-        ensures rest { IsRest viewer.now preds.now k l2.now.rows stamps.now result }
+        ensures rest { IsRest snapshot.now preds.now k l2.now.rows stamps.now result }
     {
         let (before, _) = preds.split_at(k);
         let (_, after) = preds.split_at(k + 1);
         Probe {
-            viewer,
+            snapshot,
             stage,
             l2,
             stamps,
@@ -97,7 +80,7 @@ impl<'a> Probe<'a> {
     {
         passes_at(self.l2, self.before, i)
             && passes_at(self.l2, self.after, i)
-            && self.viewer.sees(&self.stamps[i as usize])
+            && self.snapshot.sees(&self.stamps[i as usize])
     }
 
     /// The row at a place.

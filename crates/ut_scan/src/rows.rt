@@ -9,10 +9,9 @@ ghost use Rattle.ut_scan.specs.Probes.{found_for};
 ghost use Rattle.ut_scan.specs.Seeks.{IsSought};
 
 use crate::place::{ColumnPred, Found, Place};
-use crate::probe::Viewer;
 use crate::sought::{Sought, first_sought, is_other, number_meets};
 use std::alloc::AllocError;
-use ut_stamps::Stamp;
+use ut_stamps::{Snapshot, Stamp};
 use ut_value::{Row, Value, int_of, key_bytes};
 
 /// Whether a value's key meets a comparison. Numbers are compared as they are, without their keys.
@@ -45,7 +44,7 @@ fn row_passes(row: &Row, preds: &[ColumnPred]) -> bool
 
 /// Whether a row meets each comparison and is seen.
 fn is_hit(
-    viewer: &Viewer<'_>,
+    snapshot: &Snapshot<'_>,
     preds: &[ColumnPred],
     sought: Option<Sought>,
     row: &Row,
@@ -53,7 +52,7 @@ fn is_hit(
 ) -> bool
     requires columns { All (λ p. p.column < length row.now.values) preds.now }
     requires sought { IfSome sought (IsSought preds.now) }
-    ensures { result ≡ (passes preds.now (keyed row.now) && sees_stamp viewer.now.fates.now viewer.now.snapshot viewer.now.own stamp.now) }
+    ensures { result ≡ (passes preds.now (keyed row.now) && sees_stamp snapshot.now.fates.now snapshot.now.at snapshot.now.own stamp.now) }
 {
     let values = row.values.as_slice();
     if let Some(sought) = sought
@@ -61,12 +60,12 @@ fn is_hit(
     {
         return false;
     }
-    row_passes(row, preds) && viewer.sees(stamp)
+    row_passes(row, preds) && snapshot.sees(stamp)
 }
 
 /// Appends the seen rows of L1 that meet each comparison.
 pub fn scan_rows(
-    viewer: &Viewer<'_>,
+    snapshot: &Snapshot<'_>,
     preds: &[ColumnPred],
     rows: &[Row],
     stamps: &[Stamp],
@@ -75,12 +74,12 @@ pub fn scan_rows(
     requires count { length rows.now ≤ 2 ^ 31 }
     requires stamped { length stamps.now ≡ length rows.now }
     requires wide { All (λ r. All (λ p. p.column < length r.values) preds.now) rows.now }
-    ensures { OnOk result (out.new.items ≡ out.old.items ++ found_for viewer.now preds.now Place.L1 (map keyed rows.now) stamps.now) }
+    ensures { OnOk result (out.new.items ≡ out.old.items ++ found_for snapshot.now preds.now Place.L1 (map keyed rows.now) stamps.now) }
 {
     let sought = first_sought(preds);
     for i in 0..rows.len() {
         let row = &rows[i];
-        if is_hit(viewer, preds, sought, row, &stamps[i]) {
+        if is_hit(snapshot, preds, sought, row, &stamps[i]) {
             out.push(Found {
                 id: row.id,
                 place: Place::L1(i as u32),
@@ -91,16 +90,21 @@ pub fn scan_rows(
 }
 
 /// How many rows of L1 are seen and meet each comparison.
-pub fn count_rows(viewer: &Viewer<'_>, preds: &[ColumnPred], rows: &[Row], stamps: &[Stamp]) -> u32
+pub fn count_rows(
+    snapshot: &Snapshot<'_>,
+    preds: &[ColumnPred],
+    rows: &[Row],
+    stamps: &[Stamp],
+) -> u32
     requires count { length rows.now ≤ 2 ^ 31 }
     requires stamped { length stamps.now ≡ length rows.now }
     requires wide { All (λ r. All (λ p. p.column < length r.values) preds.now) rows.now }
-    ensures { result ≡ length (found_for viewer.now preds.now Place.L1 (map keyed rows.now) stamps.now) }
+    ensures { result ≡ length (found_for snapshot.now preds.now Place.L1 (map keyed rows.now) stamps.now) }
 {
     let sought = first_sought(preds);
     let mut count = 0;
     for i in 0..rows.len() {
-        if is_hit(viewer, preds, sought, &rows[i], &stamps[i]) {
+        if is_hit(snapshot, preds, sought, &rows[i], &stamps[i]) {
             count += 1;
         }
     }

@@ -31,7 +31,7 @@ pub fn scan<L: Ledger>(
     let mut found = scan_outside(alloc, stages, asked)?;
     scan_parts(
         alloc,
-        &asked.viewer,
+        &asked.snapshot,
         asked.preds,
         stages.main,
         stages.stamps,
@@ -61,7 +61,7 @@ pub fn scan_outside(
         &mut found,
     )?;
     scan_rows(
-        &asked.viewer,
+        &asked.snapshot,
         asked.preds,
         stages.l1.rows(),
         stages.stamps.l1(),
@@ -82,7 +82,7 @@ fn scan_closed(
     ensures { let rows = if_closed (rows_in stages.now).closed in
         let stamps = if_closed stages.now.stamps.now.closed in
         OnOk result (out.new.items ≡ out.old.items
-        ++ found_for asked.now.viewer asked.now.preds.now Place.Closed rows stamps) }
+        ++ found_for asked.now.snapshot asked.now.preds.now Place.Closed rows stamps) }
 {
     let Some(l2) = stages.closed else {
         return Ok(());

@@ -41,7 +41,7 @@ pub fn tally<L: Ledger>(
     let rest = scan_outside(alloc, stages, asked)?;
     let counts = tally_parts(
         alloc,
-        &asked.viewer,
+        &asked.snapshot,
         asked.preds,
         stages.main,
         stages.stamps,

@@ -15,7 +15,7 @@ use std::marker::Model;
 use ut_plain::{Query, Refusal, Reply, Table};
 use ut_query::{Look, ask};
 use ut_shown::shown_table;
-use ut_stamps::Fates;
+use ut_stamps::{Fates, Snapshot};
 use ut_table::Table as Stages;
 use ut_value::Duplicate;
 
@@ -64,7 +64,7 @@ fn taken_table(
 {
     let columns = head.columns.duplicate(alloc)?;
     if is_read(look.tables, query, n) {
-        shown_table(alloc, look.fates, look.snapshot, look.own, columns, table)
+        shown_table(alloc, look.snapshot, columns, table)
     } else {
         Stages::new(alloc, columns)
     }
@@ -98,9 +98,11 @@ impl Shot {
         Look {
             tables: self.tables.as_slice(),
             stages: self.stages.as_slice(),
-            fates: &self.fates,
-            snapshot: 0,
-            own: None,
+            snapshot: Snapshot {
+                fates: &self.fates,
+                at: 0,
+                own: None,
+            },
         }
     }
 

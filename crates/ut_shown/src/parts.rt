@@ -3,7 +3,7 @@ ghost use Rattle.std.specs.Prelude.{◌≡◌, map, IfOk};
 ghost use Rattle.ut_shown.specs.Shown.{eyes, shown_stamp, shown_stamps, row_stamps};
 
 use std::alloc::{AllocError, Global};
-use ut_stamps::{Fates, PartStamps, Stamp, sees};
+use ut_stamps::{PartStamps, Snapshot, Stamp};
 use ut_table::Table;
 
 /// The transaction that is committed before all else.
@@ -23,16 +23,14 @@ pub(crate) fn stamp_of(seen: bool) -> Stamp
 /// Those of one part, one by one.
 fn listed(
     alloc: Global,
-    fates: &Fates,
-    snapshot: u32,
-    own: Option<u64>,
+    snapshot: Snapshot<'_>,
     stamps: &PartStamps,
 ) -> Result<Vec<Stamp>, AllocError>
-    ensures { IfOk result (λ shown. shown.items ≡ shown_stamps (eyes fates.now snapshot own) stamps.now) }
+    ensures { IfOk result (λ shown. shown.items ≡ shown_stamps (eyes snapshot.entry.fates.now snapshot.entry.at snapshot.entry.own) stamps.now) }
 {
     let mut shown = Vec::with_capacity(alloc, stamps.len())?;
     for i in 0..stamps.len() {
-        let seen = sees(fates, &stamps.get(i), snapshot, own);
+        let seen = snapshot.sees(&stamps.get(i));
         shown.push(stamp_of(seen))?;
     }
     Ok(shown)
@@ -41,21 +39,19 @@ fn listed(
 /// Those of one part. Where its stamps agree none is written: one look tells all.
 fn part_stamps(
     alloc: Global,
-    fates: &Fates,
-    snapshot: u32,
-    own: Option<u64>,
+    snapshot: Snapshot<'_>,
     stamps: &PartStamps,
 ) -> Result<PartStamps, AllocError>
-    ensures { IfOk result (λ shown. shown ≡ shown_stamps (eyes fates.now snapshot own) stamps.now) }
+    ensures { IfOk result (λ shown. shown ≡ shown_stamps (eyes snapshot.entry.fates.now snapshot.entry.at snapshot.entry.own) stamps.now) }
 {
     match stamps.joint() {
         Some(stamp) => {
-            let seen = sees(fates, &stamp, snapshot, own);
+            let seen = snapshot.sees(&stamp);
             let alike = PartStamps::alike(alloc, stamps.len(), stamp_of(seen))?;
             Ok(alike)
         }
         None => {
-            let shown = listed(alloc, fates, snapshot, own, stamps)?;
+            let shown = listed(alloc, snapshot, stamps)?;
             Ok(PartStamps::of(shown))
         }
     }
@@ -64,17 +60,15 @@ fn part_stamps(
 /// Those of all parts of a table.
 pub(crate) fn all_stamps(
     alloc: Global,
-    fates: &Fates,
-    snapshot: u32,
-    own: Option<u64>,
+    snapshot: Snapshot<'_>,
     table: &Table,
 ) -> Result<Vec<PartStamps>, AllocError>
-    ensures { IfOk result (λ shown. shown.items ≡ map (row_stamps (eyes fates.now snapshot own)) table.now.stages.parts) }
+    ensures { IfOk result (λ shown. shown.items ≡ map (row_stamps (eyes snapshot.entry.fates.now snapshot.entry.at snapshot.entry.own)) table.now.stages.parts) }
 {
     let stages = table.stages();
     let mut shown = Vec::new(alloc);
     for p in 0..stages.stamps.parts() {
-        let stamps = part_stamps(alloc, fates, snapshot, own, stages.stamps.part(p))?;
+        let stamps = part_stamps(alloc, snapshot, stages.stamps.part(p))?;
         shown.push(stamps)?;
     }
     Ok(shown)

@@ -14,4 +14,4 @@ pub use keeping::keeps;
 pub use part_stamps::PartStamps;
 pub use place::Place;
 pub use stamp_table::StampTable;
-pub use visibility::{Stamp, is_taken, sees};
+pub use visibility::{Snapshot, Stamp, is_taken, sees};

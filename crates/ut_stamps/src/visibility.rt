@@ -11,6 +11,33 @@ pub struct Stamp {
     pub end: Option<u64>,
 }
 
+/// What one who looks sees by.
+#[derive(Clone, Copy)]
+pub struct Snapshot<'a> {
+    /// What became of each transaction.
+    pub fates: &'a Fates,
+    /// How many entries of the journal count.
+    pub at: u32,
+    /// The transaction whose own changes are seen too.
+    pub own: Option<u64>,
+}
+
+impl Snapshot<'_> {
+    /// Whether a row is seen.
+    pub fn sees(&self, stamp: &Stamp) -> bool
+        ensures { result ≡ sees self.now.fates.now self.now.at self.now.own stamp.now }
+    {
+        sees(self.fates, stamp, self.at, self.own)
+    }
+
+    /// Whether a row's end was committed behind the snapshot, or runs for another transaction.
+    pub fn takes(&self, stamp: &Stamp) -> bool
+        ensures { result ≡ is_taken self.now.fates.now self.now.at self.now.own stamp.now }
+    {
+        is_taken(self.fates, stamp, self.at, self.own)
+    }
+}
+
 fn is_committed_by(fate: Fate, length: u32) -> bool
     ensures { result ≡ is_committed_by fate length }
 {

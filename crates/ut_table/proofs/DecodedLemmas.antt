@@ -1,6 +1,6 @@
 -- The values that keys stand for are those whose keys they are.
-use Rattle.std.proofs.Common.{◌≡◌, ℕ, zero, suc, ◌+◌, ◌-◌, ◌<◌, ◌^◌, Bool, true, false, cond, List, [], ◌∷◌, length, map, get_or, All, IsTrue, Some, nat_lt, refl, sym, ◌∙◌, ap, subst, arith, ltb-true, true≢false}
-use Rattle.std.specs.Prelude.{ℤ, pos, negsuc, slice_get}
+use Rattle.std.proofs.Common.{◌≡◌, ◌≢◌, ℕ, zero, suc, ◌+◌, ◌-◌, ◌<◌, ◌^◌, Bool, true, false, cond, List, [], ◌∷◌, length, map, get_or, All, IsTrue, Option, None, Some, unwrap_or, nat_lt, refl, sym, ◌∙◌, ap, subst, arith, ltb-true, true≢false}
+use Rattle.std.specs.Prelude.{ℤ, pos, negsuc, slice_get, IfSome, IfNone}
 use Rattle.std.specs.List.{list_all}
 use Rattle.std.proofs.lemmas.Bool.{ltb-false}
 use Rattle.std.proofs.lemmas.List.{get_or-map}
@@ -13,7 +13,8 @@ use Rattle.ut_value.specs.declared.value.Value.{Value}
 use Rattle.ut_value.specs.declared.value.Value.TheVariants as values
 use Rattle.ut_value.specs.declared.value.Column.{Column}
 use Rattle.ut_value.specs.declared.value.Row.{Row}
-use Rattle.ut_value.specs.KeyBytes.{sign_flipped, is_int, key_of, is_of_kind, is_value, IsKeyOf}
+use Rattle.ut_value.specs.KeyBytes.{sign_flipped, int_key, is_int, key_of, is_of_kind, is_value, IsKeyOf}
+use Rattle.ut_value.specs.Text.{is_text}
 use Rattle.ut_plain.specs.Tables.{fits_columns}
 use Rattle.ut_plain.proofs.BoolLemmas.{and_left, and_right}
 use Rattle.ut_l2.specs.KeyRows.{KeyRow, keyed, key_at, no_row}
@@ -44,6 +45,29 @@ decoded-key_of kinds.Int (values.Int x) k h = ap values.Int (ap sign_restored (f
 decoded-key_of kinds.Int (values.Text t) k h = absurd (true≢false (sym k))
 decoded-key_of kinds.Text (values.Int x) k h = absurd (true≢false (sym k))
 decoded-key_of kinds.Text (values.Text t) k h = refl
+
+-- the key of a number has eight bytes
+number-key : (kind : Kind) (key : List ℕ) → kind ≡ kinds.Int → IsKeyOf kind key (decoded kind key) → length key ≡ 8
+unfolding decoded
+number-key kind key is h =
+    let number : IsKeyOf kinds.Int key (decoded kinds.Int key) = subst (λ k. IsKeyOf k key (decoded k key)) is h in
+    ap (λ (bytes : List ℕ). length bytes) number.2
+
+-- and stands for the number that is read from it
+pub number-decoded : (kind : Kind) (key : List ℕ) (o : Option ℤ) → kind ≡ kinds.Int → IsKeyOf kind key (decoded kind key) → IfSome o (λ x. IsTrue (is_int x) × (key ≡ int_key x)) → IfNone o (length key ≢ 8)
+    → values.Int (unwrap_or o (pos 0)) ≡ decoded kind key
+number-decoded kind key None is h some none = absurd (none (number-key kind key is h))
+number-decoded kind key (Some x) is h some none = sym (ap (λ k. decoded k key) is ∙ ap (decoded kinds.Int) some.1 ∙ decoded-key_of kinds.Int (values.Int x) refl some.0)
+
+-- the key of a text is the text
+pub text-key : (kind : Kind) (key : List ℕ) → kind ≡ kinds.Text → IsKeyOf kind key (decoded kind key) → IsTrue (is_text key)
+unfolding decoded
+text-key kind key is h =
+    let text : IsKeyOf kinds.Text key (decoded kinds.Text key) = subst (λ k. IsKeyOf k key (decoded k key)) is h in text.1
+
+pub text-decoded : (kind : Kind) (key text : List ℕ) → kind ≡ kinds.Text → text ≡ key → values.Text text ≡ decoded kind key
+unfolding decoded
+text-decoded kind key text is e = ap values.Text e ∙ ap (λ k. decoded k key) (sym is)
 
 pub decoded_keys-keys : (cs : List Column) (vs : List Value) → IsTrue (fits_columns cs vs) → IsTrue (list_all is_value vs) → decoded_keys cs (map key_of vs) ≡ vs
 decoded_keys-keys [] [] f h = refl

@@ -96,6 +96,14 @@ module _ {t : Contents} (h : IsTable t) {s : Staged} (view : staged t ≡ s) whe
   pub l2-values : (p : Place) (i : ℕ) (d : Delta) (row : StagedRow) → p ≡ L2 i → d ≡ t.l2 → row_at s p ≡ Some row → decoded_keys s.columns (get_or d.rows i no_row).keys ≡ row.values
   l2-values p i d row same d_is e = ap (λ (x : Delta). decoded_keys s.columns (get_or x.rows i no_row).keys) d_is ∙ held-values p (L2 i) row same e
 
+  -- a merge is pending where a row stands in the closed stage
+  pub closed-pending : (p : Place) (i : ℕ) → p ≡ Closed i → IsSome (row_at s p) → (q : PendingValue) × (t.pending ≡ Some q)
+  closed-pending p i same some = by t.pending refl (within p (Closed i) same some)
+    where
+      by : (o : Option PendingValue) → t.pending ≡ o → i < length (closed_rows t.pending) → (q : PendingValue) × (t.pending ≡ Some q)
+      by None is lt = absurd (omega (arith, lt, ap (λ (o : Option PendingValue). length (closed_rows o)) is))
+      by (Some q) is lt = (q, is)
+
   pub closed-row : (p : Place) (i : ℕ) (q : PendingValue) (d : Delta) → p ≡ Closed i → t.pending ≡ Some q → d ≡ q.closed → IsSome (row_at s p) → HoldsRow s.columns d.width d.rows i
   closed-row p i q d same is d_is some =
       let rows : closed_rows t.pending ≡ d.rows = ap closed_rows is ∙ ap (λ (x : Delta). x.rows) (sym d_is) in

@@ -52,13 +52,14 @@ parts-stamps columns [] (s ∷ ss) same = absurd (omega (arith, ap length same))
 parts-stamps columns (r ∷ rs) [] same = absurd (omega (arith, ap length same))
 parts-stamps columns (r ∷ rs) (s ∷ ss) same = λ i. held-stamps columns r s (ap (λ (l : List ℕ). get_or l 0 0) same) i ∷ parts-stamps columns rs ss (ap (drop 1) same) i
 
-pub closed-of : {A : Type 0} (f : A → Delta) (o : Option A) (x : A) (pending : Option PendingValue) → o ≡ Some x → option_map f o ≡ option_map (λ (p : PendingValue). p.closed) pending
-    → (q : PendingValue) × (pending ≡ Some q) × (f x ≡ q.closed)
-closed-of f o x None is same = absurd (none_some (sym same ∙ ap (option_map f) is))
+-- the closed stage of a pending merge, whatever stands for it else
+pub closed-of : {A : Type 0} (f : A → Delta) (o : Option A) (x : A) (pending : Option PendingValue) (q : PendingValue) → option_map f o ≡ option_map (λ (p : PendingValue). p.closed) pending → pending ≡ Some q
+    → f (unwrap_or o x) ≡ q.closed
+closed-of f None x pending q same is = absurd (none_some (same ∙ ap (option_map (λ (p : PendingValue). p.closed)) is))
   where
-    none_some : None ≡ Some (f x) → ⊥
+    none_some : None ≡ Some q.closed → ⊥
     none_some e = cc
-closed-of f o x (Some q) is same = (q, refl, same_Some (f x) q.closed (sym (ap (option_map f) is) ∙ same))
+closed-of f (Some y) x pending q same is = same_Some (f y) q.closed (same ∙ ap (option_map (λ (p : PendingValue). p.closed)) is)
 
 module _ {s : Staged} {stages : Stages} (a : AreLent s stages) where
   abbrev t : Contents

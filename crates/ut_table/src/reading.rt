@@ -86,10 +86,7 @@ impl Table {
         match place {
             Place::L1(i) => stages.l1.row(i).id,
             Place::L2(i) => stages.l2.row_id(i),
-            Place::Closed(i) => match stages.closed {
-                Some(closed) => closed.row_id(i),
-                None => unreachable!(),
-            },
+            Place::Closed(i) => stages.closed.unwrap_or(&self.idle).row_id(i),
             Place::Main(p, i) => stages.main.part(p).row_id(i),
         }
     }
@@ -103,10 +100,9 @@ impl Table {
         match place {
             Place::L1(i) => Standing::Row(self.l1.row(i)),
             Place::L2(i) => Standing::Delta(&self.l2, i),
-            Place::Closed(i) => match &self.pending {
-                Some(pending) => Standing::Delta(pending.closed(), i),
-                None => unreachable!(),
-            },
+            Place::Closed(i) => {
+                Standing::Delta(closed_stage(&self.pending).unwrap_or(&self.idle), i)
+            }
             Place::Main(p, i) => Standing::Part(self.main.part(p), i),
         }
     }

@@ -11,26 +11,24 @@ use std::alloc::{AllocError, Global};
 use std::marker::Brand;
 use std::sync::ledger::Blank;
 use ut_scan::{Asked, CodeTally, ColumnPred, Found};
-use ut_stamps::Fates;
+use ut_stamps::Snapshot;
 
 impl Table {
     /// The seen rows that meet each comparison, by ascending id.
     pub fn scan(
         &self,
         alloc: Global,
-        fates: &Fates,
-        snapshot: u32,
-        own: Option<u64>,
+        snapshot: Snapshot<'_>,
         preds: &[ColumnPred],
     ) -> Result<Vec<Found>, AllocError>
         requires columns { All (λ p. p.column < length self.now.stages.columns) preds.now }
-        requires once { SeenOnce self.now.stages fates.now snapshot own }
+        requires once { SeenOnce self.now.stages snapshot.fates.now snapshot.at snapshot.own }
         ensures { let s = self.now.stages in
             IfOk result (λ found. (asked : List Pred) → Compiles s.columns asked preds.now
-            → Finds s fates.now snapshot own asked found.items) }
+            → Finds s snapshot.entry.fates.now snapshot.entry.at snapshot.entry.own asked found.items) }
     {
         let stages = self.stages();
-        let asked = Asked::of(fates, snapshot, own, preds);
+        let asked = Asked::of(snapshot, preds);
         counted_scan::<Brand>(alloc, &stages, &asked, Blank::new(1))
     }
 
@@ -38,19 +36,17 @@ impl Table {
     pub fn count(
         &self,
         alloc: Global,
-        fates: &Fates,
-        snapshot: u32,
-        own: Option<u64>,
+        snapshot: Snapshot<'_>,
         preds: &[ColumnPred],
     ) -> Result<u64, AllocError>
         requires columns { All (λ p. p.column < length self.now.stages.columns) preds.now }
-        requires once { SeenOnce self.now.stages fates.now snapshot own }
+        requires once { SeenOnce self.now.stages snapshot.fates.now snapshot.at snapshot.own }
         ensures { let s = self.now.stages in
             IfOk result (λ count. (asked : List Pred) → Compiles s.columns asked preds.now
-            → Counts s fates.now snapshot own asked count) }
+            → Counts s snapshot.entry.fates.now snapshot.entry.at snapshot.entry.own asked count) }
     {
         let stages = self.stages();
-        let asked = Asked::of(fates, snapshot, own, preds);
+        let asked = Asked::of(snapshot, preds);
         counted_rows::<Brand>(alloc, &stages, &asked, Blank::new(1))
     }
 
@@ -58,22 +54,20 @@ impl Table {
     pub fn tally(
         &self,
         alloc: Global,
-        fates: &Fates,
-        snapshot: u32,
-        own: Option<u64>,
+        snapshot: Snapshot<'_>,
         preds: &[ColumnPred],
         column: usize,
     ) -> Result<CodeTally, AllocError>
         requires columns { All (λ p. p.column < length self.now.stages.columns) preds.now }
-        requires once { SeenOnce self.now.stages fates.now snapshot own }
+        requires once { SeenOnce self.now.stages snapshot.fates.now snapshot.at snapshot.own }
         requires column { column < length self.now.stages.columns }
         ensures tally { let s = self.now.stages in
             IfOk result (λ t. (asked : List Pred) → Compiles s.columns asked preds.now
-            → Tallied s fates.now snapshot own asked column t.counts.items t.rest.items) }
+            → Tallied s snapshot.entry.fates.now snapshot.entry.at snapshot.entry.own asked column t.counts.items t.rest.items) }
         ensures few { IfOk result (λ t. length t.counts.items < 2 ^ 31) }
     {
         let stages = self.stages();
-        let asked = Asked::of(fates, snapshot, own, preds);
+        let asked = Asked::of(snapshot, preds);
         counted_tally::<Brand>(alloc, &stages, &asked, column as u8, Blank::new(1))
     }
 }

@@ -13,7 +13,7 @@ use std::sync::ledger::{Blank, Ledger};
 use ut_key::{Key, Steps};
 use ut_l2::L2;
 use ut_main::Part;
-use ut_value::{Column, Duplicate, Kind, Row, Seq, Value, int_key, value_of};
+use ut_value::{Column, Duplicate, Kind, Row, Seq, Text, Value, int_key, int_of};
 
 /// A row of the first stage, or the place of one that is held by its keys.
 #[derive(Clone, Copy)]
@@ -28,9 +28,9 @@ fn decoded(alloc: Global, kind: Kind, key: &[u8]) -> Result<Value, AllocError>
     requires { IsKeyOf kind key.now (decoded kind key.now) }
     ensures { IfOk result (λ value. value ≡ decoded kind key.now) }
 {
-    match value_of(alloc, kind, key)? {
-        Some(value) => Ok(value),
-        None => unreachable!(),
+    match kind {
+        Kind::Int => Ok(Value::Int(int_of(key).unwrap_or(0))),
+        Kind::Text => Ok(Value::Text(Text::from_slice(alloc, key)?)),
     }
 }
 

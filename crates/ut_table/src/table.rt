@@ -20,7 +20,6 @@ use ut_value::{Column, Row, Seq, Value, values_keep_rules};
 
 /// The stages of a table of at most 64 columns. The first, the second and a closed one hold at
 /// most 2^31 rows together.
-#[derive(Drop)]
 pub struct Table {
     pub(crate) alloc: Global,
     pub(crate) columns: Seq<Column>,
@@ -29,7 +28,25 @@ pub struct Table {
     pub(crate) l2: Arc<L2>,
     pub(crate) main: Main,
     pub(crate) pending: Option<Pending>,
+    /// A stage without rows. It stands for the closed one where no merge is pending.
+    pub(crate) idle: L2,
     pub(crate) stamps: StampTable,
+}
+
+// One step of a proof, wherever one is dropped.
+impl Drop for Table {
+    fn drop(self) {
+        let Table {
+            alloc: _,
+            columns: _,
+            l1: _,
+            l2: _,
+            main: _,
+            pending: _,
+            idle: _,
+            stamps: _,
+        } = self;
+    }
 }
 
 impl Model for Table {
@@ -78,6 +95,7 @@ impl Table {
             l2,
             main: Main::new(alloc, count),
             pending: None,
+            idle: L2::new(alloc, 0)?,
             stamps,
         })
     }

@@ -17,20 +17,23 @@ use ut_change::first_taken_in;
 use ut_look::Look;
 use ut_plain::place_of;
 use ut_scan::{ColumnPred, Found};
+use ut_stamps::Snapshot;
 use ut_table::Table as Stages;
 use ut_value::{Row, Seq};
 
 impl Rows {
     /// All that a question looks at.
-    pub fn look(&self, snapshot: u32, own: Option<u64>) -> Look<'_>
-        ensures { sight result ≡ sight_of self.now.rows snapshot own }
+    pub fn look(&self, at: u32, own: Option<u64>) -> Look<'_>
+        ensures { sight result ≡ sight_of self.now.rows at own }
     {
         Look {
             tables: self.tables.as_slice(),
             stages: self.stages.as_slice(),
-            fates: &self.fates,
-            snapshot,
-            own,
+            snapshot: Snapshot {
+                fates: &self.fates,
+                at,
+                own,
+            },
         }
     }
 
@@ -39,30 +42,40 @@ impl Rows {
         &self,
         alloc: Global,
         place: usize,
-        snapshot: u32,
+        at: u32,
         own: Option<u64>,
         preds: &[ColumnPred],
     ) -> Result<Vec<Found>, AllocError>
-        requires { HasTable self.now.rows place (CanScan self.now.rows.fates snapshot own preds.now) }
+        requires { HasTable self.now.rows place (CanScan self.now.rows.fates at own preds.now) }
         ensures { IfOk result (λ found. (s : Staged) (asked : List Pred)
             → slice_get self.now.rows.staged place ≡ Some s → Compiles s.columns asked preds.now
-            → Hits self.now.rows snapshot own place (meets s.columns asked) (hits_of found.items)) }
+            → Hits self.now.rows at own place (meets s.columns asked) (hits_of found.items)) }
     {
-        self.stages[place].scan(alloc, &self.fates, snapshot, own, preds)
+        let snapshot = Snapshot {
+            fates: &self.fates,
+            at,
+            own,
+        };
+        self.stages[place].scan(alloc, snapshot, preds)
     }
 
     /// The id of the first of the rows found that another transaction ended behind this look, or is about to.
     pub fn first_taken(
         &self,
         place: usize,
-        snapshot: u32,
+        at: u32,
         own: Option<u64>,
         hits: &[Found],
     ) -> Option<u32>
         requires { HasTable self.now.rows place (λ s. AreThere s (hits_of hits.now)) }
-        ensures { result ≡ first_taken_of self.now.rows snapshot own place (hits_of hits.now) }
+        ensures { result ≡ first_taken_of self.now.rows at own place (hits_of hits.now) }
     {
-        first_taken_in(&self.stages[place], &self.fates, snapshot, own, hits)
+        let snapshot = Snapshot {
+            fates: &self.fates,
+            at,
+            own,
+        };
+        first_taken_in(&self.stages[place], snapshot, hits)
     }
 
     /// The rows of the table of a name that are seen, by ascending id. There are none where there is no such table.
@@ -70,16 +83,16 @@ impl Rows {
         &self,
         alloc: Global,
         name: &[u8],
-        snapshot: u32,
+        at: u32,
         own: Option<u64>,
     ) -> Result<Option<Seq<Row>>, AllocError>
-        requires { CanList self.now.rows snapshot own name.now }
-        ensures { IfOk result (ListsSeen self.now.rows snapshot own name.now) }
+        requires { CanList self.now.rows at own name.now }
+        ensures { IfOk result (ListsSeen self.now.rows at own name.now) }
     {
         match place_of(&self.tables, name) {
             None => Ok(None),
             Some(place) => {
-                let found = self.hits(alloc, place, snapshot, own, &[])?;
+                let found = self.hits(alloc, place, at, own, &[])?;
                 let rows = rows_found(alloc, &self.stages[place], &found)?;
                 Ok(Some(rows))
             }

@@ -12,7 +12,7 @@ loop-hit-preserved c =
     let next : suc at.hit-index ≡ at.hit-index + 1 = omega arith in
     record {
       there = subst (λ i. AreThere s (hits_of (drop i c.args.hits.now))) next (there_behind s c.args.hits.now at.hit-index c.loop-hit-test.true at.invariant.there);
-      rest = ap (λ i. first_taken_in s c.args.fates.now c.args.snapshot c.args.own (hits_of (drop i c.args.hits.now))) (sym next)
-          ∙ taken_behind s c.args.fates.now c.args.snapshot c.args.own c.args.hits.now at.hit-index _ c.stamp-stamp.result c.loop-hit-test.true at.invariant.there c.stamp-stamp.ensures (sym c.is_taken.ensures ∙ c.if-is_taken.false)
+      rest = ap (λ i. first_taken_in s c.args.snapshot.fates.now c.args.snapshot.at c.args.snapshot.own (hits_of (drop i c.args.hits.now))) (sym next)
+          ∙ taken_behind s c.args.snapshot.fates.now c.args.snapshot.at c.args.snapshot.own c.args.hits.now at.hit-index _ c.stamp-stamp.result c.loop-hit-test.true at.invariant.there c.stamp-stamp.ensures (sym c.takes.ensures ∙ c.if-takes.false)
           ∙ at.invariant.rest;
     }

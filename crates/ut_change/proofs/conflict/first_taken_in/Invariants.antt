@@ -7,5 +7,5 @@ use Rattle.ut_change.proofs.conflict.first_taken_in.Given as goal
 abbrev pub invariant-loop-hit : goal.invariant-loop-hit
 invariant-loop-hit l = record {
   there : AreThere l.table.stages (hits_of (drop l.hit-index l.hits));
-  rest : first_taken_in l.table.stages l.fates l.snapshot l.own (hits_of (drop l.hit-index l.hits)) ≡ first_taken_in l.table.stages l.fates l.snapshot l.own (hits_of l.hits);
+  rest : first_taken_in l.table.stages l.snapshot.fates.now l.snapshot.at l.snapshot.own (hits_of (drop l.hit-index l.hits)) ≡ first_taken_in l.table.stages l.snapshot.fates.now l.snapshot.at l.snapshot.own (hits_of l.hits);
 }

@@ -13,7 +13,7 @@ returns-in-Eq c =
     let pred = c.index-preds-k.result in
     let rest = finds c.around-probe.result in
     let inside = c.around-probe.result.l2.now.rows in
-    let hit = is_hit c.args.asked.now.viewer.fates.now c.args.asked.now.viewer.snapshot c.args.asked.now.viewer.own c.args.asked.now.preds.now rows c.args.stamps.now in
+    let hit = is_hit c.args.asked.now.snapshot.fates.now c.args.asked.now.snapshot.at c.args.asked.now.snapshot.own c.args.asked.now.preds.now rows c.args.stamps.now in
     subst (λ l. OnOk c.scan_equal.result (c.scan_equal.new.out.items ≡ c.args.out.now.items ++ l))
     (ap (λ (s : DeltaStage). map (found_at (place_in s) inside) (filter (λ i. meets_at pred inside i && rest i) (range_with_len 0 (length inside)))) c.around-probe.ensures.stage
     ∙ ap (λ (d : Delta). map (found_at (place_in c.args.stage) d.rows) (filter (λ i. meets_at pred d.rows i && rest i) (range_with_len 0 (length d.rows)))) c.around-probe.ensures.rows
@@ -27,7 +27,7 @@ returns-in_ok-marks-in_default-op c =
     let pred = c.index-preds-k.result in
     let rest = finds c.around-probe.result in
     let inside = c.around-probe.result.l2.now.rows in
-    let hit = is_hit c.args.asked.now.viewer.fates.now c.args.asked.now.viewer.snapshot c.args.asked.now.viewer.own c.args.asked.now.preds.now rows c.args.stamps.now in
+    let hit = is_hit c.args.asked.now.snapshot.fates.now c.args.asked.now.snapshot.at c.args.asked.now.snapshot.own c.args.asked.now.preds.now rows c.args.stamps.now in
     subst (λ l. OnOk c.scan_marked.result (c.scan_marked.new.out.items ≡ c.args.out.now.items ++ l))
     (ap (λ (s : DeltaStage). map (found_at (place_in s) inside) (filter (λ i. meets_at pred inside i && rest i) (range_with_len 0 (length inside)))) c.around-probe.ensures.stage
     ∙ ap (λ (d : Delta). map (found_at (place_in c.args.stage) d.rows) (filter (λ i. meets_at pred d.rows i && rest i) (range_with_len 0 (length d.rows)))) c.around-probe.ensures.rows

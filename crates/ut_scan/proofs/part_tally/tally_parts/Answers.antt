@@ -22,7 +22,7 @@ loop-number-init g c = record {
 read : (g : _) (c : goal.After-as_mut_slice g) → IsPartOf c.args.main.now c.loop-number.number c.of-probe.result.part.now
 read g c =
     let there : c.loop-number.number < length c.args.main.now.parts = omega (arith, c.loop-number-test.true, c.parts-number-end.ensures.count) in
-    probe-part c.args.viewer.now c.as_slice.result.now c.args.main.now c.args.stamps.now.parts c.loop-number.number c.of-probe.result c.of-probe.ensures there
+    probe-part c.args.snapshot.now c.as_slice.result.now c.args.main.now c.args.stamps.now.parts c.loop-number.number c.of-probe.result c.of-probe.ensures there
 
 pub tally-requires-clause-column : goal.tally-requires-clause-column
 tally-requires-clause-column g c = omega (arith, c.requires.column, part-width c.args.main.now c.loop-number.number c.of-probe.result.part.now (read g c))
@@ -39,25 +39,25 @@ loop-number-preserved g c =
     let part = c.of-probe.result.part.now in
     let there : c.loop-number.number < length c.args.main.now.parts = omega (arith, c.loop-number-test.true, c.parts-number-end.ensures.count) in
     let probe = c.of-probe.ensures in
-    let at = probe-part c.args.viewer.now c.as_slice.result.now main c.args.stamps.now.parts p c.of-probe.result probe there in
-    let viewer = c.args.viewer.now in
+    let at = probe-part c.args.snapshot.now c.as_slice.result.now main c.args.stamps.now.parts p c.of-probe.result probe there in
+    let snapshot = c.args.snapshot.now in
     let column = c.args.column in
     let preds = c.args.preds.now in
     let stamps = get_or c.args.stamps.now.parts p [] in
     let coded = c.in_ok-coded.coded.items in
     let items = c.loop-number.counts.items in
     let new = c.tally.new.counts in
-    let found = found_in_part viewer.fates.now viewer.snapshot viewer.own preds main.parts c.args.stamps.now.parts in
-    let one : AreMore (seen_codes viewer part column stamps (held_places coded part)) items new =
-    subst (λ (l : List ℕ). AreMore (seen_codes viewer part column stamps (held_places coded part)) l new) c.as_mut_slice.ensures.value
-    (subst (λ (l : List ℕ). AreMore l c.as_mut_slice.result.now new) (λ i. seen_codes (probe.viewer i) part column (probe.stamps i) (held_places ((probe.coded ∙ c.as_slice.ensures.value) i) part)) c.in_ok-tally.ensures) in
+    let found = found_in_part snapshot.fates.now snapshot.at snapshot.own preds main.parts c.args.stamps.now.parts in
+    let one : AreMore (seen_codes snapshot part column stamps (held_places coded part)) items new =
+    subst (λ (l : List ℕ). AreMore (seen_codes snapshot part column stamps (held_places coded part)) l new) c.as_mut_slice.ensures.value
+    (subst (λ (l : List ℕ). AreMore l c.as_mut_slice.result.now new) (λ i. seen_codes (probe.snapshot i) part column (probe.stamps i) (held_places ((probe.coded ∙ c.as_slice.ensures.value) i) part)) c.in_ok-tally.ensures) in
     let size : length items ≡ c.loop-number.counts.len = omega (arith, c.loop-number.counts.ok.0) in
     let whole : new ≡ take c.loop-number.counts.len (new ++ drop (length new) items) = sym (take_at new (drop (length new) items) c.loop-number.counts.len (one.size ∙ size)) in
     let more : flat_map found (range_with_len 0 p) ++ found p ≡ flat_map found (range_with_len 0 (p + 1)) = parts-more found [] (flat_map found (range_with_len 0 p)) (flat_map found (range_with_len 0 p) ++ found p) p refl refl in
     record {
       told = subst (Tallies main column (flat_map found (range_with_len 0 (p + 1)))) whole (subst (λ (l : List Found). Tallies main column l new) more
-          (tallies-more main column p part at c.requires.column viewer coded stamps (flat_map found (range_with_len 0 p)) (found p) items new c.loop-number.invariant.told one
-          (part-found main preds coded p part viewer.fates.now viewer.snapshot viewer.own stamps c.in_ok-coded.ensures.coded c.requires.columns at)));
+          (tallies-more main column p part at c.requires.column snapshot coded stamps (flat_map found (range_with_len 0 p)) (found p) items new c.loop-number.invariant.told one
+          (part-found main preds coded p part snapshot.fates.now snapshot.at snapshot.own stamps c.in_ok-coded.ensures.coded c.requires.columns at)));
       size = ap (λ (l : List ℕ). length l) (sym whole) ∙ one.size ∙ c.loop-number.invariant.size;
-      few = λ code. subst (λ (l : List ℕ). get_or l code 0 ≤ sum_by (λ (rows : List KeyRow). length rows) (take (p + 1) main.parts)) whole (few-more main column p part at c.requires.column viewer coded stamps items new one c.loop-number.invariant.few code);
+      few = λ code. subst (λ (l : List ℕ). get_or l code 0 ≤ sum_by (λ (rows : List KeyRow). length rows) (take (p + 1) main.parts)) whole (few-more main column p part at c.requires.column snapshot coded stamps items new one c.loop-number.invariant.few code);
     }

@@ -5,4 +5,4 @@ use Rattle.ut_scan.proofs.parts.scan_parts.Given as goal
 
 abbrev pub invariant-loop-number : goal.invariant-loop-number
 invariant-loop-number g l =
-    l.out.items ≡ l.fn.out.items ++ flat_map (found_in_part l.viewer.fates.now l.viewer.snapshot l.viewer.own l.preds l.main.parts l.stamps.parts) (range_with_len 0 l.number)
+    l.out.items ≡ l.fn.out.items ++ flat_map (found_in_part l.snapshot.fates.now l.snapshot.at l.snapshot.own l.preds l.main.parts l.stamps.parts) (range_with_len 0 l.number)

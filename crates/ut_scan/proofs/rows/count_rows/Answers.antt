@@ -14,9 +14,9 @@ loop-i-preserved c =
     let i = c.loop-i.i in
     let lt : c.loop-i.i < length c.args.rows.now = c.loop-i-test.true in
     let row : get_or rows i no_row ≡ keyed c.index-rows-i.result = get_or-map keyed c.args.rows.now i c.index-rows-i.result no_row lt ∙ ap keyed (sym c.index-rows-i.is) in
-    let tells : is_hit c.args.viewer.now.fates.now c.args.viewer.now.snapshot c.args.viewer.now.own c.args.preds.now rows c.args.stamps.now i ≡ c.is_hit.result =
-    ap (λ r. passes c.args.preds.now r && sees c.args.viewer.now.fates.now c.args.viewer.now.snapshot c.args.viewer.now.own (get_or c.args.stamps.now i no_stamp)) row ∙ sym c.is_hit.ensures in
-    let test = is_hit c.args.viewer.now.fates.now c.args.viewer.now.snapshot c.args.viewer.now.own c.args.preds.now rows c.args.stamps.now in
+    let tells : is_hit c.args.snapshot.now.fates.now c.args.snapshot.now.at c.args.snapshot.now.own c.args.preds.now rows c.args.stamps.now i ≡ c.is_hit.result =
+    ap (λ r. passes c.args.preds.now r && sees c.args.snapshot.now.fates.now c.args.snapshot.now.at c.args.snapshot.now.own (get_or c.args.stamps.now i no_stamp)) row ∙ sym c.is_hit.ensures in
+    let test = is_hit c.args.snapshot.now.fates.now c.args.snapshot.now.at c.args.snapshot.now.own c.args.preds.now rows c.args.stamps.now in
     let counted = c.loop-i.invariant.counted in
     let within = c.loop-i.invariant.within in
     elim c.if-is_hit.branch [

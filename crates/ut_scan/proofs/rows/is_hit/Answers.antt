@@ -25,5 +25,5 @@ returns c =
     let fits : FitsSigned w64 c.in-Some.sought.number = search rules in
     let other : meets Eq (int_key c.in-Some.sought.number) (key_of c.index-values-from.result) ≡ false =
     subst (λ x. meets Eq (int_key x) (key_of v) ≡ false) (to_z-of_z w64 s.number fits) (c.is_other.ensures c.if-is_other.true) in
-    ap (λ b. b && sees c.args.viewer.now.fates.now c.args.viewer.now.snapshot c.args.viewer.now.own c.args.stamp.now)
+    ap (λ b. b && sees c.args.snapshot.now.fates.now c.args.snapshot.now.at c.args.snapshot.now.own c.args.stamp.now)
     (sym (other-out c.args.preds.now row s v sought (sought.column (length row.values) c.requires.columns) at other))

@@ -5,11 +5,11 @@ use Rattle.ut_shown.proofs.FilledLemmas.{narrow, few-in, main-holds, main-made, 
 use Rattle.ut_shown.proofs.table.shown_table.Goals as goal
 
 pub new-requires : goal.new-requires
-new-requires c = let few = narrow c.stages-lent.ensures (eyes c.args.fates.now c.args.snapshot c.args.own) in omega (arith, few, ap length c.requires)
+new-requires c = let few = narrow c.stages-lent.ensures (eyes c.args.snapshot.fates.now c.args.snapshot.at c.args.snapshot.own) in omega (arith, few, ap length c.requires)
 
 pub load_parts-requires-clause-holds : goal.load_parts-requires-clause-holds
 load_parts-requires-clause-holds c =
-    let l = eyes c.args.fates.now c.args.snapshot c.args.own in (
+    let l = eyes c.args.snapshot.fates.now c.args.snapshot.at c.args.snapshot.own in (
       map (shown_part l) c.args.table.now.stages.parts,
       main-holds c.stages-lent.ensures l c.in_ok-shown.shown.stages.columns c.parts.result c.in_ok-main.main c.in_ok-stamps.stamps.items
           (ap (λ (x : Staged). x.columns) c.in_ok-shown.ensures ∙ c.requires) c.parts.ensures.count c.parts.ensures.few c.in_ok-main.ensures c.in_ok-stamps.ensures,
@@ -17,7 +17,7 @@ load_parts-requires-clause-holds c =
 
 pub push_seen-requires-clause-columns : goal.push_seen-requires-clause-columns
 push_seen-requires-clause-columns c =
-    let l = eyes c.args.fates.now c.args.snapshot c.args.own in
+    let l = eyes c.args.snapshot.fates.now c.args.snapshot.at c.args.snapshot.own in
     let s = c.args.table.now.stages in
     let holds = main-holds c.stages-lent.ensures l c.in_ok-shown.shown.stages.columns c.parts.result c.in_ok-main.main c.in_ok-stamps.stamps.items
     (ap (λ (x : Staged). x.columns) c.in_ok-shown.ensures ∙ c.requires) c.parts.ensures.count c.parts.ensures.few c.in_ok-main.ensures c.in_ok-stamps.ensures in
@@ -27,7 +27,7 @@ push_seen-requires-clause-columns c =
 
 pub push_seen-requires-clause-few : goal.push_seen-requires-clause-few
 push_seen-requires-clause-few c =
-    let l = eyes c.args.fates.now c.args.snapshot c.args.own in
+    let l = eyes c.args.snapshot.fates.now c.args.snapshot.at c.args.snapshot.own in
     let s = c.args.table.now.stages in
     let holds = main-holds c.stages-lent.ensures l c.in_ok-shown.shown.stages.columns c.parts.result c.in_ok-main.main c.in_ok-stamps.stamps.items
     (ap (λ (x : Staged). x.columns) c.in_ok-shown.ensures ∙ c.requires) c.parts.ensures.count c.parts.ensures.few c.in_ok-main.ensures c.in_ok-stamps.ensures in
@@ -37,7 +37,7 @@ push_seen-requires-clause-few c =
 
 pub push_seen-requires-2-clause-columns : goal.push_seen-requires-2-clause-columns
 push_seen-requires-2-clause-columns c =
-    let l = eyes c.args.fates.now c.args.snapshot c.args.own in
+    let l = eyes c.args.snapshot.fates.now c.args.snapshot.at c.args.snapshot.own in
     let s = c.args.table.now.stages in
     let holds = main-holds c.stages-lent.ensures l c.in_ok-shown.shown.stages.columns c.parts.result c.in_ok-main.main c.in_ok-stamps.stamps.items
     (ap (λ (x : Staged). x.columns) c.in_ok-shown.ensures ∙ c.requires) c.parts.ensures.count c.parts.ensures.few c.in_ok-main.ensures c.in_ok-stamps.ensures in
@@ -47,7 +47,7 @@ push_seen-requires-2-clause-columns c =
 
 pub push_seen-requires-2-clause-few : goal.push_seen-requires-2-clause-few
 push_seen-requires-2-clause-few c =
-    let l = eyes c.args.fates.now c.args.snapshot c.args.own in
+    let l = eyes c.args.snapshot.fates.now c.args.snapshot.at c.args.snapshot.own in
     let s = c.args.table.now.stages in
     let holds = main-holds c.stages-lent.ensures l c.in_ok-shown.shown.stages.columns c.parts.result c.in_ok-main.main c.in_ok-stamps.stamps.items
     (ap (λ (x : Staged). x.columns) c.in_ok-shown.ensures ∙ c.requires) c.parts.ensures.count c.parts.ensures.few c.in_ok-main.ensures c.in_ok-stamps.ensures in
@@ -57,7 +57,7 @@ push_seen-requires-2-clause-few c =
 
 pub push_seen-requires-3-clause-columns : goal.push_seen-requires-3-clause-columns
 push_seen-requires-3-clause-columns c =
-    let l = eyes c.args.fates.now c.args.snapshot c.args.own in
+    let l = eyes c.args.snapshot.fates.now c.args.snapshot.at c.args.snapshot.own in
     let s = c.args.table.now.stages in
     let holds = main-holds c.stages-lent.ensures l c.in_ok-shown.shown.stages.columns c.parts.result c.in_ok-main.main c.in_ok-stamps.stamps.items
     (ap (λ (x : Staged). x.columns) c.in_ok-shown.ensures ∙ c.requires) c.parts.ensures.count c.parts.ensures.few c.in_ok-main.ensures c.in_ok-stamps.ensures in
@@ -67,7 +67,7 @@ push_seen-requires-3-clause-columns c =
 
 pub push_seen-requires-3-clause-few : goal.push_seen-requires-3-clause-few
 push_seen-requires-3-clause-few c =
-    let l = eyes c.args.fates.now c.args.snapshot c.args.own in
+    let l = eyes c.args.snapshot.fates.now c.args.snapshot.at c.args.snapshot.own in
     let s = c.args.table.now.stages in
     let holds = main-holds c.stages-lent.ensures l c.in_ok-shown.shown.stages.columns c.parts.result c.in_ok-main.main c.in_ok-stamps.stamps.items
     (ap (λ (x : Staged). x.columns) c.in_ok-shown.ensures ∙ c.requires) c.parts.ensures.count c.parts.ensures.few c.in_ok-main.ensures c.in_ok-stamps.ensures in
@@ -77,7 +77,7 @@ push_seen-requires-3-clause-few c =
 
 pub returns : goal.returns
 returns c =
-    let l = eyes c.args.fates.now c.args.snapshot c.args.own in
+    let l = eyes c.args.snapshot.fates.now c.args.snapshot.at c.args.snapshot.own in
     let s = c.args.table.now.stages in
     let holds = main-holds c.stages-lent.ensures l c.in_ok-shown.shown.stages.columns c.parts.result c.in_ok-main.main c.in_ok-stamps.stamps.items
     (ap (λ (x : Staged). x.columns) c.in_ok-shown.ensures ∙ c.requires) c.parts.ensures.count c.parts.ensures.few c.in_ok-main.ensures c.in_ok-stamps.ensures in

@@ -13,8 +13,8 @@ pub loop-from-preserved : goal.loop-from-preserved
 loop-from-preserved c =
     let p = c.args.self.now in
     let found = found_at (Main p.number) p.part.now.rows in
-    let seen = is_seen p.viewer.now p.stamps.now in
-    let test = stands_seen p.viewer.now p.stamps.now c.args.mask.now in
+    let seen = is_seen p.snapshot.now p.stamps.now in
+    let test = stands_seen p.snapshot.now p.stamps.now c.args.mask.now in
     let base = c.args.out.now.items in
     let out = c.loop-from.out.items in
     let i = c.in-Some.i in
@@ -33,11 +33,11 @@ returns-in_default c =
     let p = c.args.self.now in
     let mask = c.args.mask.now in
     let base = c.args.out.now.items in
-    let seen = is_seen p.viewer.now p.stamps.now in
+    let seen = is_seen p.snapshot.now p.stamps.now in
     let none = c.in_default.ensures.none in
-    passed-over (found_at (Main p.number) p.part.now.rows) (stands_seen p.viewer.now p.stamps.now mask) c.loop-from.from (length mask) c.loop-from.out.items base c.loop-from.invariant.found c.loop-from.invariant.within
+    passed-over (found_at (Main p.number) p.part.now.rows) (stands_seen p.snapshot.now p.stamps.now mask) c.loop-from.from (length mask) c.loop-from.out.items base c.loop-from.invariant.found c.loop-from.invariant.within
     (λ j lo hi. ap (λ b. b && seen j) (none j lo hi))
-    ∙ ap (λ (l : List Found). base ++ l) (sym (standing-seen p.viewer.now p.number p.part.now.rows p.stamps.now mask c.requires))
+    ∙ ap (λ (l : List Found). base ++ l) (sym (standing-seen p.snapshot.now p.number p.part.now.rows p.stamps.now mask c.requires))
 
 pub returns : goal.returns
 returns c =
@@ -45,8 +45,8 @@ returns c =
     let mask = c.args.mask.now in
     let base = c.args.out.now.items in
     let found = found_at (Main p.number) p.part.now.rows in
-    let test = stands_seen p.viewer.now p.stamps.now mask in
+    let test = stands_seen p.snapshot.now p.stamps.now mask in
     let end : c.loop-from.from ≡ length mask = omega (arith, c.loop-from.invariant.within, c.loop-from-test.false, c.len.ensures.len) in
     c.loop-from.invariant.found
     ∙ ap (λ (n : ℕ). base ++ map found (filter test (range_with_len 0 n))) end
-    ∙ ap (λ (l : List Found). base ++ l) (sym (standing-seen p.viewer.now p.number p.part.now.rows p.stamps.now mask c.requires))
+    ∙ ap (λ (l : List Found). base ++ l) (sym (standing-seen p.snapshot.now p.number p.part.now.rows p.stamps.now mask c.requires))

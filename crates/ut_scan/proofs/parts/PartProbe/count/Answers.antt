@@ -9,18 +9,18 @@ use Rattle.ut_scan.proofs.parts.PartProbe.count.Goals as goal
 pub returns-then-is_hidden : goal.returns-then-is_hidden
 returns-then-is_hidden c =
     let p = c.args.self.now in
-    sym (ap length (none-seen p.viewer.now p.number p.part.now p.coded.now p.stamps.now p.stamped (c.if-is_hidden.ensures refl)))
+    sym (ap length (none-seen p.snapshot.now p.number p.part.now p.coded.now p.stamps.now p.stamped (c.if-is_hidden.ensures refl)))
 
 pub returns-then-is_empty : goal.returns-then-is_empty
 returns-then-is_empty c =
     let p = c.args.self.now in
     let none = nil_from_length p.coded.now (eqb-true (length p.coded.now) 0 (sym c.is_empty.ensures ∙ c.if-is_empty.true)) in
-    c.count_all.ensures ∙ ap (λ (places : List ℕ). length (seen_at p.viewer.now p.number p.part.now.rows p.stamps.now places)) (sym (held-none p.part.now p.coded.now none))
+    c.count_all.ensures ∙ ap (λ (places : List ℕ). length (seen_at p.snapshot.now p.number p.part.now.rows p.stamps.now places)) (sym (held-none p.part.now p.coded.now none))
 
 pub returns-then-is_out : goal.returns-then-is_out
 returns-then-is_out c =
     let p = c.args.self.now in
-    ap (λ (places : List ℕ). length (seen_at p.viewer.now p.number p.part.now.rows p.stamps.now places)) (held-out p.part.now p.coded.now (c.if-is_out.ensures refl))
+    ap (λ (places : List ℕ). length (seen_at p.snapshot.now p.number p.part.now.rows p.stamps.now places)) (held-out p.part.now p.coded.now (c.if-is_out.ensures refl))
 
 pub count_standing-requires : goal.count_standing-requires
 count_standing-requires c = ap (λ (m : List Bool). length m) c.in_ok-mask.ensures ∙ length-held c.args.self.now.coded.now c.args.self.now.part.now
@@ -29,4 +29,4 @@ pub returns : goal.returns
 returns c =
     let p = c.args.self.now in
     c.count_standing.ensures
-    ∙ ap (λ (places : List ℕ). length (seen_at p.viewer.now p.number p.part.now.rows p.stamps.now places)) (standing-held p.coded.now p.part.now c.in_ok-mask.mask c.in_ok-mask.ensures)
+    ∙ ap (λ (places : List ℕ). length (seen_at p.snapshot.now p.number p.part.now.rows p.stamps.now places)) (standing-held p.coded.now p.part.now c.in_ok-mask.mask c.in_ok-mask.ensures)

@@ -5,9 +5,9 @@ use Rattle.ut_scan.proofs.parts.PartProbe.count_all.Goals as goal
 pub returns-then-seen : goal.returns-then-seen
 returns-then-seen c =
     let p = c.args.self.now in
-    all-seen p.viewer.now p.number p.part.now.rows p.stamps.now p.stamped c.len.result (p.sight true (c.in-Some.is ∙ ap Some c.if-seen.true)) c.len.ensures.len
+    all-seen p.snapshot.now p.number p.part.now.rows p.stamps.now p.stamped c.len.result (p.sight true (c.in-Some.is ∙ ap Some c.if-seen.true)) c.len.ensures.len
 
 pub returns-else-seen : goal.returns-else-seen
 returns-else-seen c =
     let p = c.args.self.now in
-    none-here p.viewer.now p.number p.part.now.rows p.stamps.now p.stamped (p.sight false (c.in-Some.is ∙ ap Some c.if-seen.false))
+    none-here p.snapshot.now p.number p.part.now.rows p.stamps.now p.stamped (p.sight false (c.in-Some.is ∙ ap Some c.if-seen.false))

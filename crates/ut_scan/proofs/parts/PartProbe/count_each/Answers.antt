@@ -6,7 +6,7 @@ use Rattle.ut_scan.proofs.parts.PartProbe.count_each.Goals.{then-sees, else-sees
 
 pub loop-i-preserved : goal.loop-i-preserved
 loop-i-preserved c =
-    let test = is_seen c.args.self.now.viewer.now c.args.self.now.stamps.now in
+    let test = is_seen c.args.self.now.snapshot.now c.args.self.now.stamps.now in
     let counted = c.loop-i.invariant.counted in
     let within = c.loop-i.invariant.within in
     elim c.if-sees.branch [

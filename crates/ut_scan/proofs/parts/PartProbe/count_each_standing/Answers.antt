@@ -9,8 +9,8 @@ use Rattle.ut_scan.proofs.parts.PartProbe.count_each_standing.Goals.{then-sees, 
 pub loop-from-preserved : goal.loop-from-preserved
 loop-from-preserved c =
     let p = c.args.self.now in
-    let seen = is_seen p.viewer.now p.stamps.now in
-    let test = stands_seen p.viewer.now p.stamps.now c.args.mask.now in
+    let seen = is_seen p.snapshot.now p.stamps.now in
+    let test = stands_seen p.snapshot.now p.stamps.now c.args.mask.now in
     let i = c.in-Some.i in
     let next = c.in-Some.ensures.next in
     let few = c.loop-from.invariant.few in
@@ -32,17 +32,17 @@ pub returns-in_default : goal.returns-in_default
 returns-in_default c =
     let p = c.args.self.now in
     let mask = c.args.mask.now in
-    let seen = is_seen p.viewer.now p.stamps.now in
+    let seen = is_seen p.snapshot.now p.stamps.now in
     let none = c.in_default.ensures.none in
-    none-more (stands_seen p.viewer.now p.stamps.now mask) c.loop-from.from (length mask) c.loop-from.count c.loop-from.invariant.counted c.loop-from.invariant.within (λ j lo hi. ap (λ b. b && seen j) (none j lo hi))
-    ∙ standing-counted p.viewer.now p.number p.part.now.rows p.stamps.now mask c.requires
+    none-more (stands_seen p.snapshot.now p.stamps.now mask) c.loop-from.from (length mask) c.loop-from.count c.loop-from.invariant.counted c.loop-from.invariant.within (λ j lo hi. ap (λ b. b && seen j) (none j lo hi))
+    ∙ standing-counted p.snapshot.now p.number p.part.now.rows p.stamps.now mask c.requires
 
 pub returns : goal.returns
 returns c =
     let p = c.args.self.now in
     let mask = c.args.mask.now in
-    let test = stands_seen p.viewer.now p.stamps.now mask in
+    let test = stands_seen p.snapshot.now p.stamps.now mask in
     let end : c.loop-from.from ≡ length mask = omega (arith, c.loop-from.invariant.within, c.loop-from-test.false, c.len.ensures.len) in
     c.loop-from.invariant.counted
     ∙ ap (λ (n : ℕ). length (filter test (range_with_len 0 n))) end
-    ∙ standing-counted p.viewer.now p.number p.part.now.rows p.stamps.now mask c.requires
+    ∙ standing-counted p.snapshot.now p.number p.part.now.rows p.stamps.now mask c.requires

@@ -6,7 +6,7 @@ use Rattle.ut_scan.proofs.parts.PartProbe.count_each_standing.Given as goal
 abbrev pub invariant-loop-from : goal.invariant-loop-from
 invariant-loop-from l = record {
   within : l.from ≤ length l.mask;
-  counted : l.count ≡ length (filter (stands_seen l.self.viewer.now l.self.stamps.now l.mask) (range_with_len 0 l.from));
+  counted : l.count ≡ length (filter (stands_seen l.self.snapshot.now l.self.stamps.now l.mask) (range_with_len 0 l.from));
   few : l.count ≤ l.from;
 }
 

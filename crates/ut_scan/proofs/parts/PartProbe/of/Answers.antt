@@ -16,7 +16,7 @@ invariant_of-result-clause-columns c = part-columns c.args.main.now c.args.numbe
 
 pub returns : goal.returns
 returns c = record {
-  viewer = refl;
+  snapshot = refl;
   coded = refl;
   number = refl;
   rows = ap (λ (x : PartValue). x.rows) c.deref.ensures ∙ c.part-part.ensures.rows;

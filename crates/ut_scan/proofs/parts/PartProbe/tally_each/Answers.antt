@@ -21,13 +21,13 @@ pub add_code-requires-clause-few : goal.add_code-requires-clause-few
 add_code-requires-clause-few c =
     let p = c.args.self.now in
     let lt : c.loop-i.i < length c.args.self.now.part.now.rows = omega (arith, c.loop-i-test.true, c.len-i-end.ensures.len) in
-    has-room p.part.now c.args.column c.loop-i.i c.get.result (is_seen p.viewer.now p.stamps.now) c.args.counts.now c.loop-i.counts c.requires.room c.loop-i.invariant lt
+    has-room p.part.now c.args.column c.loop-i.i c.get.result (is_seen p.snapshot.now p.stamps.now) c.args.counts.now c.loop-i.counts c.requires.room c.loop-i.invariant lt
 
 pub loop-i-preserved : goal.loop-i-preserved
 loop-i-preserved c =
     let p = c.args.self.now in
     let code = λ (j : ℕ). code_at p.part.now j c.args.column in
-    let seen = is_seen p.viewer.now p.stamps.now in
+    let seen = is_seen p.snapshot.now p.stamps.now in
     let now = c.loop-i.counts in
     elim c.if-sees.branch [
       | then-sees w ↦ subst (AreMore _ c.args.counts.now) (sym w.counts-is)
@@ -40,4 +40,4 @@ pub returns : goal.returns
 returns c =
     let p = c.args.self.now in
     let end : c.loop-i.i ≡ length c.args.self.now.part.now.rows = omega (arith, c.loop-i-test.false, c.loop-i.auto, c.len-i-end.ensures.len) in
-    subst (λ n. AreMore (map (λ j. code_at p.part.now j c.args.column) (filter (is_seen p.viewer.now p.stamps.now) (range_with_len 0 n))) c.args.counts.now c.loop-i.counts) end c.loop-i.invariant
+    subst (λ n. AreMore (map (λ j. code_at p.part.now j c.args.column) (filter (is_seen p.snapshot.now p.stamps.now) (range_with_len 0 n))) c.args.counts.now c.loop-i.counts) end c.loop-i.invariant

@@ -22,9 +22,9 @@ pub add_code-requires-clause-few : goal.add_code-requires-clause-few
 add_code-requires-clause-few c =
     let p = c.args.self.now in
     let next = c.in-Some.ensures.next in
-    let seen = is_seen p.viewer.now p.stamps.now in
+    let seen = is_seen p.snapshot.now p.stamps.now in
     let code = λ (j : ℕ). code_at p.part.now j c.args.column in
-    let test = stands_seen p.viewer.now p.stamps.now c.args.mask.now in
+    let test = stands_seen p.snapshot.now p.stamps.now c.args.mask.now in
     let lt : c.in-Some.i < length c.args.self.now.part.now.rows = omega (arith, c.in-Some.ensures.next.within, c.requires.mask) in
     let so_far = tallied-over code test c.loop-from.from c.in-Some.i c.args.counts.now c.loop-from.counts c.loop-from.invariant.counted next.behind (λ j lo hi. ap (λ b. b && seen j) (next.first j lo hi)) in
     has-room p.part.now c.args.column c.in-Some.i c.get.result test c.args.counts.now c.loop-from.counts c.requires.room so_far lt
@@ -33,8 +33,8 @@ pub loop-from-preserved : goal.loop-from-preserved
 loop-from-preserved c =
     let p = c.args.self.now in
     let code = λ (j : ℕ). code_at p.part.now j c.args.column in
-    let seen = is_seen p.viewer.now p.stamps.now in
-    let test = stands_seen p.viewer.now p.stamps.now c.args.mask.now in
+    let seen = is_seen p.snapshot.now p.stamps.now in
+    let test = stands_seen p.snapshot.now p.stamps.now c.args.mask.now in
     let now = c.loop-from.counts in
     let i = c.in-Some.i in
     let next = c.in-Some.ensures.next in
@@ -54,10 +54,10 @@ returns-in_default c =
     let p = c.args.self.now in
     let mask = c.args.mask.now in
     let code = λ (j : ℕ). code_at p.part.now j c.args.column in
-    let seen = is_seen p.viewer.now p.stamps.now in
+    let seen = is_seen p.snapshot.now p.stamps.now in
     let none = c.in_default.ensures.none in
-    subst (λ l. AreMore l c.args.counts.now c.loop-from.counts) (standing-codes p.viewer.now p.part.now c.args.column p.stamps.now mask)
-    (tallied-over code (stands_seen p.viewer.now p.stamps.now mask) c.loop-from.from (length mask) c.args.counts.now c.loop-from.counts c.loop-from.invariant.counted c.loop-from.invariant.within (λ j lo hi. ap (λ b. b && seen j) (none j lo hi)))
+    subst (λ l. AreMore l c.args.counts.now c.loop-from.counts) (standing-codes p.snapshot.now p.part.now c.args.column p.stamps.now mask)
+    (tallied-over code (stands_seen p.snapshot.now p.stamps.now mask) c.loop-from.from (length mask) c.args.counts.now c.loop-from.counts c.loop-from.invariant.counted c.loop-from.invariant.within (λ j lo hi. ap (λ b. b && seen j) (none j lo hi)))
 
 pub returns : goal.returns
 returns c =
@@ -65,5 +65,5 @@ returns c =
     let mask = c.args.mask.now in
     let code = λ (j : ℕ). code_at p.part.now j c.args.column in
     let end : c.loop-from.from ≡ length mask = omega (arith, c.loop-from.invariant.within, c.loop-from-test.false, c.len.ensures.len) in
-    subst (λ l. AreMore l c.args.counts.now c.loop-from.counts) (standing-codes p.viewer.now p.part.now c.args.column p.stamps.now mask)
-    (subst (λ n. AreMore (map code (filter (stands_seen p.viewer.now p.stamps.now mask) (range_with_len 0 n))) c.args.counts.now c.loop-from.counts) end c.loop-from.invariant.counted)
+    subst (λ l. AreMore l c.args.counts.now c.loop-from.counts) (standing-codes p.snapshot.now p.part.now c.args.column p.stamps.now mask)
+    (subst (λ n. AreMore (map code (filter (stands_seen p.snapshot.now p.stamps.now mask) (range_with_len 0 n))) c.args.counts.now c.loop-from.counts) end c.loop-from.invariant.counted)

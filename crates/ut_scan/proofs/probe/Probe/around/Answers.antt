@@ -11,7 +11,7 @@ returns-clause-rest c = λ pred i.
     let preds = c.args.preds.now in
     let rows = c.args.l2.now.rows in
     let row = get_or rows i no_row in
-    let s = sees c.args.viewer.now.fates.now c.args.viewer.now.snapshot c.args.viewer.now.own (get_or c.args.stamps.now i no_stamp) in
+    let s = sees c.args.snapshot.now.fates.now c.args.snapshot.now.at c.args.snapshot.now.own (get_or c.args.stamps.now i no_stamp) in
     let m = meets_at (get_or preds c.args.k pred) rows i in
     let e : suc c.args.k ≡ c.args.k + 1 = omega arith in
     passes-around preds c.args.k pred row s c.requires.index

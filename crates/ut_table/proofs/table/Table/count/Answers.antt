@@ -14,6 +14,6 @@ pub returns : goal.returns
 returns c =
     let s = c.args.self.now.stages in
     IfOk-weaker c.counted_rows.result (λ count. count ≡ length (rows_asked c.of-asked.result c.stages-stages.result))
-    (λ count. (asked : List Pred) → Compiles s.columns asked c.args.preds.now → Counts s c.args.fates.now c.args.snapshot c.args.own asked count)
+    (λ count. (asked : List Pred) → Compiles s.columns asked c.args.preds.now → Counts s c.args.snapshot.fates.now c.args.snapshot.at c.args.snapshot.own asked count)
     (λ count is asked compiles. lent-counts c.stages-stages.ensures c.of-asked.ensures c.requires.once asked compiles count is)
     c.counted_rows.ensures

@@ -1,7 +1,8 @@
 use Rattle.std.proofs.Common.{◌∙◌, ap}
 use Rattle.ut_main.specs.Parts.{PartValue}
 use Rattle.ut_table.specs.Contents.{TableValue}
-use Rattle.ut_table.proofs.ReadLemmas.{l1-within, l1-row, l1-values, l2-row, l2-values, closed-row, closed-values, part-within, part-row, part-values}
+use Rattle.ut_table.proofs.ReadLemmas.{l1-within, l1-row, l1-values, l2-row, l2-values, closed-pending, closed-row, closed-values, part-within, part-row, part-values}
+use Rattle.ut_table.proofs.StageLemmas.{closed-of}
 use Rattle.ut_table.proofs.table.Table.standing.Goals as goal
 
 pub row-requires : goal.row-requires
@@ -22,11 +23,19 @@ returns-in-L2-clause-stands c = l2-row c.self.invariant (ap (λ (v : TableValue)
 pub returns-in-L2-clause-values : goal.returns-in-L2-clause-values
 returns-in-L2-clause-values c = λ row e. l2-values c.self.invariant (ap (λ (v : TableValue). v.stages) c.self.view_is) c.args.place c.in-L2.i c.deref.result.now row c.in-L2.is c.deref.ensures e
 
-pub returns-in-Some-clause-stands : goal.returns-in-Some-clause-stands
-returns-in-Some-clause-stands c = closed-row c.self.invariant (ap (λ (v : TableValue). v.stages) c.self.view_is) c.args.place c.in-Closed.i c.in-Some.pending c.closed.result.now c.in-Closed.is c.in-Some.is c.closed.ensures c.requires
+pub returns-in-Closed-clause-stands : goal.returns-in-Closed-clause-stands
+returns-in-Closed-clause-stands c =
+    let view = ap (λ (v : TableValue). v.stages) c.self.view_is in
+    let q = closed-pending c.self.invariant view c.args.place c.in-Closed.i c.in-Closed.is c.requires in
+    closed-row c.self.invariant view c.args.place c.in-Closed.i q.0 c.unwrap_or.result.now c.in-Closed.is q.1 (ap (λ l. l.now) c.unwrap_or.ensures ∙ closed-of (λ l. l.now) c.closed_stage.result _ c.self.inside.pending q.0 c.closed_stage.ensures q.1)
+    c.requires
 
-pub returns-in-Some-clause-values : goal.returns-in-Some-clause-values
-returns-in-Some-clause-values c = λ row e. closed-values c.self.invariant (ap (λ (v : TableValue). v.stages) c.self.view_is) c.args.place c.in-Closed.i c.in-Some.pending c.closed.result.now row c.in-Closed.is c.in-Some.is c.closed.ensures e
+pub returns-in-Closed-clause-values : goal.returns-in-Closed-clause-values
+returns-in-Closed-clause-values c = λ row e.
+    let view = ap (λ (v : TableValue). v.stages) c.self.view_is in
+    let q = closed-pending c.self.invariant view c.args.place c.in-Closed.i c.in-Closed.is c.requires in
+    closed-values c.self.invariant view c.args.place c.in-Closed.i q.0 c.unwrap_or.result.now row c.in-Closed.is q.1 (ap (λ l. l.now) c.unwrap_or.ensures ∙ closed-of (λ l. l.now) c.closed_stage.result _ c.self.inside.pending q.0 c.closed_stage.ensures q.1)
+    e
 
 pub returns-in-Main-clause-stands : goal.returns-in-Main-clause-stands
 returns-in-Main-clause-stands c =

@@ -29,7 +29,7 @@ rows_found-requires c =
     let hits = c.in_ok-found-in-Some.ensures t.table [] t.at (all_wanted t.table.columns) in
     subst (λ (found : List Found). AreThere c.index.result.now.stages found) (sym c.deref-in-Some.ensures.value)
     (subst (λ (s : Staged). AreThere s c.in_ok-found-in-Some.found.items) (sym here)
-    (are_there r c.args.snapshot c.args.own c.in-Some.place (meets t.table.columns []) c.in_ok-found-in-Some.found.items t.table t.at hits))
+    (are_there r c.args.at c.args.own c.in-Some.place (meets t.table.columns []) c.in_ok-found-in-Some.found.items t.table t.at hits))
 
 pub returns-in_ok-rows-in-Some : goal.returns-in_ok-rows-in-Some
 returns-in_ok-rows-in-Some c =
