@@ -1,5 +1,5 @@
 -- A statement with its names bound: what it asks for, by the places of its tables and columns, with its values.
-use Rattle.std.specs.Prelude.{ℕ, ◌≡◌, true, List, [], length, Some}
+use Rattle.std.specs.Prelude.{◌≡◌, true, List, [], length, Some}
 use Rattle.ut_plain.specs.declared.table.Table.{Table}
 use Rattle.ut_plain.specs.declared.statement.Statement.{Statement}
 use Rattle.ut_plain.specs.declared.statement.Statement.TheVariants as statements

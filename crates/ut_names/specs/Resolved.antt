@@ -1,6 +1,8 @@
 -- A statement's names resolved: the places of its tables and columns, and its comparisons by them.
 use Rattle.std.specs.Prelude.{ℕ, ◌≡◌, ◌≤◌, Bool, true, false, ◌&&◌, List, [], length, Option, None, Some, All}
 use Rattle.std.specs.List.{filter_map}
+use Rattle.std.specs.declared.cmp.Ordering.{Ordering}
+use Rattle.std.specs.Ordering.{is_lt, is_gt}
 use Rattle.ut_value.specs.declared.value.Value.{Value}
 use Rattle.ut_value.specs.declared.value.Column.{Column}
 use Rattle.ut_value.specs.Spelling.{has_column}
@@ -13,8 +15,8 @@ use Rattle.ut_plain.specs.declared.reply.Refusal.TheVariants as refusals
 use Rattle.ut_plain.specs.Tables.{place_of, column_of, columns_of, columns_in}
 use Rattle.ut_plain.specs.Names.{known, preds_known, query_known}
 use Rattle.ut_plain.specs.Kinds.{kind_in, has_kind, preds_fit, query_fits}
-use Rattle.ut_names.specs.declared.asking.End.{End}
-use Rattle.ut_names.specs.declared.asking.End.TheVariants.{Least, Greatest}
+use Rattle.ut_names.specs.declared.resolved.End.{End}
+use Rattle.ut_names.specs.declared.resolved.End.TheVariants.{Least, Greatest}
 use Rattle.ut_names.specs.declared.resolved.Selection.{Selection}
 use Rattle.ut_names.specs.declared.resolved.Target.{Target}
 use Rattle.ut_names.specs.declared.resolved.Columns.{Columns}
@@ -72,6 +74,11 @@ abbrev pub best_of : End → List ℕ → List ℕ → List Pred → Query
 best_of Least name column preds = queries.Min name column preds
 best_of Greatest name column preds = queries.Max name column preds
 
+-- what beats the best so far, for an end of the order
+abbrev pub beats : End → Ordering → Bool
+beats Least = is_lt
+beats Greatest = is_gt
+
 -- the question by the places of what it names
 abbrev pub IsQuestion : List Table → Query → Question → Type 0
 IsQuestion tables (queries.Select name names preds) (questions.Select rows columns) =
@@ -79,10 +86,10 @@ IsQuestion tables (queries.Select name names preds) (questions.Select rows colum
 IsQuestion tables (queries.Count name preds) (questions.Count rows) = IsSelection tables name preds rows
 IsQuestion tables (queries.Sum name column preds) (questions.Sum rows place) =
     IsSelection tables name preds rows × IsColumn tables name column place
-IsQuestion tables (queries.Min name column preds) (questions.Min rows place) =
-    IsSelection tables name preds rows × IsColumn tables name column place
-IsQuestion tables (queries.Max name column preds) (questions.Max rows place) =
-    IsSelection tables name preds rows × IsColumn tables name column place
+IsQuestion tables (queries.Min name column preds) (questions.Extreme rows place end) =
+    (end ≡ Least) × IsSelection tables name preds rows × IsColumn tables name column place
+IsQuestion tables (queries.Max name column preds) (questions.Extreme rows place end) =
+    (end ≡ Greatest) × IsSelection tables name preds rows × IsColumn tables name column place
 IsQuestion tables (queries.Group name key sum preds) (questions.Group rows k s) =
     IsSelection tables name preds rows × IsColumn tables name key k × IsColumn tables name sum s
 IsQuestion tables (queries.Join left c right d) (questions.Join l i r j) =

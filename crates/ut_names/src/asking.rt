@@ -5,20 +5,13 @@ ghost use Rattle.ut_plain.specs.Names.{query_known};
 ghost use Rattle.ut_plain.specs.Kinds.{query_fits, same_kind};
 ghost use Rattle.ut_names.specs.Resolved.{best_of, AreNarrow, Resolves, Hinders, IsUnfit, IsBare};
 
-use crate::Question;
 use crate::places::{column_at, columns_at, number_at, table_at};
 use crate::refusing::{why, wrong};
 use crate::selecting::rows;
+use crate::{End, Question};
 use std::alloc::{AllocError, Global};
 use ut_plain::{Pred, Query, Refusal, Table, query_fits, query_known};
 use ut_value::{Kind, Name, Seq};
-
-/// An end of the order of values.
-#[derive(Clone, Copy)]
-enum End {
-    Least,
-    Greatest,
-}
 
 /// The question by the places of what it names.
 pub fn question(alloc: Global, tables: &[Table], query: &Query) -> Result<Question, Refusal>
@@ -178,10 +171,7 @@ fn best(
         return Ok(None);
     };
     let column = column.place;
-    Ok(Some(match end {
-        End::Least => Question::Min { rows, column },
-        End::Greatest => Question::Max { rows, column },
-    }))
+    Ok(Some(Question::Extreme { rows, column, end }))
 }
 
 fn group(

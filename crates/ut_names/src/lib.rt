@@ -15,5 +15,5 @@ pub use asking::question;
 pub use binding::{bind, table_place};
 pub use bound::{Bound, Piece, Task};
 pub use copying::statement_copy;
-pub use resolved::{Columns, Question, Selection, Target};
+pub use resolved::{Columns, End, Question, Selection, Target};
 pub use selecting::{selection, target};

@@ -26,6 +26,13 @@ pub enum Columns {
     Named(Vec<usize>),
 }
 
+/// An end of the order of values.
+#[derive(Clone, Copy)]
+pub enum End {
+    Least,
+    Greatest,
+}
+
 /// A question, with the places of its tables and of its columns.
 #[derive(Drop)]
 pub enum Question {
@@ -40,13 +47,11 @@ pub enum Question {
         rows: Selection,
         column: usize,
     },
-    Min {
+    /// The value at an end of their order.
+    Extreme {
         rows: Selection,
         column: usize,
-    },
-    Max {
-        rows: Selection,
-        column: usize,
+        end: End,
     },
     Group {
         rows: Selection,

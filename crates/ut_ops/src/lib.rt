@@ -12,7 +12,7 @@ mod ranked;
 mod sums;
 mod tallied;
 
-pub use best::{greatest, least};
+pub use best::extreme;
 pub use columns::select;
 pub use groups::group;
 pub use joins::join;

@@ -5,10 +5,11 @@ use Rattle.ut_plain.specs.declared.statement.Pred.{Pred}
 use Rattle.ut_plain.specs.declared.statement.Query.{Query}
 use Rattle.ut_plain.specs.declared.statement.Query.TheVariants as queries
 use Rattle.ut_names.specs.declared.resolved.Columns.{Columns}
+use Rattle.ut_names.specs.declared.resolved.End.{End}
 use Rattle.ut_names.specs.declared.resolved.Question.TheVariants as questions
 use Rattle.ut_names.specs.declared.resolved.Selection.{Selection}
 use Rattle.ut_plain.specs.Tables.{columns_in, place_of}
-use Rattle.ut_names.specs.Resolved.{AreColumns, IsColumn, IsQuestion, IsSelection}
+use Rattle.ut_names.specs.Resolved.{AreColumns, IsColumn, IsQuestion, IsSelection, best_of}
 use Rattle.ut_query.specs.Tells.{IsAsked, IsSelected}
 
 -- ---- a question resolved comes from one of its kind
@@ -27,15 +28,11 @@ pub of_sum : (tables : List Table) (q : Query) (rows : Selection) (place : ℕ) 
 of_sum tables (queries.Sum name column preds) rows place h = (name, column, preds, refl, h.0, h.1)
 of_sum tables _ rows place h = absurd h
 
-pub of_min : (tables : List Table) (q : Query) (rows : Selection) (place : ℕ) → IsQuestion tables q (questions.Min rows place)
-    → (name column : List ℕ) × (preds : List Pred) × (q ≡ queries.Min name column preds) × IsSelection tables name preds rows × IsColumn tables name column place
-of_min tables (queries.Min name column preds) rows place h = (name, column, preds, refl, h.0, h.1)
-of_min tables _ rows place h = absurd h
-
-pub of_max : (tables : List Table) (q : Query) (rows : Selection) (place : ℕ) → IsQuestion tables q (questions.Max rows place)
-    → (name column : List ℕ) × (preds : List Pred) × (q ≡ queries.Max name column preds) × IsSelection tables name preds rows × IsColumn tables name column place
-of_max tables (queries.Max name column preds) rows place h = (name, column, preds, refl, h.0, h.1)
-of_max tables _ rows place h = absurd h
+pub of_extreme : (tables : List Table) (q : Query) (rows : Selection) (place : ℕ) (end : End) → IsQuestion tables q (questions.Extreme rows place end)
+    → (name column : List ℕ) × (preds : List Pred) × (q ≡ best_of end name column preds) × IsSelection tables name preds rows × IsColumn tables name column place
+of_extreme tables (queries.Min name column preds) rows place end h = (name, column, preds, (λ i. best_of (sym h.0 i) name column preds), h.1, h.2)
+of_extreme tables (queries.Max name column preds) rows place end h = (name, column, preds, (λ i. best_of (sym h.0 i) name column preds), h.1, h.2)
+of_extreme tables _ rows place end h = absurd h
 
 pub of_group : (tables : List Table) (q : Query) (rows : Selection) (k s : ℕ) → IsQuestion tables q (questions.Group rows k s)
     → (name key sum : List ℕ) × (preds : List Pred) × (q ≡ queries.Group name key sum preds) × IsSelection tables name preds rows × IsColumn tables name key k × IsColumn tables name sum s
@@ -61,11 +58,8 @@ selected_select tables rows columns a = let f = of_select tables a.query rows co
 pub selected_sum : (tables : List Table) (rows : Selection) (place : ℕ) → IsAsked tables (questions.Sum rows place) → IsSelected tables rows
 selected_sum tables rows place a = let f = of_sum tables a.query rows place a.resolves.is in record { name = f.0; asked = f.2; is = f.4 }
 
-pub selected_min : (tables : List Table) (rows : Selection) (place : ℕ) → IsAsked tables (questions.Min rows place) → IsSelected tables rows
-selected_min tables rows place a = let f = of_min tables a.query rows place a.resolves.is in record { name = f.0; asked = f.2; is = f.4 }
-
-pub selected_max : (tables : List Table) (rows : Selection) (place : ℕ) → IsAsked tables (questions.Max rows place) → IsSelected tables rows
-selected_max tables rows place a = let f = of_max tables a.query rows place a.resolves.is in record { name = f.0; asked = f.2; is = f.4 }
+pub selected_extreme : (tables : List Table) (rows : Selection) (place : ℕ) (end : End) → IsAsked tables (questions.Extreme rows place end) → IsSelected tables rows
+selected_extreme tables rows place end a = let f = of_extreme tables a.query rows place end a.resolves.is in record { name = f.0; asked = f.2; is = f.4 }
 
 pub selected_group : (tables : List Table) (rows : Selection) (k s : ℕ) → IsAsked tables (questions.Group rows k s) → IsSelected tables rows
 selected_group tables rows k s a = let f = of_group tables a.query rows k s a.resolves.is in record { name = f.0; asked = f.3; is = f.5 }

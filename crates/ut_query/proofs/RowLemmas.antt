@@ -46,7 +46,7 @@ module _ (l : Look) (rows : Selection) (t : TableValue) (can : CanLook (sight l)
       subst (All (λ (p : ColumnPred). p.column < length (get_or l.stages.now rows.table t).stages.columns)) (sym is)
       (compiled_below (get_or l.stages.now rows.table t).stages.columns some.asked rows.preds.items (compiles (sight l) rows (get_or l.stages.now rows.table t).stages can read some.name some.asked some.is))
 
-  pub once : SeenOnce (get_or l.stages.now rows.table t).stages l.fates.now l.snapshot l.own
+  pub once : SeenOnce (get_or l.stages.now rows.table t).stages l.snapshot.fates.now l.snapshot.at l.snapshot.own
   once = can.sees.once rows.table (get_or l.stages.now rows.table t).stages read
 
   -- whichever stages are read there
@@ -54,20 +54,20 @@ module _ (l : Look) (rows : Selection) (t : TableValue) (can : CanLook (sight l)
   same s at = same_Some (get_or l.stages.now rows.table t).stages s (sym read ∙ at)
 
   pub found_shows : (preds : List ColumnPred) (found : List Found) → preds ≡ rows.preds.items
-      → ((asked : List Pred) → Compiles (get_or l.stages.now rows.table t).stages.columns asked preds → Finds (get_or l.stages.now rows.table t).stages l.fates.now l.snapshot l.own asked found)
+      → ((asked : List Pred) → Compiles (get_or l.stages.now rows.table t).stages.columns asked preds → Finds (get_or l.stages.now rows.table t).stages l.snapshot.fates.now l.snapshot.at l.snapshot.own asked found)
       → (s : Staged) → slice_get (sight l).staged rows.table ≡ Some s → Shows (sight l) rows s found
   found_shows preds found is h s at =
       subst (λ (x : Staged). Shows (sight l) rows x found) (same s at)
       (shows_found (sight l) rows (get_or l.stages.now rows.table t).stages can read found some (λ asked c. h asked (subst (λ (ps : List ColumnPred). Compiles (get_or l.stages.now rows.table t).stages.columns asked ps) (sym is) c)))
 
   pub count_shows : (preds : List ColumnPred) (count : ℕ) → preds ≡ rows.preds.items
-      → ((asked : List Pred) → Compiles (get_or l.stages.now rows.table t).stages.columns asked preds → Counts (get_or l.stages.now rows.table t).stages l.fates.now l.snapshot l.own asked count)
+      → ((asked : List Pred) → Compiles (get_or l.stages.now rows.table t).stages.columns asked preds → Counts (get_or l.stages.now rows.table t).stages l.snapshot.fates.now l.snapshot.at l.snapshot.own asked count)
       → ShowsCount (sight l) rows count
   count_shows preds count is h =
       shows_count (sight l) rows (get_or l.stages.now rows.table t).stages can read count some (λ asked c. h asked (subst (λ (ps : List ColumnPred). Compiles (get_or l.stages.now rows.table t).stages.columns asked ps) (sym is) c))
 
   pub tally_shows : (preds : List ColumnPred) (column : ℕ) (counts : List ℕ) (rest : List Found) → preds ≡ rows.preds.items
-      → ((asked : List Pred) → Compiles (get_or l.stages.now rows.table t).stages.columns asked preds → Tallied (get_or l.stages.now rows.table t).stages l.fates.now l.snapshot l.own asked column counts rest)
+      → ((asked : List Pred) → Compiles (get_or l.stages.now rows.table t).stages.columns asked preds → Tallied (get_or l.stages.now rows.table t).stages l.snapshot.fates.now l.snapshot.at l.snapshot.own asked column counts rest)
       → (s : Staged) → slice_get (sight l).staged rows.table ≡ Some s → ShowsTally (sight l) rows s column counts rest
   tally_shows preds column counts rest is h s at =
       subst (λ (x : Staged). ShowsTally (sight l) rows x column counts rest) (same s at)

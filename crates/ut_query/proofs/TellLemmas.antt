@@ -1,16 +1,17 @@
 -- What the operators give is what a question is answered.
-use Rattle.std.proofs.Common.{ℕ, ◌<◌, ◌≡◌, List, [], length, map, Option, Some, ℤ, IsTrue, sym, ap, ◌∙◌, subst, slice_get}
+use Rattle.std.proofs.Common.{ℕ, ◌<◌, ◌≡◌, List, [], length, map, Option, Some, ℤ, IsTrue, refl, sym, ap, ◌∙◌, subst, slice_get}
 use Rattle.std.specs.Option.{option_map}
-use Rattle.std.specs.Ordering.{is_lt, is_gt}
 use Rattle.ut_value.specs.declared.value.Value.{Value}
 use Rattle.ut_value.specs.declared.value.Column.{Column}
 use Rattle.ut_value.specs.declared.value.Kind.TheVariants as kinds
 use Rattle.ut_plain.specs.declared.table.Stored.{Stored}
+use Rattle.ut_plain.specs.declared.table.Table.{Table}
 use Rattle.ut_plain.specs.declared.statement.Query.{Query}
 use Rattle.ut_plain.specs.declared.reply.Group as group
 use Rattle.ut_plain.specs.declared.reply.Reply.TheVariants as replies
 use Rattle.ut_plain.specs.declared.statement.Pred.{Pred}
 use Rattle.ut_plain.specs.Kinds.{is_int, kind_in, preds_fit, query_fits}
+use Rattle.ut_plain.specs.Condition.{found}
 use Rattle.ut_plain.specs.Query.{best, column_values, groups, joined, picked, told, total}
 use Rattle.ut_plain.specs.Tables.{column_of, columns_in}
 use Rattle.ut_plain.proofs.BoolLemmas.{and_left}
@@ -23,12 +24,19 @@ use Rattle.ut_ops.specs.Named.{AreWithin}
 use Rattle.ut_ops.proofs.NamedLemmas.{named-within}
 use Rattle.ut_names.proofs.PlaceLemmas.{column_below, number_kind}
 use Rattle.ut_names.specs.declared.resolved.Columns.{Columns}
+use Rattle.ut_names.specs.declared.resolved.End.{End}
+use Rattle.ut_names.specs.declared.resolved.End.TheVariants.{Least, Greatest}
 use Rattle.ut_names.specs.declared.resolved.Question.TheVariants as questions
 use Rattle.ut_names.specs.declared.resolved.Selection.{Selection}
-use Rattle.ut_names.specs.Resolved.{AreColumns, IsSelection}
+use Rattle.ut_names.specs.Resolved.{AreColumns, IsSelection, beats, best_of}
 use Rattle.ut_look.specs.Look.{Sight}
-use Rattle.ut_query.specs.Tells.{IsAsked, Shows, ShowsCount, ShowsTally, Tells}
-use Rattle.ut_query.proofs.QuestionLemmas.{all_are, of_select, of_count, of_sum, of_min, of_max, of_group, of_join}
+use Rattle.ut_query.specs.Tells.{IsAsked, Shows, ShowsCount, ShowsTally, Tells, extreme_reply}
+use Rattle.ut_query.proofs.QuestionLemmas.{all_are, of_select, of_count, of_sum, of_extreme, of_group, of_join}
+
+told_best : (tables : List Table) (rows : List (ℕ × Stored)) (end : End) (name column : List ℕ) (preds : List Pred)
+    → extreme_reply end (best (beats end) (column_values (columns_in tables name) column (found tables rows name preds))) ≡ told tables rows (best_of end name column preds)
+told_best tables rows Least name column preds = refl
+told_best tables rows Greatest name column preds = refl
 
 module _ (l : Sight) (rows : Selection) (s : Staged) (hits : List Found) (sh : Shows l rows s hits) where
   pub tells_select : (columns : Columns) (out : List (List Value)) → ((names : Option (List (List ℕ))) → AreColumns s.columns names columns → out ≡ map (λ (e : ℕ × Stored). picked s.columns names e.1.values) (rows_at rows.table s hits))
@@ -50,22 +58,14 @@ module _ (l : Sight) (rows : Selection) (s : Staged) (hits : List Found) (sh : S
         (ap replies.Sum (h f.1 (ap (λ (x : List Column). column_of x f.1) (sym cs) ∙ f.5) ∙ (λ i. total (column_values (sym cs i) f.1 (sym (sh.found f.0 f.2 seen f.4 sees) i)))));
   }
 
-  pub tells_least : (place : ℕ) (value : Option Value) → ((name : List ℕ) → column_of s.columns name ≡ Some place → value ≡ best is_lt (column_values s.columns name (rows_at rows.table s hits))) → Tells l (questions.Min rows place) (replies.Min value)
-  tells_least place value h = record {
+  pub tells_extreme : (place : ℕ) (end : End) (value : Option Value) → ((name : List ℕ) → column_of s.columns name ≡ Some place → value ≡ best (beats end) (column_values s.columns name (rows_at rows.table s hits))) → Tells l (questions.Extreme rows place end) (extreme_reply end value)
+  tells_extreme place end value h = record {
     each = λ q seen r sees.
-        let f = of_min l.tables q rows place r.is in
+        let f = of_extreme l.tables q rows place end r.is in
         let cs = sh.columns f.0 f.2 f.4 in
-        subst (λ (x : Query). replies.Min value ≡ told l.tables seen x) (sym f.3)
-        (ap replies.Min (h f.1 (ap (λ (x : List Column). column_of x f.1) (sym cs) ∙ f.5) ∙ (λ i. best is_lt (column_values (sym cs i) f.1 (sym (sh.found f.0 f.2 seen f.4 sees) i)))));
-  }
-
-  pub tells_greatest : (place : ℕ) (value : Option Value) → ((name : List ℕ) → column_of s.columns name ≡ Some place → value ≡ best is_gt (column_values s.columns name (rows_at rows.table s hits))) → Tells l (questions.Max rows place) (replies.Max value)
-  tells_greatest place value h = record {
-    each = λ q seen r sees.
-        let f = of_max l.tables q rows place r.is in
-        let cs = sh.columns f.0 f.2 f.4 in
-        subst (λ (x : Query). replies.Max value ≡ told l.tables seen x) (sym f.3)
-        (ap replies.Max (h f.1 (ap (λ (x : List Column). column_of x f.1) (sym cs) ∙ f.5) ∙ (λ i. best is_gt (column_values (sym cs i) f.1 (sym (sh.found f.0 f.2 seen f.4 sees) i)))));
+        subst (λ (x : Query). extreme_reply end value ≡ told l.tables seen x) (sym f.3)
+        (ap (extreme_reply end) (h f.1 (ap (λ (x : List Column). column_of x f.1) (sym cs) ∙ f.5) ∙ (λ i. best (beats end) (column_values (sym cs i) f.1 (sym (sh.found f.0 f.2 seen f.4 sees) i))))
+        ∙ told_best l.tables seen end f.0 f.1 f.2);
   }
 
   pub tells_groups : (key sum : ℕ) (said : List group.Group) → ((name other : List ℕ) → column_of s.columns name ≡ Some key → column_of s.columns other ≡ Some sum → said ≡ groups s.columns name other (rows_at rows.table s hits)) → Tells l (questions.Group rows key sum) (replies.Groups said)
@@ -128,14 +128,9 @@ sum_within l rows s place a columns =
     let f = of_sum l.tables a.query rows place a.resolves.is in
     column_below s.columns f.1 place (ap (λ (x : List Column). column_of x f.1) (sym (columns f.0 f.2 f.4)) ∙ f.5)
 
-pub min_within : (l : Sight) (rows : Selection) (s : Staged) (hits : List Found) (place : ℕ) → Shows l rows s hits → IsAsked l.tables (questions.Min rows place) → place < length s.columns
-min_within l rows s hits place sh a =
-    let f = of_min l.tables a.query rows place a.resolves.is in
-    column_below s.columns f.1 place (ap (λ (x : List Column). column_of x f.1) (sym (sh.columns f.0 f.2 f.4)) ∙ f.5)
-
-pub max_within : (l : Sight) (rows : Selection) (s : Staged) (hits : List Found) (place : ℕ) → Shows l rows s hits → IsAsked l.tables (questions.Max rows place) → place < length s.columns
-max_within l rows s hits place sh a =
-    let f = of_max l.tables a.query rows place a.resolves.is in
+pub extreme_within : (l : Sight) (rows : Selection) (s : Staged) (hits : List Found) (place : ℕ) (end : End) → Shows l rows s hits → IsAsked l.tables (questions.Extreme rows place end) → place < length s.columns
+extreme_within l rows s hits place end sh a =
+    let f = of_extreme l.tables a.query rows place end a.resolves.is in
     column_below s.columns f.1 place (ap (λ (x : List Column). column_of x f.1) (sym (sh.columns f.0 f.2 f.4)) ∙ f.5)
 
 pub group_within : (l : Sight) (rows : Selection) (s : Staged) (hits : List Found) (key sum : ℕ) → Shows l rows s hits → IsAsked l.tables (questions.Group rows key sum) → key < length s.columns

@@ -1,10 +1,12 @@
 -- What a question with its names resolved is answered.
-use Rattle.std.specs.Prelude.{ℕ, ◌≤◌, ◌≡◌, ◌^◌, true, List, length}
+use Rattle.std.specs.Prelude.{ℕ, ◌≤◌, ◌≡◌, ◌^◌, true, List, length, Option}
+use Rattle.ut_value.specs.declared.value.Value.{Value}
 use Rattle.ut_plain.specs.declared.table.Table.{Table}
 use Rattle.ut_plain.specs.declared.table.Stored.{Stored}
 use Rattle.ut_plain.specs.declared.statement.Pred.{Pred}
 use Rattle.ut_plain.specs.declared.statement.Query.{Query}
 use Rattle.ut_plain.specs.declared.reply.Reply.{Reply}
+use Rattle.ut_plain.specs.declared.reply.Reply.TheVariants as replies
 use Rattle.ut_plain.specs.Condition as condition
 use Rattle.ut_plain.specs.Names.{query_known}
 use Rattle.ut_plain.specs.Kinds.{query_fits}
@@ -15,6 +17,8 @@ use Rattle.ut_staged.specs.Staged.{Staged}
 use Rattle.ut_table.specs.Finds.{rows_at}
 use Rattle.ut_table.specs.Tallied.{IsTally}
 use Rattle.ut_ops.specs.Fit.{Fit}
+use Rattle.ut_names.specs.declared.resolved.End.{End}
+use Rattle.ut_names.specs.declared.resolved.End.TheVariants.{Least, Greatest}
 use Rattle.ut_names.specs.declared.resolved.Question.{Question}
 use Rattle.ut_names.specs.declared.resolved.Selection.{Selection}
 use Rattle.ut_names.specs.Resolved.{IsSelection, Resolves}
@@ -35,6 +39,11 @@ pub record IsAsked (tables : List Table) (question : Question) : Type 0 where
 -- the reply is that of each question that resolves to this one
 pub record Tells (l : Sight) (question : Question) (reply : Reply) : Type 0 where
   pub each : (query : Query) (rows : List (ℕ × Stored)) → Resolves l.tables query question → Sees l rows → reply ≡ told l.tables rows query
+
+-- how the value at an end of the order is told
+abbrev pub extreme_reply : End → Option Value → Reply
+extreme_reply Least value = replies.Min value
+extreme_reply Greatest value = replies.Max value
 
 -- some rows are asked for by this selection
 pub record IsSelected (tables : List Table) (rows : Selection) : Type 0 where

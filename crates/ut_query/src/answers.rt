@@ -3,14 +3,15 @@ ghost use Rattle.std.specs.Prelude.{◌≡◌, [], IfOk};
 ghost use Rattle.ut_names.specs.declared.resolved.Question.TheVariants as questions;
 ghost use Rattle.ut_look.specs.Look.{sight};
 ghost use Rattle.ut_query.specs.Look.{CanLook};
-ghost use Rattle.ut_query.specs.Tells.{IsAsked, Tells};
+ghost use Rattle.ut_query.specs.Tells.{IsAsked, Tells, extreme_reply};
 
 use crate::rows::{count, found, tally};
 use std::alloc::{AllocError, Global};
 use ut_look::Look;
-use ut_names::{Columns, Selection};
-use ut_ops::{greatest, group, join, least, select, sum, sum_tally, tallied_column};
+use ut_names::{Columns, End, Selection};
+use ut_ops::{extreme, group, join, select, sum, sum_tally, tallied_column};
 use ut_plain::Reply;
+use ut_value::Value;
 
 pub(crate) fn select_rows(
     alloc: Global,
@@ -77,36 +78,31 @@ fn sum_of_codes(
     Ok(Reply::Sum(total))
 }
 
-pub(crate) fn least_of(
+pub(crate) fn extreme_of(
     alloc: Global,
     look: &Look<'_>,
     rows: &Selection,
     column: usize,
+    end: End,
 ) -> Result<Reply, AllocError>
     requires looks { CanLook (sight look.now) }
-    requires asked { IsAsked look.now.tables.now (questions.Min rows.now column) }
-    ensures { IfOk result (Tells (sight look.now) (questions.Min rows.now column)) }
+    requires asked { IsAsked look.now.tables.now (questions.Extreme rows.now column end) }
+    ensures { IfOk result (Tells (sight look.now) (questions.Extreme rows.now column end)) }
 {
     let hits = found(alloc, look, rows)?;
     let table = &look.stages[rows.table];
-    let value = least(alloc, table, column, hits.as_slice())?;
-    Ok(Reply::Min(value))
+    let value = extreme(alloc, table, column, hits.as_slice(), end)?;
+    Ok(extreme_reply(end, value))
 }
 
-pub(crate) fn greatest_of(
-    alloc: Global,
-    look: &Look<'_>,
-    rows: &Selection,
-    column: usize,
-) -> Result<Reply, AllocError>
-    requires looks { CanLook (sight look.now) }
-    requires asked { IsAsked look.now.tables.now (questions.Max rows.now column) }
-    ensures { IfOk result (Tells (sight look.now) (questions.Max rows.now column)) }
+// How such a value is told.
+fn extreme_reply(end: End, value: Option<Value>) -> Reply
+    ensures { result ≡ extreme_reply end value }
 {
-    let hits = found(alloc, look, rows)?;
-    let table = &look.stages[rows.table];
-    let value = greatest(alloc, table, column, hits.as_slice())?;
-    Ok(Reply::Max(value))
+    match end {
+        End::Least => Reply::Min(value),
+        End::Greatest => Reply::Max(value),
+    }
 }
 
 pub(crate) fn groups_of(

@@ -7,7 +7,7 @@ ghost use Rattle.ut_look.specs.Look.{sight};
 ghost use Rattle.ut_query.specs.Look.{CanLook};
 ghost use Rattle.ut_query.specs.Tells.{IsAsked, IsAnswer, Tells};
 
-use crate::answers::{count_rows, greatest_of, groups_of, least_of, pairs_of, select_rows, sum_of};
+use crate::answers::{count_rows, extreme_of, groups_of, pairs_of, select_rows, sum_of};
 use std::alloc::{AllocError, Global};
 use ut_look::Look;
 use ut_names::{Question, question};
@@ -37,8 +37,7 @@ pub fn answer(alloc: Global, look: &Look<'_>, question: &Question) -> Result<Rep
         Question::Select { rows, columns } => select_rows(alloc, look, rows, columns),
         Question::Count { rows } => count_rows(alloc, look, rows),
         Question::Sum { rows, column } => sum_of(alloc, look, rows, *column),
-        Question::Min { rows, column } => least_of(alloc, look, rows, *column),
-        Question::Max { rows, column } => greatest_of(alloc, look, rows, *column),
+        Question::Extreme { rows, column, end } => extreme_of(alloc, look, rows, *column, *end),
         Question::Group { rows, key, sum } => groups_of(alloc, look, rows, *key, *sum),
         Question::Join {
             left,

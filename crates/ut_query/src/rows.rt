@@ -24,13 +24,7 @@ pub(crate) fn found(
         → Shows (sight look.now) rows.now s hits.items) }
 {
     let table = &look.stages[rows.table];
-    table.scan(
-        alloc,
-        look.fates,
-        look.snapshot,
-        look.own,
-        rows.preds.as_slice(),
-    )
+    table.scan(alloc, look.snapshot, rows.preds.as_slice())
 }
 
 /// How many there are.
@@ -40,13 +34,7 @@ pub(crate) fn count(alloc: Global, look: &Look<'_>, rows: &Selection) -> Result<
     ensures { IfOk result (ShowsCount (sight look.now) rows.now) }
 {
     let table = &look.stages[rows.table];
-    table.count(
-        alloc,
-        look.fates,
-        look.snapshot,
-        look.own,
-        rows.preds.as_slice(),
-    )
+    table.count(alloc, look.snapshot, rows.preds.as_slice())
 }
 
 /// The same rows, those of main by their codes in a column.
@@ -64,12 +52,5 @@ pub(crate) fn tally(
     ensures few { IfOk result (λ t. length t.counts.items < 2 ^ 31) }
 {
     let table = &look.stages[rows.table];
-    table.tally(
-        alloc,
-        look.fates,
-        look.snapshot,
-        look.own,
-        rows.preds.as_slice(),
-        column,
-    )
+    table.tally(alloc, look.snapshot, rows.preds.as_slice(), column)
 }
