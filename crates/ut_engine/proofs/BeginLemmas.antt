@@ -11,7 +11,6 @@ use Rattle.ut_outside.specs.Run.{LeavesOnly}
 use Rattle.ut_redo.specs.Appends.{LogPlace}
 use Rattle.ut_redo.specs.Logs.{IsLogFile, other_log, switched_place}
 use Rattle.ut_plain.specs.declared.stage.Progress.TheVariants as steps
-use Rattle.ut_plain.specs.declared.statement.Statement.{Statement}
 use Rattle.ut_plain.specs.declared.statement.Statement.TheVariants as statements
 use Rattle.ut_plain.specs.declared.reply.Reply.{Reply}
 use Rattle.ut_plain.specs.declared.reply.Reply.TheVariants as replies
@@ -47,7 +46,7 @@ use Rattle.ut_engine.specs.Logged.{Logged}
 use Rattle.ut_engine.specs.Runs.{Runs}
 use Rattle.ut_engine.specs.declared.error.SaveError.{SaveError}
 use Rattle.ut_engine.specs.declared.error.SaveError.TheVariants as begins
-use Rattle.ut_engine.specs.Savepoints.{progress_of, told_of, save_reply, IsCounted, IsOutOfTurn, TellsBegin}
+use Rattle.ut_engine.specs.Savepoints.{progress_of, told_of, save_reply, IsCounted}
 use Rattle.ut_engine.specs.Saves.{LeavesLog, Moved, Stayed, MayLeaveLog, IsCapturedRoot, HasPlanned}
 use Rattle.ut_engine.specs.Serves.{IsAnswered, Serves}
 use Rattle.ut_engine.proofs.CapturedLemmas.{captured_distinct}
@@ -265,27 +264,14 @@ serves_no_memory e disk session only =
     no_root : (n : ℕ) → replies.Refused refusals.Memory ≡ replies.Root n → ⊥
     no_root n is = cc
 
--- ---- which answer tells a reply
+-- ---- what is told of the savepoint that was planned
 
-pub memory_told : TellsBegin (replies.Refused refusals.Memory)
-memory_told = (Err begins.Memory, refl)
-
-pub full_told : TellsBegin (replies.Refused refusals.Full)
-full_told = (Err begins.Full, refl)
-
-pub out_of_turn_begin : (saving : Option Saving) (st : Statement) (reply : Reply) → IsOutOfTurn saving st reply → TellsBegin reply
-out_of_turn_begin saving st reply out = (Err (begins.State out.why), sym out.says)
-
-pub fault_begin : (reply : Reply) → reply ≡ replies.DiskFault → TellsBegin reply
-fault_begin reply is = (Err begins.Disk, sym is)
-
--- the savepoint that was planned
 first_told : (root : Root) (reached : List ℕ) (d : Directory) (s : Saving) → Plans root reached d s → told_of (progress_of (Some s)) ≡ replies.Saving 0 (length s.planned)
 first_told root reached d s plans =
     ap (λ (x : Bool). told_of (cond x (steps.Sealed (length s.planned)) (steps.Writing s.done (length s.planned)))) plans.unsealed ∙ ap (λ (n : ℕ). replies.Saving n (length s.planned)) plans.done
 
-pub begun_told : (old : Logged) (p : Plain) (root : Root) (s : Saving) → Plans root old.files.reached (captured_now p) s → (reply : Reply) → reply ≡ told_of (progress_of (Some s)) → TellsBegin reply
-begun_told old p root s plans reply is = (Ok (length s.planned), sym (is ∙ first_told root old.files.reached (captured_now p) s plans))
+pub begun_told : (root : Root) (reached : List ℕ) (d : Directory) (s : Saving) → Plans root reached d s → (pages : ℕ) → pages ≡ length s.planned → replies.Saving 0 pages ≡ told_of (progress_of (Some s))
+begun_told root reached d s plans pages count = ap (λ (n : ℕ). replies.Saving 0 n) count ∙ sym (first_told root reached d s plans)
 
 pub begun_counted : (old mid : Logged) (before after : View) (p : Plain) (runs : Runs old before p) → save_why p.phase statements.SaveBegin ≡ None → (root : Root) (s : Saving) → IsCapturedRoot old root → Plans root old.files.reached (captured_now p) s
     → LeavesLog old before mid after → MayLeaveLog old before after → IsCounted (Some s)
@@ -295,16 +281,16 @@ begun_counted old mid before after p runs none root s captured plans left may =
     is_counted new after answer.plain answer.runs
 
 -- what it has planned
-pub begun_planned : (old : Logged) (p : Plain) (root : Root) (s : Saving) → StandsFor old.store p → ((q : Plain) → StandsFor old.store q → Plans root old.files.reached (captured_now q) s) → (reply : Reply) → reply ≡ told_of (progress_of (Some s))
-    → (pages : ℕ) → reply ≡ replies.Saving 0 pages → HasPlanned old (Some s) pages
-begun_planned old p root s stands plans reply is pages told =
-    let here = plans p stands in
-    record { begun = s; held = refl; count = counted (sym (first_told root old.files.reached (captured_now p) s here) ∙ sym is ∙ told); takes = here.takes; chains = λ q other. (plans q other).chains }
-  where
-    counted : replies.Saving 0 (length s.planned) ≡ replies.Saving 0 pages → length s.planned ≡ pages
-    counted same = cc
+pub begun_planned : (old : Logged) (p : Plain) (root : Root) (s : Saving) → StandsFor old.store p → ((q : Plain) → StandsFor old.store q → Plans root old.files.reached (captured_now q) s) → (pages : ℕ) → pages ≡ length s.planned → HasPlanned old (Some s) pages
+begun_planned old p root s stands plans pages count = record { begun = s; held = refl; count = sym count; takes = (plans p stands).takes; chains = λ q other. (plans q other).chains }
 
--- and which answer tells it
-pub planned_told : (old : Logged) (saving : Option Saving) (reply : Reply) (answer : Result ℕ SaveError) → save_reply answer ≡ reply → ((pages : ℕ) → reply ≡ replies.Saving 0 pages → HasPlanned old saving pages) → IfOk answer (HasPlanned old saving)
-planned_told old saving reply (Ok pages) is each = each pages (sym is)
-planned_told old saving reply (Err e) is each = tt
+-- what the reply says of it
+pub planned_told : (old : Logged) (saving : Option Saving) (answer : Result ℕ SaveError) (pages : ℕ) → IfOk answer (HasPlanned old saving) → save_reply answer ≡ replies.Saving 0 pages → HasPlanned old saving pages
+planned_told old saving (Ok n) pages planned is = subst (HasPlanned old saving) (told_pages is) planned
+  where
+    told_pages : replies.Saving 0 n ≡ replies.Saving 0 pages → n ≡ pages
+    told_pages same = cc
+planned_told old saving (Err (begins.State why)) pages planned is = cc
+planned_told old saving (Err begins.Full) pages planned is = cc
+planned_told old saving (Err begins.Memory) pages planned is = cc
+planned_told old saving (Err begins.Disk) pages planned is = cc

@@ -1,44 +1,21 @@
 -- What the calls of a savepoint serve, by what the calls below them did.
-use Rattle.std.proofs.Common.{◌≡◌, ℕ, ◌≤◌, min, true, Option, None, Ok, Err, refl, sym, subst}
+use Rattle.std.proofs.Common.{◌≡◌, ℕ, ◌≤◌, min, true, None, refl, sym, subst}
 use Rattle.ut_outside.specs.Disk.{View}
 use Rattle.ut_outside.specs.Faults.{Rose}
-use Rattle.ut_plain.specs.declared.statement.Statement.{Statement}
 use Rattle.ut_plain.specs.declared.statement.Statement.TheVariants as statements
 use Rattle.ut_plain.specs.declared.reply.Reply.{Reply}
 use Rattle.ut_plain.specs.declared.reply.Reply.TheVariants as replies
 use Rattle.ut_plain.specs.Plain.{Plain}
 use Rattle.ut_plain.specs.Refusals.{save_why}
 use Rattle.ut_durable.specs.Calls.{Stays}
-use Rattle.ut_durable.specs.Saving.{Saving}
-use Rattle.ut_engine.specs.declared.error.PhaseError.TheVariants as phases
 use Rattle.ut_engine.specs.Logged.{Logged}
 use Rattle.ut_engine.specs.Runs.{Runs}
-use Rattle.ut_engine.specs.Savepoints.{progress_of, told_of, IsCounted, IsOutOfTurn, TellsPhase, TellsFlip}
+use Rattle.ut_engine.specs.Savepoints.{progress_of, told_of, IsCounted}
 use Rattle.ut_engine.specs.Saves.{pages_left, Goes, Seals}
 use Rattle.ut_engine.specs.Serves.{Serves}
 use Rattle.ut_engine.proofs.PhaseLemmas.{is_counted}
 use Rattle.ut_engine.proofs.SaveLemmas.{may_fault}
 use Rattle.ut_engine.proofs.WriteLemmas.{written_answer, sealed_answer, serves_lost}
-
--- ---- which answer tells a reply
-
-pub out_of_turn_told : (old : Option Saving) (st : Statement) (reply : Reply) (saving : Option Saving) → IsOutOfTurn old st reply → TellsPhase reply saving
-out_of_turn_told old st reply saving out = (Err (phases.State out.why), sym out.says)
-
-pub fault_told : (reply : Reply) (saving : Option Saving) → reply ≡ replies.DiskFault → TellsPhase reply saving
-fault_told reply saving is = (Err phases.Disk, sym is)
-
-pub phase_told : (reply : Reply) (saving : Option Saving) → reply ≡ told_of (progress_of saving) → TellsPhase reply saving
-phase_told reply saving is = (Ok tt, sym is)
-
-pub out_of_turn_flip : (saving : Option Saving) (st : Statement) (reply : Reply) → IsOutOfTurn saving st reply → TellsFlip reply
-out_of_turn_flip saving st reply out = (Err (phases.State out.why), sym out.says)
-
-pub fault_flip : (reply : Reply) → reply ≡ replies.DiskFault → TellsFlip reply
-fault_flip reply is = (Err phases.Disk, sym is)
-
-pub root_told : (entries : ℕ) → TellsFlip (replies.Root entries)
-root_told entries = (Ok entries, refl)
 
 -- ---- how far it is then can be told
 

@@ -1,6 +1,6 @@
 -- The savepoint in memory is the plain store's: how far it is, and a store that runs on with another phase.
 use Rattle.std.proofs.Common.{◌≡◌, ℕ, ◌*◌, ◌≤◌, Bool, true, false, cond, [], length, Option, None, Some, refl, sym, ◌∙◌, ap, arith}
-use Rattle.std.specs.Prelude.{nat_eq}
+use Rattle.std.specs.Prelude.{nat_eq, IfSome, IfNone}
 use Rattle.std.proofs.lemmas.Bool.{eqb-true}
 use Rattle.ut_outside.specs.Disk.{View}
 use Rattle.ut_redo.specs.Logs.{IsLogFile}
@@ -9,6 +9,8 @@ use Rattle.ut_plain.specs.declared.stage.Progress.TheVariants as steps
 use Rattle.ut_plain.specs.declared.statement.Statement.{Statement}
 use Rattle.ut_plain.specs.declared.statement.Statement.TheVariants as statements
 use Rattle.ut_plain.specs.declared.reply.Reply.{Reply}
+use Rattle.ut_plain.specs.declared.reply.Reply.TheVariants as replies
+use Rattle.ut_plain.specs.declared.reply.Refusal.TheVariants as refusals
 use Rattle.ut_plain.specs.declared.reply.Why.{Why}
 use Rattle.ut_plain.specs.declared.reply.Why.TheVariants as whys
 use Rattle.ut_plain.specs.Journal.{Journal, journal_len}
@@ -70,9 +72,19 @@ pub in_turn : (e : Logged) (disk : View) (st : Statement) → IsInTurn e.saving 
 in_turn e disk st passes p runs = why_told e disk p runs st None passes
 
 -- an answer that was found by the savepoint in memory
-pub why_found : (saving : Option Saving) (st : Statement) (progress : Progress) (result why : Option Why) → progress ≡ progress_of saving → ((captured : ℕ) (image : Directory) → result ≡ save_why (phase_of progress captured image) st) → result ≡ why
+why_found : (saving : Option Saving) (st : Statement) (progress : Progress) (result why : Option Why) → progress ≡ progress_of saving → ((captured : ℕ) (image : Directory) → result ≡ save_why (phase_of progress captured image) st) → result ≡ why
     → (captured : ℕ) (image : Directory) → save_why (phase_of (progress_of saving) captured image) st ≡ why
 why_found saving st progress result why at told is captured image = ap (λ (x : Progress). save_why (phase_of x captured image) st) (sym at) ∙ sym (told captured image) ∙ is
+
+pub why_refused : (saving : Option Saving) (st : Statement) (progress : Progress) (found : Option Why) → progress ≡ progress_of saving → ((captured : ℕ) (image : Directory) → found ≡ save_why (phase_of progress captured image) st)
+    → IfSome found (λ why. IsOutOfTurn saving st (replies.Refused (refusals.State why)))
+why_refused saving st progress None at told = tt
+why_refused saving st progress (Some why) at told = record { why = why; says = refl; each = why_found saving st progress (Some why) (Some why) at told refl }
+
+pub why_passed : (saving : Option Saving) (st : Statement) (progress : Progress) (found : Option Why) → progress ≡ progress_of saving → ((captured : ℕ) (image : Directory) → found ≡ save_why (phase_of progress captured image) st)
+    → IfNone found (IsInTurn saving st)
+why_passed saving st progress None at told = why_found saving st progress None None at told refl
+why_passed saving st progress (Some why) at told = tt
 
 -- ---- which phase lets a statement pass
 

@@ -5,19 +5,17 @@ use Rattle.std.specs.FinMap as finmap
 use Rattle.std.specs.FinMap.{nat_cmp-IsAntisymmetric}
 use Rattle.ut_outside.specs.Disk.{View}
 use Rattle.ut_plain.specs.declared.table.Stored.{Stored}
-use Rattle.ut_plain.specs.State.{State}
-use Rattle.ut_plain.specs.Journal.{Journal, journal_len, current}
-use Rattle.ut_plain.specs.Plain.{Plain, opened_store}
+use Rattle.ut_plain.specs.Journal.{journal_len, current}
+use Rattle.ut_plain.specs.Plain.{Plain}
 use Rattle.ut_plain.proofs.JournalLaws.{length-current}
 use Rattle.ut_stamps.specs.Stamps.{counts}
 use Rattle.ut_exact.specs.Exact.{shown_by}
 use Rattle.ut_exact.specs.Stamped.{Stamped}
-use Rattle.ut_reading.specs.Restored.{RestoresPrefix}
 use Rattle.ut_reading.proofs.RestoredLemmas.{prefix_is_restored}
 use Rattle.ut_store.specs.Held.{Held}
 use Rattle.ut_store.specs.Stands.{AreRows}
 use Rattle.ut_engine.specs.Logged.{Logged}
-use Rattle.ut_engine.specs.Runs.{Runs, Opens, opening_of}
+use Rattle.ut_engine.specs.Runs.{Runs, Opens}
 use Rattle.ut_engine.specs.Restoring.{Restores}
 use Rattle.ut_engine.proofs.HeldByLemmas.{held_some, shows, not_gone}
 

@@ -1,5 +1,5 @@
 -- The calls by which the root of a savepoint is written and selected.
-use Rattle.std.proofs.Common.{◌≡◌, ℕ, ◌<◌, List, Option, None, Some, sym, ◌∙◌, ap, subst, arith}
+use Rattle.std.proofs.Common.{◌≡◌, ℕ, List, Option, None, Some, sym, ◌∙◌, ap, subst}
 use Rattle.std.specs.Option.{option_map}
 use Rattle.ut_outside.specs.declared.disk.Which.{Which}
 use Rattle.ut_outside.specs.Disk.{View}
@@ -25,13 +25,6 @@ sealed_root old before after s t files root is of wrote kept ready = record {
 }
 
 -- ---- it is selected
-
--- its log begins in one of two files
-pub root_file : (e : Logged) (disk : View) (s : Saving) (root : Root) → MaySelect e disk → e.saving ≡ Some s → root ≡ s.root → root.file < 2
-root_file e disk s root may is of =
-    let allowed = may.stored.under_way.image.rules.allowed in
-    let same : root.file ≡ may.saving.root.file = ap (λ (r : Root). r.file) of ∙ ap (λ (x : Saving). x.root.file) (same_one s may.saving (sym is ∙ may.under_way)) in
-    omega (arith, allowed.file, allowed.version, same)
 
 pub select_settled : (e : Logged) (disk : View) → MaySelect e disk → IsSettled e.files disk
 select_settled e disk may = settled may.journal may.selected may.directory e.files disk may.stored.rests

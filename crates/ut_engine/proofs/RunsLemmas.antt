@@ -1,5 +1,5 @@
 -- What a running store's files hold, before an entry is appended, while it is and after.
-use Rattle.std.proofs.Common.{◌≡◌, inl, inr, ℕ, ◌+◌, ◌*◌, ◌≤◌, ◌<◌, ◌^◌, true, false, List, length, refl, sym, ◌∙◌, ap, subst, arith, IsTrue}
+use Rattle.std.proofs.Common.{◌≡◌, inl, inr, ℕ, ◌+◌, ◌*◌, ◌≤◌, ◌<◌, true, false, List, length, refl, sym, ◌∙◌, ap, subst, arith, IsTrue}
 use Rattle.ut_outside.specs.Disk.{View, IsTold}
 use Rattle.ut_outside.specs.Run.{LeavesOnly, ReadsOnly}
 use Rattle.ut_outside.proofs.RunLemmas.{weaker}

@@ -69,18 +69,6 @@ abbrev pub flip_reply : Result ℕ PhaseError → Reply
 flip_reply (Ok entries) = replies.Root entries
 flip_reply (Err e) = error_reply e
 
--- the reply is that to some answer of a begin
-abbrev pub TellsBegin : Reply → Type 0
-TellsBegin reply = (answer : Result ℕ SaveError) × (save_reply answer ≡ reply)
-
--- the reply is that to some answer of a page, of the root or of a drop
-abbrev pub TellsPhase : Reply → Option Saving → Type 0
-TellsPhase reply saving = (answer : Result (Unit {0}) PhaseError) × (phase_reply answer saving ≡ reply)
-
--- the reply is that to some answer of a flip
-abbrev pub TellsFlip : Reply → Type 0
-TellsFlip reply = (answer : Result ℕ PhaseError) × (flip_reply answer ≡ reply)
-
 -- ---- whether the disk failed
 
 -- whether the disk failed in the begin of a savepoint

@@ -20,10 +20,16 @@ use ut_outside::Disk;
 use ut_plain::{Refusal, Reply, Statement};
 
 /// A store over a disk that it is lent for as long as it serves. While it isn't down it runs from some plain state.
-#[derive(Drop)]
 pub struct Engine<'d, D: Disk> {
     pub(crate) disk: &'d mut D,
     pub(crate) store: LoggedStore,
+}
+
+// One step of a proof, wherever one is dropped.
+impl<'d, D: Disk> Drop for Engine<'d, D> {
+    fn drop(self) {
+        let Engine { disk: _, store: _ } = self;
+    }
 }
 
 impl<'d, D: Disk> Model for Engine<'d, D> {
@@ -163,7 +169,8 @@ impl<'d, D: Disk> Engine<'d, D> {
         ensures loan { result.ghost_name ≡ self.entry.loan }
         ensures disk { result.now ≡ self.entry.disk }
     {
-        self.disk
+        let Engine { disk, store: _ } = self;
+        disk
     }
 }
 

@@ -14,5 +14,5 @@ mod unopened;
 
 pub use engine::{Engine, NoBuilder, engine_is_sent};
 pub use error::{BeginError, L1Error, OpenError, PhaseError, SaveError};
-pub use replies::{begin_reply, end_reply, moved_reply};
+pub use replies::{begin_reply, end_reply};
 pub use unopened::Unopened;

@@ -29,7 +29,6 @@ use ut_savepoint::Savepoint;
 use ut_store::{Response, Store};
 
 /// A store in memory before its files. Each call that may write is lent the disk.
-#[derive(Drop)]
 pub(crate) struct LoggedStore {
     pub(crate) store: Store,
     /// Where the next frame goes, which slot is selected, and the pages that its root reaches.
@@ -42,6 +41,20 @@ pub(crate) struct LoggedStore {
     pub(crate) next: NextIds,
     /// Whether the disk has failed.
     pub(crate) down: bool,
+}
+
+// One step of a proof, wherever one is dropped.
+impl Drop for LoggedStore {
+    fn drop(self) {
+        let LoggedStore {
+            store: _,
+            files: _,
+            begins: _,
+            saving: _,
+            next: _,
+            down: _,
+        } = self;
+    }
 }
 
 impl LoggedStore {

@@ -1,9 +1,8 @@
 //! A savepoint, call by call: it begins, each page, the root, the choice of that root, or it is dropped.
-ghost use Rattle.std.specs.Prelude.{◌≡◌, false, IfOk, IsErrOf, Option};
+ghost use Rattle.std.specs.Prelude.{◌≡◌, false, IfOk, IsErrOf};
 ghost use Rattle.ut_outside.specs.Faults.{Rose};
 ghost use Rattle.ut_plain.specs.declared.statement.Statement.TheVariants as statements;
-ghost use Rattle.ut_engine.specs.Savepoints.{progress_of, save_reply, phase_reply, flip_reply, is_save_fault, is_phase_fault, TellsBegin, TellsPhase, TellsFlip};
-ghost use Rattle.ut_durable.specs.Saving.{Saving};
+ghost use Rattle.ut_engine.specs.Savepoints.{progress_of, save_reply, phase_reply, flip_reply, is_save_fault, is_phase_fault};
 ghost use Rattle.ut_engine.specs.Saves.{HasPlanned};
 ghost use Rattle.ut_engine.specs.Serves.{Serves};
 
@@ -11,7 +10,7 @@ use crate::engine::Engine;
 use crate::error::{PhaseError, SaveError};
 use std::alloc::Global;
 use ut_outside::Disk;
-use ut_plain::{Progress, Refusal, Reply};
+use ut_plain::Progress;
 
 impl<'d, D: Disk> Engine<'d, D> {
     /// Begins a savepoint of what the store holds now, as `save begin` does, and says how many pages it has.
@@ -24,7 +23,7 @@ impl<'d, D: Disk> Engine<'d, D> {
         ensures down { self.new.store.down ≡ is_save_fault result }
         ensures loan { self.new.loan ≡ self.old.loan }
     {
-        begin_answer(self.store.save_begin(alloc, self.disk))
+        self.store.save_begin(alloc, self.disk)
     }
 
     /// Writes its next page, as `save step 1` does. It takes no memory.
@@ -35,7 +34,7 @@ impl<'d, D: Disk> Engine<'d, D> {
         ensures down { self.new.store.down ≡ is_phase_fault result }
         ensures loan { self.new.loan ≡ self.old.loan }
     {
-        phase_answer(self.store.save_step(self.disk, 1))
+        self.store.save_step(self.disk, 1)
     }
 
     /// Writes its root once all its pages are written, as `save seal` does. It takes no memory.
@@ -46,7 +45,7 @@ impl<'d, D: Disk> Engine<'d, D> {
         ensures down { self.new.store.down ≡ is_phase_fault result }
         ensures loan { self.new.loan ≡ self.old.loan }
     {
-        phase_answer(self.store.save_seal(self.disk))
+        self.store.save_seal(self.disk)
     }
 
     /// Selects its root once that is written, as `save flip` does, and says how many entries that has. It takes no memory.
@@ -57,7 +56,7 @@ impl<'d, D: Disk> Engine<'d, D> {
         ensures down { self.new.store.down ≡ is_phase_fault result }
         ensures loan { self.new.loan ≡ self.old.loan }
     {
-        flip_answer(self.store.save_flip(self.disk))
+        self.store.save_flip(self.disk)
     }
 
     /// Gives it up, as `save drop` does. The disk isn't called.
@@ -68,7 +67,7 @@ impl<'d, D: Disk> Engine<'d, D> {
         ensures disk { self.new.disk ≡ self.old.disk }
         ensures loan { self.new.loan ≡ self.old.loan }
     {
-        phase_answer(self.store.save_drop(self.disk))
+        self.store.save_drop(self.disk)
     }
 
     /// How far it is.
@@ -77,46 +76,5 @@ impl<'d, D: Disk> Engine<'d, D> {
         ensures { result ≡ progress_of self.now.store.saving }
     {
         self.store.progress()
-    }
-}
-
-// What the reply to the begin of a savepoint says.
-fn begin_answer(reply: Reply) -> Result<u32, SaveError>
-    requires { TellsBegin reply }
-    ensures { save_reply result ≡ reply }
-{
-    match reply {
-        Reply::Saving { pages, .. } => Ok(pages),
-        Reply::Refused(Refusal::State(why)) => Err(SaveError::State(why)),
-        Reply::Refused(Refusal::Full) => Err(SaveError::Full),
-        Reply::Refused(Refusal::Memory) => Err(SaveError::Memory),
-        Reply::DiskFault => Err(SaveError::Disk),
-        _ => unreachable!(),
-    }
-}
-
-// What the reply to a page, a root or a drop says.
-fn phase_answer(reply: Reply) -> Result<(), PhaseError>
-    requires { (saving : Option Saving) × TellsPhase reply saving }
-    ensures { (saving : Option Saving) → TellsPhase reply saving → phase_reply result saving ≡ reply }
-{
-    match reply {
-        Reply::Done | Reply::Saving { .. } | Reply::Sealed(_) => Ok(()),
-        Reply::Refused(Refusal::State(why)) => Err(PhaseError::State(why)),
-        Reply::DiskFault => Err(PhaseError::Disk),
-        _ => unreachable!(),
-    }
-}
-
-// What the reply to a flip says.
-fn flip_answer(reply: Reply) -> Result<u32, PhaseError>
-    requires { TellsFlip reply }
-    ensures { flip_reply result ≡ reply }
-{
-    match reply {
-        Reply::Root(entries) => Ok(entries),
-        Reply::Refused(Refusal::State(why)) => Err(PhaseError::State(why)),
-        Reply::DiskFault => Err(PhaseError::Disk),
-        _ => unreachable!(),
     }
 }

@@ -1,5 +1,5 @@
 //! The savepoint of a store: it begins, writes its pages and then its root, selects that, or is dropped.
-ghost use Rattle.std.specs.Prelude.{◌≡◌, ◌<◌, ◌≤◌, ◌+◌, ◌^◌, ℕ, min, true, None, Some, length, IsTrue, IfOk, IfSome, IfNone, IsSome, OnOk};
+ghost use Rattle.std.specs.Prelude.{◌≡◌, ◌<◌, ◌≤◌, ◌+◌, ◌^◌, ℕ, min, true, None, Some, length, IsTrue, IfOk, IfSome, IfNone, OnOk};
 ghost use Rattle.ut_outside.specs.Faults.{HasCause};
 ghost use Rattle.ut_plain.specs.declared.reply.Reply.TheVariants as replies;
 ghost use Rattle.ut_plain.specs.declared.statement.Statement.TheVariants as statements;
@@ -18,17 +18,19 @@ ghost use Rattle.ut_store.specs.Stands.{StandsFor};
 ghost use Rattle.ut_store.specs.Standing.{Stands};
 ghost use Rattle.ut_engine.specs.Handing.{AreReady};
 ghost use Rattle.ut_engine.specs.Runs.{Runs};
-ghost use Rattle.ut_engine.specs.Savepoints.{progress_of, told_of, IsCounted, IsInTurn, IsOutOfTurn, TellsBegin, TellsPhase, TellsFlip};
+ghost use Rattle.ut_engine.specs.Savepoints.{progress_of, save_reply, phase_reply, flip_reply, IsCounted, IsInTurn, IsOutOfTurn};
 ghost use Rattle.ut_engine.specs.Saves.{pages_left, MayGoOn, Goes, Seals, MaySelect, SelectsRoot, IsLeft, LeavesLog, MayLeaveLog, IsCapturedRoot, HasPlanned};
 ghost use Rattle.ut_engine.specs.Serves.{Serves};
 
+use crate::error::{PhaseError, SaveError};
 use crate::logged::LoggedStore;
+use crate::replies::{flip_reply, save_reply, told};
 use std::alloc::{AllocError, Global};
 use ut_capture::captured;
 use ut_names::Piece;
 use ut_outside::{Disk, Failed, Which};
 use ut_pages::Root;
-use ut_plain::{Progress, Refusal, Reply, Statement, save_why};
+use ut_plain::{Progress, Refusal, Reply, Statement, Why, save_why};
 use ut_redo::other_log;
 use ut_savepoint::{Savepoint, plan};
 
@@ -42,107 +44,137 @@ impl LoggedStore {
         ensures planned { piece ≡ Piece.Begin → (pages : ℕ) → result ≡ replies.Saving 0 pages → HasPlanned self.old self.new.saving pages }
     {
         match piece {
-            Piece::Begin => self.save_begin(alloc, disk),
-            Piece::Step { n } => self.save_step(disk, n),
-            Piece::Seal => self.save_seal(disk),
-            Piece::Flip => self.save_flip(disk),
-            Piece::GiveUp => self.save_drop(disk),
+            Piece::Begin => save_reply(self.save_begin(alloc, disk)),
+            Piece::Step { n } => {
+                let answer = self.save_step(disk, n);
+                self.phase_reply(answer)
+            }
+            Piece::Seal => {
+                let answer = self.save_seal(disk);
+                self.phase_reply(answer)
+            }
+            Piece::Flip => flip_reply(self.save_flip(disk)),
+            Piece::GiveUp => {
+                let answer = self.save_drop(disk);
+                self.phase_reply(answer)
+            }
         }
     }
 
     /// Begins a savepoint: it captures the store as it is, and the log leaves the file in which the selected root's log begins.
-    pub(crate) fn save_begin<D: Disk>(&mut self, alloc: Global, disk: &mut D) -> Reply
+    pub(crate) fn save_begin<D: Disk>(
+        &mut self,
+        alloc: Global,
+        disk: &mut D,
+    ) -> Result<u32, SaveError>
         requires runs { (p : Plain) × Runs self.old (D.view disk.old) p }
-        ensures serves { (session : ℕ) → Serves self.old (D.view disk.old) session statements.SaveBegin result self.new (D.view disk.new) }
-        ensures tells { TellsBegin result }
-        ensures planned { (pages : ℕ) → result ≡ replies.Saving 0 pages → HasPlanned self.old self.new.saving pages }
+        ensures serves { (session : ℕ) → Serves self.old (D.view disk.old) session statements.SaveBegin (save_reply result) self.new (D.view disk.new) }
+        ensures planned { IfOk result (HasPlanned self.old self.new.saving) }
     {
-        if let Some(reply) = self.refused(&Statement::SaveBegin) {
-            return reply;
+        if let Some(why) = self.refused(&Statement::SaveBegin) {
+            return Err(SaveError::State(why));
         }
         match self.planned(alloc) {
-            Err(_) => Reply::Refused(Refusal::Memory),
-            Ok(None) => Reply::Refused(Refusal::Full),
+            Err(_) => Err(SaveError::Memory),
+            Ok(None) => Err(SaveError::Full),
             Ok(Some(savepoint)) => match self.leave_log(disk) {
-                Err(_) => self.goes_down(),
+                Err(_) => {
+                    self.down = true;
+                    Err(SaveError::Disk)
+                }
                 Ok(()) => {
+                    let pages = page_count(&savepoint);
                     self.saving = Some(savepoint);
-                    self.told()
+                    Ok(pages)
                 }
             },
         }
     }
 
     /// Writes the next n pages, or those that are left.
-    pub(crate) fn save_step<D: Disk>(&mut self, disk: &mut D, n: u32) -> Reply
+    pub(crate) fn save_step<D: Disk>(&mut self, disk: &mut D, n: u32) -> Result<(), PhaseError>
         requires runs { (p : Plain) × Runs self.old (D.view disk.old) p }
-        ensures serves { (session : ℕ) → Serves self.old (D.view disk.old) session (statements.SaveStep n) result self.new (D.view disk.new) }
-        ensures tells { TellsPhase result self.new.saving }
+        ensures serves { (session : ℕ) → Serves self.old (D.view disk.old) session (statements.SaveStep n) (phase_reply result self.new.saving) self.new (D.view disk.new) }
+        ensures counted { IfOk result (λ _. IsCounted self.new.saving) }
     {
-        if let Some(reply) = self.refused(&Statement::SaveStep { n }) {
-            return reply;
+        if let Some(why) = self.step_refused(n) {
+            return Err(PhaseError::State(why));
         }
         match self.write_pages(disk, n) {
-            Err(_) => self.goes_down(),
-            Ok(()) => self.told(),
+            Ok(()) => Ok(()),
+            Err(_) => {
+                self.down = true;
+                Err(PhaseError::Disk)
+            }
         }
     }
 
     /// Writes the root, whose pages are written.
-    pub(crate) fn save_seal<D: Disk>(&mut self, disk: &mut D) -> Reply
+    pub(crate) fn save_seal<D: Disk>(&mut self, disk: &mut D) -> Result<(), PhaseError>
         requires runs { (p : Plain) × Runs self.old (D.view disk.old) p }
-        ensures serves { (session : ℕ) → Serves self.old (D.view disk.old) session statements.SaveSeal result self.new (D.view disk.new) }
-        ensures tells { TellsPhase result self.new.saving }
+        ensures serves { (session : ℕ) → Serves self.old (D.view disk.old) session statements.SaveSeal (phase_reply result self.new.saving) self.new (D.view disk.new) }
+        ensures counted { IfOk result (λ _. IsCounted self.new.saving) }
     {
-        if let Some(reply) = self.refused(&Statement::SaveSeal) {
-            return reply;
+        if let Some(why) = self.refused(&Statement::SaveSeal) {
+            return Err(PhaseError::State(why));
         }
         match self.write_root(disk) {
-            Err(_) => self.goes_down(),
-            Ok(()) => self.told(),
+            Ok(()) => Ok(()),
+            Err(_) => {
+                self.down = true;
+                Err(PhaseError::Disk)
+            }
         }
     }
 
-    /// Selects the root, which is written.
-    pub(crate) fn save_flip<D: Disk>(&mut self, disk: &mut D) -> Reply
+    /// Selects the root, which is written, and tells how many entries it has.
+    pub(crate) fn save_flip<D: Disk>(&mut self, disk: &mut D) -> Result<u32, PhaseError>
         requires runs { (p : Plain) × Runs self.old (D.view disk.old) p }
-        ensures serves { (session : ℕ) → Serves self.old (D.view disk.old) session statements.SaveFlip result self.new (D.view disk.new) }
-        ensures tells { TellsFlip result }
+        ensures serves { (session : ℕ) → Serves self.old (D.view disk.old) session statements.SaveFlip (flip_reply result) self.new (D.view disk.new) }
     {
-        if let Some(reply) = self.refused(&Statement::SaveFlip) {
-            return reply;
+        if let Some(why) = self.refused(&Statement::SaveFlip) {
+            return Err(PhaseError::State(why));
         }
         match self.select_root(disk) {
-            Err(_) => self.goes_down(),
-            Ok(entries) => Reply::Root(entries),
+            Ok(entries) => Ok(entries),
+            Err(_) => {
+                self.down = true;
+                Err(PhaseError::Disk)
+            }
         }
     }
 
     /// Gives the savepoint up. The disk is only looked at.
-    pub(crate) fn save_drop<D: Disk>(&mut self, disk: &D) -> Reply
+    pub(crate) fn save_drop<D: Disk>(&mut self, disk: &D) -> Result<(), PhaseError>
         requires runs { (p : Plain) × Runs self.old (D.view disk.now) p }
-        ensures serves { (session : ℕ) → Serves self.old (D.view disk.now) session statements.SaveDrop result self.new (D.view disk.now) }
-        ensures tells { TellsPhase result self.new.saving }
+        ensures serves { (session : ℕ) → Serves self.old (D.view disk.now) session statements.SaveDrop (phase_reply result self.new.saving) self.new (D.view disk.now) }
+        ensures counted { IfOk result (λ _. IsCounted self.new.saving) }
     {
         let _moment = disk.calls();
-        if let Some(reply) = self.refused(&Statement::SaveDrop) {
-            return reply;
+        if let Some(why) = self.refused(&Statement::SaveDrop) {
+            return Err(PhaseError::State(why));
         }
         self.saving = None;
-        self.told()
+        Ok(())
     }
 
-    // The refusal of a statement of the savepoint, where it isn't its turn.
-    fn refused(&self, st: &Statement) -> Option<Reply>
+    // Why a statement of the savepoint is refused, where it isn't its turn.
+    fn refused(&self, st: &Statement) -> Option<Why>
         requires save { IsTrue (is_save st.now) }
         requires counted { IsCounted self.now.saving }
-        ensures refused { IfSome result (IsOutOfTurn self.now.saving st.now) }
+        ensures refused { IfSome result (λ why. IsOutOfTurn self.now.saving st.now (Reply.Refused (Refusal.State why))) }
         ensures passes { IfNone result (IsInTurn self.now.saving st.now) }
     {
-        match save_why(self.progress(), st) {
-            Some(why) => Some(Reply::Refused(Refusal::State(why))),
-            None => None,
-        }
+        save_why(self.progress(), st)
+    }
+
+    // Why a step is: its statement is made and dropped here, since each of its variants would be dropped at each exit of a caller.
+    fn step_refused(&self, n: u32) -> Option<Why>
+        requires { IsCounted self.now.saving }
+        ensures refused { IfSome result (λ why. IsOutOfTurn self.now.saving (statements.SaveStep n) (Reply.Refused (Refusal.State why))) }
+        ensures passes { IfNone result (IsInTurn self.now.saving (statements.SaveStep n)) }
+    {
+        self.refused(&Statement::SaveStep { n })
     }
 
     /// How far the savepoint is.
@@ -156,25 +188,16 @@ impl LoggedStore {
         }
     }
 
-    // What is told of it.
-    fn told(&self) -> Reply
-        requires { IsCounted self.now.saving }
-        ensures { result ≡ told_of (progress_of self.now.saving) }
+    // The reply to a page, to the root and to a drop: how far it is then.
+    fn phase_reply(&self, answer: Result<(), PhaseError>) -> Reply
+        requires { IfOk answer (λ _. IsCounted self.now.saving) }
+        ensures { result ≡ phase_reply answer self.now.saving }
     {
-        match self.progress() {
-            Progress::Idle => Reply::Done,
-            Progress::Writing { done, pages } => Reply::Saving { done, pages },
-            Progress::Sealed { pages } => Reply::Sealed(pages),
+        match answer {
+            Ok(()) => told(self.progress()),
+            Err(PhaseError::State(why)) => Reply::Refused(Refusal::State(why)),
+            Err(PhaseError::Disk) => Reply::DiskFault,
         }
-    }
-
-    /// The disk failed: the store has to be opened again.
-    pub(crate) fn goes_down(&mut self) -> Reply
-        ensures reply { result ≡ Reply.DiskFault }
-        ensures down { self.new ≡ record self.old { down = true } }
-    {
-        self.down = true;
-        Reply::DiskFault
     }
 
     // The savepoint of what the store holds now, before anything is written. There is none where its pages have no numbers.
@@ -261,14 +284,13 @@ impl LoggedStore {
 
     // How many pages aren't written yet.
     fn pages_left(&self) -> u32
-        requires under_way { IsSome self.now.saving }
-        requires counted { IsCounted self.now.saving }
+        requires { IsCounted self.now.saving }
         ensures { result ≡ pages_left self.now.saving }
     {
-        let Some(savepoint) = &self.saving else {
-            unreachable!()
-        };
-        savepoint.pages().saturating_sub(savepoint.done()) as u32
+        match &self.saving {
+            None => 0,
+            Some(savepoint) => savepoint.pages().saturating_sub(savepoint.done()) as u32,
+        }
     }
 
     // Writes the next page.
@@ -281,16 +303,16 @@ impl LoggedStore {
         ensures cause { HasCause (D.view disk.old).faults (D.view disk.new).faults result }
         ensures memory { self.new.store ≡ self.old.store }
     {
-        let Some(savepoint) = &mut self.saving else {
-            unreachable!()
-        };
-        let Some(write) = savepoint.next() else {
-            unreachable!()
-        };
-        self.files
-            .put_page(disk, write.page, write.next, &write.bytes)?;
-        savepoint.wrote();
-        Ok(())
+        if let Some(savepoint) = &mut self.saving
+            && let Some(write) = savepoint.next()
+        {
+            self.files
+                .put_page(disk, write.page, write.next, &write.bytes)?;
+            savepoint.wrote();
+            return Ok(());
+        }
+        // One is under way, and a page is left.
+        unreachable!()
     }
 
     // Writes the root.
@@ -302,6 +324,7 @@ impl LoggedStore {
         ensures cause { HasCause (D.view disk.old).faults (D.view disk.new).faults result }
         ensures memory { self.new.store ≡ self.old.store }
     {
+        // It is this savepoint's turn to be sealed, so there is one.
         let Some(savepoint) = &mut self.saving else {
             unreachable!()
         };
@@ -320,6 +343,7 @@ impl LoggedStore {
         ensures cause { HasCause (D.view disk.old).faults (D.view disk.new).faults result }
         ensures memory { self.new.store ≡ self.old.store }
     {
+        // Its root is written, so there is one.
         let Some(savepoint) = self.saving.take() else {
             unreachable!()
         };
@@ -336,7 +360,7 @@ fn progress_in(savepoint: &Savepoint) -> Progress
     requires { IsCounted (Some savepoint.now) }
     ensures { result ≡ progress_of (Some savepoint.now) }
 {
-    let pages = savepoint.pages() as u32;
+    let pages = page_count(savepoint);
     if savepoint.is_sealed() {
         return Progress::Sealed { pages };
     }
@@ -344,15 +368,21 @@ fn progress_in(savepoint: &Savepoint) -> Progress
     Progress::Writing { done, pages }
 }
 
+// How many pages it has.
+fn page_count(savepoint: &Savepoint) -> u32
+    requires { IsCounted (Some savepoint.now) }
+    ensures { result ≡ length savepoint.now.planned }
+{
+    savepoint.pages() as u32
+}
+
 /// The log's file of a number in a root.
 pub(crate) fn log_file(number: u32) -> Which
-    requires { number < 2 }
     ensures { result ≡ log_file number }
 {
     match number {
         0 => Which::Redo,
-        1 => Which::Redo2,
-        _ => unreachable!(),
+        _ => Which::Redo2,
     }
 }
 
@@ -364,7 +394,6 @@ fn number_of(file: Which) -> u32
 {
     match file {
         Which::Redo => 0,
-        Which::Redo2 => 1,
-        Which::Pages => unreachable!(),
+        _ => 1,
     }
 }

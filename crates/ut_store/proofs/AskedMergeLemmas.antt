@@ -8,7 +8,7 @@ use Rattle.ut_plain.specs.Stages.{Stages}
 use Rattle.ut_table.specs.Pending as tables
 use Rattle.ut_staged.proofs.ListLemmas.{get-there, get-map, none_some}
 use Rattle.ut_tables.specs.Standing.{merge_at}
-use Rattle.std.proofs.Common.{length, cond, arith, ℕ, ◌<◌, ◌≡◌, Bool, true, false, List, Option, None, Some, is_some, refl, sym, ap, ◌∙◌, subst, IsTrue, slice_get}
+use Rattle.std.proofs.Common.{length, cond, arith, ℕ, ◌≡◌, Bool, true, false, List, Option, None, Some, is_some, refl, sym, ap, ◌∙◌, subst, IsTrue, slice_get}
 use Rattle.ut_value.specs.declared.entry.MergeKind.{MergeKind}
 use Rattle.ut_plain.specs.declared.statement.Statement.{Statement}
 use Rattle.ut_plain.specs.declared.statement.Statement.TheVariants as statements
@@ -116,12 +116,3 @@ nothing_pending e st none = by st.plain.pending st.stands.counts.pending st.stan
         ∙ ap (λ (o : Option Staged). option_and_then tables.pending_job o) t.1
         ∙ ap (λ (o : Option PendingMerge). option_map (tables.job_of t.0) o) merging in
         absurd (none_some (tables.job_of t.0 m) (sym none ∙ job))
-
--- then its end is refused
-pub end_nothing : (e : Held) (session : ℕ) → session < 17 → e.counts.pending ≡ None → Answers e session statements.MergeEnd (Answered (replies.Refused (refusals.State whys.Nothing))) e
-end_nothing e session small idle = state_why_refused e session statements.MergeEnd whys.Nothing small refl
-    (ap (λ (o : Option PendingMerge). state_refusal (is_some (opened_at e.seats session)) o statements.MergeEnd) idle ∙ by (is_some (opened_at e.seats session)))
-  where
-    by : (inside : Bool) → state_refusal inside None statements.MergeEnd ≡ Some (refusals.State whys.Nothing)
-    by true = refl
-    by false = refl

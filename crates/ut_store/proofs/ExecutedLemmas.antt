@@ -1,5 +1,5 @@
 -- What a task comes to that changes rows.
-use Rattle.std.proofs.Common.{ℕ, ◌≡◌, ◌<◌, ◌≤◌, ◌+◌, List, [], length, Option, None, Some, sym, ap, ◌∙◌, subst, arith}
+use Rattle.std.proofs.Common.{ℕ, ◌≡◌, ◌<◌, ◌≤◌, ◌+◌, [], length, Option, None, Some, sym, ap, ◌∙◌, subst, arith}
 use Rattle.ut_value.specs.Spelling.{ops_len}
 use Rattle.ut_plain.specs.declared.statement.Statement.{Statement}
 use Rattle.ut_plain.specs.declared.reply.Refusal.{Refusal}

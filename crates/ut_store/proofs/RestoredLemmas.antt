@@ -1,5 +1,5 @@
 -- A store that was just made stands for the plain state without tables.
-use Rattle.std.proofs.Common.{false, ℕ, zero, suc, ◌+◌, ◌≤◌, ◌≡◌, List, [], length, map, replicate, max, Option, None, Some, refl, sym, ap, ◌∙◌, subst, arith}
+use Rattle.std.proofs.Common.{false, ℕ, zero, suc, ◌+◌, ◌≤◌, ◌≡◌, List, [], replicate, max, Option, None, Some, refl, sym, ap, ◌∙◌, subst, arith}
 use Rattle.std.specs.Ordering.{nat_cmp}
 use Rattle.std.specs.FinMap as finmap
 use Rattle.ut_value.specs.declared.entry.Entry.TheVariants.{Txn}

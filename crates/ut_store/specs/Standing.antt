@@ -1,5 +1,5 @@
 -- The facts that a running store keeps, and those with which it begins.
-use Rattle.std.specs.Prelude.{ℕ, suc, zero, ◌≡◌, Bool, true, false, List, [], ◌∷◌, None}
+use Rattle.std.specs.Prelude.{ℕ, suc, zero, Bool, true, false, List}
 use Rattle.ut_value.specs.declared.entry.Entry.{Entry}
 use Rattle.ut_plain.specs.declared.statement.Statement.{Statement}
 use Rattle.ut_plain.specs.declared.statement.Statement.TheVariants as statements

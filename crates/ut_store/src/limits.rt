@@ -32,10 +32,12 @@ impl Store {
             return Err(Refusal::Full);
         };
         let look = self.look(session);
-        match self
-            .rows
-            .first_taken(work.place, look.snapshot, look.own, work.changes.hits())
-        {
+        match self.rows.first_taken(
+            work.place,
+            look.snapshot.at,
+            look.snapshot.own,
+            work.changes.hits(),
+        ) {
             Some(id) => Err(Refusal::Conflict(id)),
             None => Ok(bytes),
         }

@@ -44,8 +44,13 @@ impl Store {
     {
         let look = self.look(session);
         let preds = rows.preds.as_slice();
-        self.rows
-            .hits(alloc, rows.table, look.snapshot, look.own, preds)
+        self.rows.hits(
+            alloc,
+            rows.table,
+            look.snapshot.at,
+            look.snapshot.own,
+            preds,
+        )
     }
 
     /// The rows of the table of a name in the state of the whole journal, by ascending id. There are none where there is no such table.
@@ -54,6 +59,7 @@ impl Store {
         ensures { IfOk result (Lists self.now name.now) }
     {
         let look = self.look(OPERATOR);
-        self.rows.rows(alloc, name, look.snapshot, look.own)
+        self.rows
+            .rows(alloc, name, look.snapshot.at, look.snapshot.own)
     }
 }

@@ -16,12 +16,23 @@ use ut_txn::Sessions;
 const FIRST_ID: u32 = 1;
 
 /// A store in memory. Sessions 1 to 16 have transactions; session 0 has the statements of the store.
-#[derive(Drop)]
 pub struct Store {
     pub(crate) rows: Rows,
     pub(crate) sessions: Sessions,
     pub(crate) counts: Counts,
     pub(crate) frame: Frame,
+}
+
+// One step of a proof, wherever one is dropped.
+impl Drop for Store {
+    fn drop(self) {
+        let Store {
+            rows: _,
+            sessions: _,
+            counts: _,
+            frame: _,
+        } = self;
+    }
 }
 
 impl Model for Store {

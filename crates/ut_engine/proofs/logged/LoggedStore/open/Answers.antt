@@ -1,4 +1,4 @@
-use Rattle.std.proofs.Common.{◌≡◌, false, List, Err, None, refl, sym, ◌∙◌, ap, subst, arith}
+use Rattle.std.proofs.Common.{◌≡◌, false, List, Err, None, refl, sym, ◌∙◌, ap, subst}
 use Rattle.std.specs.Prelude.{IsTrue}
 use Rattle.std.proofs.lemmas.Result.{err_from_is_err_and}
 use Rattle.ut_value.specs.declared.entry.Entry.{Entry}
@@ -69,11 +69,6 @@ returns-in_err-restored-clause-damaged g c is =
     entries_damaged _ _ _ _ read image.field-0 image.ensures.found c.in_ok-redo.entries c.in_ok-redo.redo.place (λ told.
     subst (λ (file : Which). LogHolds (record { file = file; end = image.field-0.root.offset }) c.in_ok-redo.entries c.in_ok-redo.redo.place (g.D.Disk.view c.read_image.new.disk).seen) c.log_file-begins.ensures (c.in_ok-redo.ensures.found told))
     (c.in_err-restored.ensures.damaged (ap Err error))
-
-pub log_file-begins-requires : goal.log_file-begins-requires
-log_file-begins-requires g c =
-    let allowed = c.in_ok-pages.ensures.begins.1.rules.allowed in
-    omega (arith, allowed.file, allowed.version)
 
 pub returns-clause-opens : goal.returns-clause-opens
 returns-clause-opens g c =

@@ -1,13 +1,8 @@
-use Rattle.std.proofs.Common.{None, Some, refl}
-use Rattle.ut_engine.proofs.PhaseLemmas.{why_found}
+use Rattle.ut_engine.proofs.PhaseLemmas.{why_refused, why_passed}
 use Rattle.ut_engine.proofs.logged.LoggedStore.refused.Goals as goal
 
-pub returns-in-Some-clause-refused : goal.returns-in-Some-clause-refused
-returns-in-Some-clause-refused c = record {
-  why = c.in-Some.why;
-  says = refl;
-  each = why_found c.args.self.now.saving c.args.st.now c.progress.result c.save_why.result (Some c.in-Some.why) c.progress.ensures c.save_why.ensures c.in-Some.is;
-}
+pub returns-clause-refused : goal.returns-clause-refused
+returns-clause-refused c = why_refused c.args.self.now.saving c.args.st.now c.progress.result c.save_why.result c.progress.ensures c.save_why.ensures
 
-pub returns-in-None-clause-passes : goal.returns-in-None-clause-passes
-returns-in-None-clause-passes c = why_found c.args.self.now.saving c.args.st.now c.progress.result c.save_why.result None c.progress.ensures c.save_why.ensures c.in-None.is
+pub returns-clause-passes : goal.returns-clause-passes
+returns-clause-passes c = why_passed c.args.self.now.saving c.args.st.now c.progress.result c.save_why.result c.progress.ensures c.save_why.ensures

@@ -1,7 +1,8 @@
-use Rattle.std.proofs.Common.{refl, ap, ◌∙◌}
+use Rattle.std.proofs.Common.{refl}
+use Rattle.ut_plain.specs.declared.reply.Reply.TheVariants as replies
 use Rattle.ut_plain.specs.declared.statement.Statement.TheVariants as statements
-use Rattle.ut_engine.specs.Logged.{Logged}
-use Rattle.ut_engine.proofs.CallLemmas.{out_of_turn_told, fault_told, phase_told, sealed_counted, serves_unsealed}
+use Rattle.ut_engine.specs.Savepoints.{progress_of, told_of}
+use Rattle.ut_engine.proofs.CallLemmas.{sealed_counted, serves_unsealed}
 use Rattle.ut_engine.proofs.PhaseLemmas.{in_turn, is_counted}
 use Rattle.ut_engine.proofs.WriteLemmas.{may_seal, serves_sealed}
 use Rattle.ut_engine.proofs.UnchangedLemmas.{serves_out_of_turn}
@@ -13,25 +14,16 @@ refused-requires-clause-counted g c = is_counted _ _ _ c.requires.runs.1
 pub returns-in-Some-clause-serves : goal.returns-in-Some-clause-serves
 returns-in-Some-clause-serves g c session = serves_out_of_turn c.args.self.now _ session statements.SaveSeal _ (g.met.D.Disk.only_now c.args.disk.now) refl c.in-Some.ensures.refused
 
-pub returns-in-Some-clause-tells : goal.returns-in-Some-clause-tells
-returns-in-Some-clause-tells g c = out_of_turn_told _ _ _ _ c.in-Some.ensures.refused
-
 pub write_root-requires : goal.write_root-requires
 write_root-requires g c = may_seal _ _ 0 _ c.requires.runs.1 (in_turn _ _ statements.SaveSeal c.in_default.ensures.passes _ c.requires.runs.1)
 
-pub told-requires : goal.told-requires
-told-requires g c = sealed_counted _ _ _ _ _ c.requires.runs.1 (in_turn _ _ statements.SaveSeal c.in_default.ensures.passes _ c.requires.runs.1) c.in-Ok.ensures.written c.write_root.ensures.stays
+pub returns-in-Ok-clause-counted : goal.returns-in-Ok-clause-counted
+returns-in-Ok-clause-counted g c = sealed_counted _ _ _ _ _ c.requires.runs.1 (in_turn _ _ statements.SaveSeal c.in_default.ensures.passes _ c.requires.runs.1) c.in-Ok.ensures.written c.write_root.ensures.stays
 
 pub returns-in-Ok-clause-serves : goal.returns-in-Ok-clause-serves
 returns-in-Ok-clause-serves g c session =
-    serves_sealed c.args.self.now _ _ _ session c.told.result (in_turn _ _ statements.SaveSeal c.in_default.ensures.passes) c.in-Ok.ensures.written c.write_root.ensures.stays c.told.ensures c.write_root.ensures.told c.in-Ok.ensures.cause.still
-
-pub returns-in-Ok-clause-tells : goal.returns-in-Ok-clause-tells
-returns-in-Ok-clause-tells g c = phase_told c.told.result c.write_root.new.self.saving c.told.ensures
+    serves_sealed c.args.self.now _ _ _ session (told_of (progress_of c.write_root.new.self.saving)) (in_turn _ _ statements.SaveSeal c.in_default.ensures.passes) c.in-Ok.ensures.written c.write_root.ensures.stays refl c.write_root.ensures.told c.in-Ok.ensures.cause.still
 
 pub returns-in-Err-clause-serves : goal.returns-in-Err-clause-serves
 returns-in-Err-clause-serves g c session =
-    serves_unsealed c.args.self.now c.goes_down.new.self _ _ session c.goes_down.result (in_turn _ _ statements.SaveSeal c.in_default.ensures.passes) c.write_root.ensures.stays c.goes_down.ensures.reply (ap (λ (e : Logged). e.down) c.goes_down.ensures.down) (ap (λ (e : Logged). e.store) c.goes_down.ensures.down ∙ c.write_root.ensures.memory) c.write_root.ensures.told c.write_root.ensures.cause.later c.in-Err.ensures.cause.failed
-
-pub returns-in-Err-clause-tells : goal.returns-in-Err-clause-tells
-returns-in-Err-clause-tells g c = fault_told c.goes_down.result c.goes_down.new.self.saving c.goes_down.ensures.reply
+    serves_unsealed c.args.self.now _ _ _ session replies.DiskFault (in_turn _ _ statements.SaveSeal c.in_default.ensures.passes) c.write_root.ensures.stays refl refl c.write_root.ensures.memory c.write_root.ensures.told c.write_root.ensures.cause.later c.in-Err.ensures.cause.failed

@@ -5,11 +5,8 @@ use Rattle.ut_durable.specs.Journals.{log_file}
 use Rattle.ut_durable.specs.Saving.{Saving}
 use Rattle.ut_engine.specs.Logged.{Logged}
 use Rattle.ut_engine.specs.Saves.{SelectsRoot}
-use Rattle.ut_engine.proofs.RootLemmas.{select_settled, root_file, selected_root, may_select_root}
+use Rattle.ut_engine.proofs.RootLemmas.{select_settled, selected_root, may_select_root}
 use Rattle.ut_engine.proofs.logged.LoggedStore.select_root.Goals as goal
-
-pub log_file-begins-requires : goal.log_file-begins-requires
-log_file-begins-requires g c = root_file c.args.self.now _ c.in-Some.savepoint _ c.requires (sym c.take.ensures.value ∙ c.in-Some.is) c.root-2.ensures
 
 pub flip-requires : goal.flip-requires
 flip-requires g c = record { settled = select_settled c.args.self.now _ c.requires }

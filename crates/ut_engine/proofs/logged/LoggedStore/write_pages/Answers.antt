@@ -1,5 +1,4 @@
-use Rattle.std.proofs.Common.{◌≡◌, ℕ, min, ◌∙◌, refl, sym, ap, subst, arith}
-use Rattle.std.specs.Option.{IsSome}
+use Rattle.std.proofs.Common.{◌≡◌, ℕ, min, ◌∙◌, refl, ap, subst, arith}
 use Rattle.ut_outside.specs.Disk.{View}
 use Rattle.ut_durable.specs.Calls.{FilesHeld, Stays}
 use Rattle.ut_engine.specs.Logged.{Logged}
@@ -16,9 +15,6 @@ loop-init g c =
       told = refl;
       still = refl;
     }
-
-pub pages_left-requires-clause-under_way : goal.pages_left-requires-clause-under_way
-pages_left-requires-clause-under_way g c = subst IsSome (sym c.requires.goes.under_way) refl
 
 pub write_page-requires-clause-goes : goal.write_page-requires-clause-goes
 write_page-requires-clause-goes g c =

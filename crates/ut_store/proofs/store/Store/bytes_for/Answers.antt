@@ -1,4 +1,4 @@
-use Rattle.std.proofs.Common.{◌≡◌, ◌<◌, ◌-◌, ◌∙◌, ◌||◌, true, false, nat_lt, length, is_some, sym, ap, subst}
+use Rattle.std.proofs.Common.{◌≡◌, ◌-◌, ◌∙◌, ◌||◌, true, false, nat_lt, length, is_some, sym, ap, subst}
 use Rattle.ut_plain.specs.Rows.{inserts_of}
 use Rattle.ut_value.specs.Spelling.{ops_len}
 use Rattle.ut_tables.specs.Works.{ops_in}

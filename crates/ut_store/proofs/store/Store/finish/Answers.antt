@@ -1,4 +1,4 @@
-use Rattle.std.proofs.Common.{◌≡◌, ◌<◌, ◌∙◌, None, Some, length, sym, ap, subst}
+use Rattle.std.proofs.Common.{◌≡◌, ◌∙◌, None, Some, sym, ap, subst}
 use Rattle.ut_tables.specs.Works.{ops_in}
 use Rattle.ut_txn.specs.Seats.{opened_at}
 use Rattle.ut_store.specs.declared.outcome.Outcome.{Outcome}

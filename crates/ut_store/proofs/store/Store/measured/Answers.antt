@@ -1,5 +1,4 @@
 use Rattle.std.proofs.Common.{◌≡◌, ◌∙◌, List, None, Some, sym, ap, subst}
-use Rattle.ut_look.specs.Look.{Sight}
 use Rattle.ut_scan.specs.declared.place.Found.{Found}
 use Rattle.ut_table.specs.Finds.{hits_of}
 use Rattle.ut_change.specs.Writes.{AreThere}

@@ -1,14 +1,11 @@
-use Rattle.std.proofs.Common.{ℕ, ◌≡◌, ◌<◌, true, length, Result, Ok, Err, Option, Some, None, refl, sym, ap, ◌∙◌, subst, slice_get}
+use Rattle.std.proofs.Common.{ℕ, ◌≡◌, ◌<◌, true, length, Result, Ok, Err, Option, Some, None, sym, ap, ◌∙◌, subst, slice_get}
 use Rattle.std.specs.Option.{option_map}
 use Rattle.ut_plain.specs.declared.stage.PendingMerge.{PendingMerge}
 use Rattle.ut_merge.specs.Jobs.{JobValue}
-use Rattle.ut_names.specs.declared.bound.Task.TheVariants as tasks
 use Rattle.ut_store.specs.declared.merges.MergeStop.{MergeStop}
 use Rattle.ut_store.specs.declared.merges.MergeStop.TheVariants as stops
-use Rattle.ut_store.specs.Executing.{ExecutesFor}
 use Rattle.ut_store.specs.Held.{Held}
 use Rattle.ut_store.specs.Merging.{has_room_to_merge}
-use Rattle.ut_store.specs.Outcomes.{merging_outcome}
 use Rattle.ut_store.specs.contracts.store.Store.{the_view}
 use Rattle.ut_store.proofs.AskedMergeLemmas.{begin_busy, begin_full, begin_lacks, begin_done}
 use Rattle.ut_store.proofs.AskedTableLemmas.{table_there, place_there}

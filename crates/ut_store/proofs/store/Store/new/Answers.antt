@@ -1,12 +1,10 @@
-use Rattle.std.proofs.Common.{◌≡◌, ℕ, List, [], map, refl, ◌∙◌, ap}
+use Rattle.std.proofs.Common.{◌≡◌, ℕ, [], map, refl, ◌∙◌, ap}
 use Rattle.std.proofs.lemmas.Result.{IfOk-weaker}
-use Rattle.ut_plain.specs.declared.table.Table.{Table}
 use Rattle.ut_plain.specs.Capture.{Directory}
 use Rattle.ut_plain.specs.Plain.{Plain, no_image, new_store}
-use Rattle.ut_staged.specs.Staged.{Staged}
 use Rattle.ut_table.specs.Contents.{TableValue}
 use Rattle.ut_tables.specs.declared.restored.Restored.{Restored}
-use Rattle.ut_tables.specs.Rows.{Rows, restored}
+use Rattle.ut_tables.specs.Rows.{restored}
 use Rattle.ut_tables.specs.Standing.{Opens}
 use Rattle.ut_store.specs.Stands.{StandsFor}
 use Rattle.ut_store.proofs.RestoredLemmas.{opens_new}

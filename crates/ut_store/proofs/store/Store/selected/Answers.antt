@@ -16,8 +16,8 @@ pub hits-requires : goal.hits-requires
 hits-requires c =
     let e = c.args.self.now in
     let n = c.args.rows.now.table in
-    subst (λ (ps : List ColumnPred). HasTable c.self.inside.rows.rows n (CanScan c.self.inside.rows.rows.fates c.look-look.result.snapshot c.look-look.result.own ps)) (sym c.as_slice-preds.ensures.value)
-    (subst (λ (k : ℕ). HasTable c.self.inside.rows.rows n (CanScan c.self.inside.rows.rows.fates k c.look-look.result.own c.args.rows.now.preds.items)) (sym (ap (λ (l : Sight). l.snapshot) c.look-look.ensures))
+    subst (λ (ps : List ColumnPred). HasTable c.self.inside.rows.rows n (CanScan c.self.inside.rows.rows.fates c.look-look.result.snapshot.at c.look-look.result.snapshot.own ps)) (sym c.as_slice-preds.ensures.value)
+    (subst (λ (k : ℕ). HasTable c.self.inside.rows.rows n (CanScan c.self.inside.rows.rows.fates k c.look-look.result.snapshot.own c.args.rows.now.preds.items)) (sym (ap (λ (l : Sight). l.snapshot) c.look-look.ensures))
     (subst (λ (o : Option ℕ). HasTable c.self.inside.rows.rows n (CanScan c.self.inside.rows.rows.fates (looks_at e c.args.session) o c.args.rows.now.preds.items)) (sym (ap (λ (l : Sight). l.own) c.look-look.ensures))
     (subst (λ (h : Held). HasTable h.rows n (CanScan h.rows.fates (looks_at e c.args.session) (own_at e c.args.session) c.args.rows.now.preds.items)) (sym c.self.view_is)
     (select_look _ _ _ c.requires.seat c.requires.stands c.requires.is))))
@@ -31,6 +31,6 @@ returns c =
     (λ s wanted at comp.
     subst (λ (h : Held). Hits h.rows (looks_at e c.args.session) (own_at e c.args.session) n (meets s.columns wanted) (hits_of found.items)) c.self.view_is
     (subst (λ (o : Option ℕ). Hits c.self.inside.rows.rows (looks_at e c.args.session) o n (meets s.columns wanted) (hits_of found.items)) (ap (λ (l : Sight). l.own) c.look-look.ensures)
-    (subst (λ (k : ℕ). Hits c.self.inside.rows.rows k c.look-look.result.own n (meets s.columns wanted) (hits_of found.items)) (ap (λ (l : Sight). l.snapshot) c.look-look.ensures)
+    (subst (λ (k : ℕ). Hits c.self.inside.rows.rows k c.look-look.result.snapshot.own n (meets s.columns wanted) (hits_of found.items)) (ap (λ (l : Sight). l.snapshot) c.look-look.ensures)
     (f s wanted (ap (λ (h : Held). slice_get h.rows.staged n) c.self.view_is ∙ at) (subst (λ (ps : List ColumnPred). Compiles s.columns wanted ps) (sym c.as_slice-preds.ensures.value) comp))))) name asked is)
     c.hits.ensures
