@@ -241,6 +241,7 @@ module _ (plan : Plan) (entry mid now : View) (status : Status) (script : List (
     });
     asks = c.asks p begun.runs;
     kept = λ t. kept_of (start_of plan) entry mid now begun.first.journal q.journal (acks_in book) (begun.kept t) (holding (told ∙ t));
+    ordered = λ t. c.ordered (told ∙ t);
     timely = λ t. c.timely (told ∙ t);
     answered = λ e. c.answered (all_of status stopped new.down all ends c.cause e);
   }
@@ -270,6 +271,7 @@ module _ (plan : Plan) (entry mid now : View) (status : Status) (script : List (
     });
     asks = c.asks p begun.runs;
     kept = λ t. kept_of (start_of plan) entry mid now begun.first.journal q.journal (acks_in book) (begun.kept t) (holding (told ∙ t));
+    ordered = λ t. c.ordered (told ∙ t);
     timely = λ t. c.timely (told ∙ t);
     answered = λ e. c.answered (all_of status stopped new.down all ends c.cause e);
   }

@@ -13,7 +13,7 @@ use Rattle.ut_crowd.specs.declared.book.Turn.{Turn}
 use Rattle.ut_crowd.specs.Book.{lines_in, answers_in, acks_in}
 use Rattle.ut_crowd.specs.Queues.{Weaves, HasAnswered}
 use Rattle.ut_crowd.specs.Asking.{AsksFrom}
-use Rattle.ut_crowd.specs.Dating.{AreTimely}
+use Rattle.ut_crowd.specs.Dating.{AreInOrder, AreTimely}
 use Rattle.ut_crowd.specs.Texts.{book_text}
 use Rattle.ut_run.specs.declared.report.Status.{Status}
 use Rattle.ut_run.specs.declared.report.Status.TheVariants.{Done, Usage, ReadFault, WriteFault, DiskFault, Memory, TooLong}
@@ -162,7 +162,9 @@ pub record Booked
   -- what the store asked of its own accord is what it may ask in the state of that turn, with the plan's number of rows
   pub asks : AsksFrom plan.l1 (opened first plan.rows) book
   pub kept : IsTold entry → Kept (start_of plan) entry now first.journal plain.journal (acks_in book)
-  -- no turn's moment is past the next entry of the log
+  -- no turn's moment is before that of the turn before it,
+  pub ordered : IsTold entry → AreInOrder book
+  -- nor past the next entry of the log
   pub timely : IsTold entry → AreTimely now book
   -- with Done each line of each session has its turn
   pub answered : status ≡ Done → HasAnswered script book

@@ -1,12 +1,15 @@
 -- Members in the order in which they are made, started and joined.
-use Rattle.std.proofs.Common.{ℕ, ◌≡◌, ◌∙◌, sym, subst, ap, List, [], ◌∷◌, ◌++◌}
+use Rattle.std.proofs.Common.{ℕ, ◌≡◌, ◌+◌, ◌∙◌, sym, subst, ap, List, [], ◌∷◌, ◌++◌, length, Some, arith}
 use Rattle.std.specs.Prelude.{All, get_or, map, reverse}
-use Rattle.std.proofs.lemmas.List.{append_assoc, map-append, reverse-append}
+use Rattle.std.proofs.lemmas.List.{append-nil, append_assoc, length-map, length-reverse, map-append, reverse-append}
 use Rattle.std.proofs.lemmas.List.Elements.{All-nil, All-cons, All-head, All-tail, All-map, All-push, All-same}
 use Rattle.std.proofs.lemmas.List.Sorted.{All-permutation, IsPermutation-reverse, IsPermutation-sym}
 use mathlib.Core.List.{IsPrefix}
 use Rattle.ut_gate.specs.Passes.{Carried}
+use Rattle.ut_crew.specs.declared.role.Role.{Role}
+use Rattle.ut_crew.specs.declared.role.Role.TheVariants.{Session}
 use Rattle.ut_crew.specs.Leaving.{GoesOn}
+use Rattle.ut_crew.specs.Starting.{left_of}
 
 -- the last of the rest becomes the last of those that are through
 pub next_one : {A R : Type 0} (of : A → R) (rs : List R) (rest : List A) (x : A)
@@ -20,6 +23,24 @@ pub next_part : {X R A : Type 0} (part : X → R) (of : A → R) (ms : List X) (
 next_part part of ms m rest x is =
     ap (λ l. l ++ map of (reverse rest)) (map-append part ms (m ∷ []) ∙ ap (λ r. map part ms ++ r ∷ []) is)
     ∙ next_one of (map part ms) rest x
+
+-- one part more is given out
+pub one_given : {X R : Type 0} (part : X → R) (ms ms' : List X) (m : X) (left left' all : List R)
+    → ms' ≡ ms ++ m ∷ [] → left ≡ part m ∷ left' → map part ms ++ left ≡ all → map part ms' ++ left' ≡ all
+one_given part ms ms' m left left' all pushed given so_far =
+    ap (λ l. map part l ++ left') pushed
+    ∙ ap (λ l. l ++ left') (map-append part ms (m ∷ []))
+    ∙ append_assoc (map part ms) (part m ∷ []) left'
+    ∙ sym (ap (λ l. map part ms ++ l) given)
+    ∙ so_far
+
+-- and where none is left, all are
+pub all_given : {X R : Type 0} (part : X → R) (ms : List X) (left all : List R) → left ≡ [] → map part ms ++ left ≡ all → map part ms ≡ all
+all_given part ms left all none so_far = sym (append-nil (map part ms)) ∙ sym (ap (λ l. map part ms ++ l) none) ∙ so_far
+
+-- as many as there are sessions, and the keepers
+pub all_parts : {A M K : Type 0} (saver : K) (merger : M) (sessions : List A) → length (left_of (Some saver) (Some merger) sessions) ≡ length sessions + 2
+all_parts {A = A} {M = M} {K = K} saver merger sessions = omega (arith, length-map {B = Role A M K} (reverse sessions) Session, length-reverse sessions)
 
 -- one more is through, and has what the others have
 pub one_more : {X R A : Type 0} (Q : X → Type 0) (part : X → R) (of : A → R) (all : List R) (ms ms' : List X) (m : X) (rest rest' : List A) (x : A)

@@ -9,7 +9,7 @@ ghost use Rattle.ut_crew.specs.declared.role.Role.TheVariants.{Session, Merger, 
 use crate::bell::Bell;
 use crate::floor::{Begun, Done, Floor, OfFloor};
 use crate::member::{Member, play, work};
-use crate::role::{Between, Build, Kept, Role, Went};
+use crate::role::{Between, Build, Kept, Parts, Went};
 use std::alloc::Global;
 use std::snapshot::Snapshot;
 use std::sync::Wait;
@@ -91,46 +91,16 @@ fn crew_of<E: Held, A: Drop, M: Drop, S: Drop>(
     ensures len { vec_len result ≡ vec_len sessions + 2 }
     ensures parts { map (λ m. m.role) result.items ≡ Saver saver ∷ Merger merger ∷ map Session (reverse sessions.items) }
 {
-    let Some(first) = passes.pop() else {
-        unreachable!()
+    let mut parts = Parts {
+        saver: Some(saver),
+        merger: Some(merger),
+        sessions,
     };
-    let Some(second) = passes.pop() else {
-        unreachable!()
-    };
-    members.push_reserved(Member {
-        role: Role::Saver(saver),
-        pass: first,
-    });
-    members.push_reserved(Member {
-        role: Role::Merger(merger),
-        pass: second,
-    });
-    with_sessions(gate, passes, sessions, members)
-}
-
-// A member more for each session, the last session first.
-fn with_sessions<E: Held, A: Drop, M: Drop, S: Drop>(
-    gate: &Gate<E>,
-    mut passes: PassList<E>,
-    mut sessions: Vec<A>,
-    mut members: Vec<Member<E, A, M, S>>,
-) -> Vec<Member<E, A, M, S>>
-    requires own { All (λ p. p.gate ≡ gate.now) passes }
-    requires enough { length passes ≡ vec_len sessions }
-    requires members { All (λ m. m.pass.gate ≡ gate.now) members.items }
-    requires room { vec_len members + vec_len sessions ≤ vec_capacity members }
-    ensures own { All (λ m. m.pass.gate ≡ gate.now) result.items }
-    ensures len { vec_len result ≡ vec_len members + vec_len sessions }
-    ensures parts { map (λ m. m.role) result.items ≡ map (λ m. m.role) members.items ++ map Session (reverse sessions.items) }
-{
-    while let Some(session) = sessions.pop() {
-        let Some(pass) = passes.pop() else {
-            unreachable!()
+    while let Some(pass) = passes.pop() {
+        let Some(role) = parts.next() else {
+            break;
         };
-        members.push_reserved(Member {
-            role: Role::Session(session),
-            pass,
-        });
+        members.push_reserved(Member { role, pass });
     }
     members
 }

@@ -72,11 +72,11 @@ fn advance<E: Held, A: Act<E, Answer = Went> + Between + Drop, R: Wait>(
     for _ in rt.forever() {
         let went = floor.gate.act(rt, &mut pass, &mut session);
         if !floor.bell.went_on(went) {
-            return pass;
+            break;
         }
         session.between();
     }
-    unreachable!()
+    pass
 }
 
 // A saver: turns until one is over, with sleep behind idle ones.
@@ -95,10 +95,10 @@ fn save<E: Held, S: Act<E, Answer = Kept> + Drop, R: Wait>(
         let heard = floor.bell.rings();
         let kept = floor.gate.act(rt, &mut pass, &mut saver);
         if !floor.bell.goes_on(rt, kept, heard) {
-            return pass;
+            break;
         }
     }
-    unreachable!()
+    pass
 }
 
 // A merger: as a saver, and between its turns it builds. It leaves too where a job could not be built, which stays.
@@ -117,13 +117,13 @@ fn merge<E: Held, M: Act<E, Answer = Kept> + Build<E> + Drop, R: Wait>(
     for _ in rt.forever() {
         let heard = floor.bell.rings();
         let Some(kept) = end_or_take(rt, floor, &mut merger, &mut pass) else {
-            return pass;
+            break;
         };
         if !floor.bell.goes_on(rt, kept, heard) {
-            return pass;
+            break;
         }
     }
-    unreachable!()
+    pass
 }
 
 // A merger's turn: the job in its slip is built and ended, unless it could not be built. Where there is none, one may be taken.

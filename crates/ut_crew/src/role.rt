@@ -1,5 +1,6 @@
 //! What the members of a crew do, in their turns and outside them.
-ghost use Rattle.std.specs.Prelude.{Some, IfSome, IfNone};
+ghost use Rattle.std.specs.Prelude.{◌≡◌, [], ◌++◌, Some, IfSome, IfNone, option_to_list};
+ghost use Rattle.ut_crew.specs.Starting.{left_of};
 
 use ut_gate::{Act, Held};
 
@@ -57,4 +58,28 @@ pub(crate) enum Role<A: Drop, M: Drop, S: Drop> {
     Session(A),
     Merger(M),
     Saver(S),
+}
+
+/// The parts that are still to be given out: the keepers' first, and the last session's before the others'.
+#[derive(Drop)]
+pub(crate) struct Parts<A: Drop, M: Drop, S: Drop> {
+    pub saver: Option<S>,
+    pub merger: Option<M>,
+    pub sessions: Vec<A>,
+}
+
+impl<A: Drop, M: Drop, S: Drop> Parts<A, M, S> {
+    pub(crate) fn next(&mut self) -> Option<Role<A, M, S>>
+        ensures given { left_of self.old.saver self.old.merger self.old.sessions.items ≡ option_to_list result ++ left_of self.new.saver self.new.merger self.new.sessions.items }
+        ensures none { IfNone result (left_of self.old.saver self.old.merger self.old.sessions.items ≡ []) }
+    {
+        if let Some(saver) = self.saver.take() {
+            return Some(Role::Saver(saver));
+        }
+        if let Some(merger) = self.merger.take() {
+            return Some(Role::Merger(merger));
+        }
+        let session = self.sessions.pop()?;
+        Some(Role::Session(session))
+    }
 }

@@ -1,5 +1,5 @@
 -- When turns were answered, one turn more.
-use Rattle.std.proofs.Common.{ℕ, ◌≡◌, ◌≤◌, Bool, true, false, if◌then◌else◌, List, [], ◌∷◌, ◌++◌, Some, refl, sym, subst, ap, ◌∙◌, arith}
+use Rattle.std.proofs.Common.{ℕ, ◌≡◌, ◌≤◌, Bool, true, false, if◌then◌else◌, List, [], ◌∷◌, ◌++◌, Option, Some, refl, sym, subst, ap, ◌∙◌, arith}
 use Rattle.std.proofs.lemmas.List.Elements.{All-head, All-tail}
 use Rattle.std.specs.Prelude.{All}
 use Rattle.ut_outside.specs.Disk.{View, Image, IsTold}
@@ -13,7 +13,7 @@ use Rattle.ut_course.specs.Coming.{Came, Answered, Lost, Comes, is_fault, length
 use Rattle.ut_course.proofs.KeepLemmas.{CountsNow, runs_whole}
 use Rattle.ut_crowd.specs.declared.book.Turn.{Turn}
 use Rattle.ut_crowd.specs.Sorting.{IsRefused}
-use Rattle.ut_crowd.specs.Dating.{WasLeft, IsTimely, AreTimely}
+use Rattle.ut_crowd.specs.Dating.{AreInOrder, WasLeft, IsTimely, AreTimely}
 
 -- a process that dies between two calls leaves what a read returned
 abbrev pub SeenStays : View → Type 0
@@ -43,6 +43,35 @@ strangers_timely now (t ∷ book) n m e left all =
       λ sound. subst (λ (k : ℕ). WasLeft now k t.moment) (sym first.journal) (subst (λ (k : ℕ). WasLeft now n k) (sym first.moment) left),
       strangers_timely now book n m e left (All-tail (IsRefused n m) t book all),
     )
+
+-- ---- in order
+
+-- a turn that is dated now, behind turns that were dated before
+pub order_push : (was : View) (book : List Turn) (t : Turn) → was.moment ≤ t.moment → AreTimely was book → AreInOrder book → AreInOrder (book ++ t ∷ [])
+order_push was [] t later past h = tt
+order_push was (u ∷ []) t later past h = (let first = past.0 in omega (arith, first, later), tt)
+order_push was (u ∷ v ∷ book) t later past h = (h.0, order_push was (v ∷ book) t later past.2 h.1)
+
+pub strangers_in_order : (book : List Turn) (n m : ℕ) → All (IsRefused n m) book → AreInOrder book
+strangers_in_order [] n m all = tt
+strangers_in_order (t ∷ []) n m all = tt
+strangers_in_order (t ∷ u ∷ book) n m all =
+    let rest : All (IsRefused n m) (u ∷ book) = All-tail (IsRefused n m) t (u ∷ book) all in
+    let first : IsRefused n m t = All-head (IsRefused n m) t (u ∷ book) all in
+    let second : IsRefused n m u = All-head (IsRefused n m) u book rest in
+    let a = first.moment in
+    let b = second.moment in (omega (arith, a, b), strangers_in_order (u ∷ book) n m rest)
+
+came_later : (p : Plain) (line : Parsed) (who : Option ℕ) (was now : View) (reply : Reply) (new : Logged) → IsTold was → Came p line who was reply new now → was.moment ≤ now.moment
+came_later p line who was now reply new told (Answered q sound answers runs keeps) = (keeps told).later
+came_later p line who was now reply new told (Lost q fault down faults keeps) = (keeps told).later
+
+-- a turn that was answered just now
+pub order_turn : (p : Plain) (line : Parsed) (who : Option ℕ) (was now : View) (new : Logged) (t : Turn) → t.moment ≡ now.moment → IsTold was → (book : List Turn) → Came p line who was t.reply new now → AreTimely was book → AreInOrder book → AreInOrder (book ++ t ∷ [])
+order_turn p line who was now new t at told book came past h =
+    let later = came_later p line who was now t.reply new told came in order_push was book t (omega (arith, at, later)) past h
+
+-- ---- timely
 
 -- of a store that runs, a crash now may leave what is read, with its whole journal
 pub left_now : (e : Logged) (v : View) (q : Plain) → CountsNow v → SeenStays v → Runs e v q → IsTold v → WasLeft v (journal_len q.journal) v.moment

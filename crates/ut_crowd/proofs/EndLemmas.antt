@@ -41,6 +41,7 @@ crowded store new disk now name name' lines queues book job l1 l last all stoppe
   weaves = s.weaves;
   course = s.course;
   asks = s.asks;
+  ordered = s.ordered;
   timely = s.timely;
   told = s.told;
   faults = s.faults;

@@ -1,5 +1,5 @@
 -- What the turns of keepers come to.
-use Rattle.std.proofs.Common.{inl, inr, ℕ, ◌+◌, ◌≡◌, ◌<◌, ◌⊎◌, Bool, true, false, cond, ◌||◌, List, [], ◌∷◌, ◌++◌, length, Option, None, Some, Err, refl, ap, ◌∙◌, sym, subst}
+use Rattle.std.proofs.Common.{inl, inr, ℕ, ◌+◌, ◌≡◌, ◌<◌, ◌⊎◌, Bool, true, false, cond, ◌&&◌, ◌||◌, not, List, [], ◌∷◌, ◌++◌, length, Option, None, Some, Err, refl, ap, ◌∙◌, sym, subst}
 use Rattle.std.specs.Prelude.{IsTrue, is_some}
 use Rattle.std.specs.Option.{unwrap_or}
 use Rattle.ut_outside.specs.Disk.{View}
@@ -32,30 +32,34 @@ use Rattle.ut_crowd.specs.declared.book.Begun.{Begun}
 use Rattle.ut_crowd.specs.declared.book.Turn.{Turn}
 use Rattle.ut_crowd.specs.declared.merger.Ripe.{Ripe}
 use Rattle.ut_crowd.specs.declared.merger.Ripe.TheVariants.{First, Second}
-use Rattle.ut_crowd.specs.Asking.{StoreAsks, Merges, Ends, Saves, first_full, second_full, kind_of_merge, merge_of, merge_due, table_at, progress_in, piece_next, waits, is_refusal}
+use Rattle.ut_crowd.specs.Asking.{StoreAsks, Merges, Ends, Saves, first_full, second_full, kind_of_merge, merge_of, merge_due, table_at, progress_in, piece_next, save_waits, waits, is_refusal}
 use Rattle.ut_crowd.specs.Keepers.{kept_after, woken, ended, HasAsked, AsksOnce, AsksDue, BringsJob, KeepsUp, EndsJob, IsShared, IsMergeDue, IsSaveDue, IsWaiting, unless_waiting}
 use Rattle.ut_crowd.specs.Queues.{left_of, IsOver}
 use Rattle.ut_crowd.specs.Ripe.{ripe_of}
 use Rattle.ut_crowd.specs.Saving.{due_piece}
 use Rattle.ut_crowd.specs.Standing.{IsHeld}
+use Rattle.ut_crowd.specs.Waking.{calls_saver, is_begin}
 
 -- ---- a statement that was answered
 
-pub asks_once : (st : Statement) (stopped down : Bool) (before after : List Turn) (t : Turn) (reply : Reply) → after ≡ before ++ t ∷ [] → t.session ≡ Some 0 → t.asked ≡ Store st → t.reply ≡ reply → stopped ≡ false → AsksOnce st stopped down before after (kept_after reply down)
+pub asks_once : (st : Statement) (stopped down : Bool) (before after : List Turn) (t : Turn) (reply : Reply) → after ≡ before ++ t ∷ [] → t.session ≡ Some 0 → t.asked ≡ Store st → t.reply ≡ reply → stopped ≡ false → AsksOnce st false stopped down before after (kept_after reply down)
 asks_once st stopped down before after t reply more who asked says going = by down (is_refusal reply) refl refl
   where
     has : HasAsked st before after
     has = record { turn = t; more = more; who = who; asked = asked }
 
-    by : (d r : Bool) → down ≡ d → is_refusal reply ≡ r → AsksOnce st stopped down before after (cond (d || r) kepts.Over kepts.Did)
+    by : (d r : Bool) → down ≡ d → is_refusal reply ≡ r → AsksOnce st false stopped down before after (cond (d || r) kepts.Over kepts.Did)
     by true r e f = inr (inl e)
     by false true e f = inr (inr (has, ap is_refusal says ∙ f))
-    by false false e f = (has, ap is_refusal says ∙ f, going, e)
+    by false false e f = (refl, (has, ap is_refusal says ∙ f, going, e))
 
-woken_once : (st : Statement) (stopped down : Bool) (before after : List Turn) (w : Bool) (kept : Kept) → AsksOnce st stopped down before after kept → AsksOnce st stopped down before after (woken w kept)
-woken_once st stopped down before after true kepts.Did h = h
+in_place : {A B C : Type 0} → C → A × B → C × B
+in_place c h = (c, h.1)
+
+woken_once : (st : Statement) (stopped down : Bool) (before after : List Turn) (w : Bool) (kept : Kept) → AsksOnce st false stopped down before after kept → AsksOnce st w stopped down before after (woken w kept)
+woken_once st stopped down before after true kepts.Did h = in_place refl h
 woken_once st stopped down before after false kepts.Did h = h
-woken_once st stopped down before after true kepts.Due h = h
+woken_once st stopped down before after true kepts.Due h = let no : false ≡ true = h.0 in cc
 woken_once st stopped down before after false kepts.Due h = h
 woken_once st stopped down before after true kepts.Idle h = h
 woken_once st stopped down before after false kepts.Idle h = h
@@ -70,21 +74,21 @@ no_both false h k = cc
 
 -- ---- a keeper's turn
 
-pub keeps_by : (over : Type 0) (due : Option Statement → Type 0) (brings : Statement → Type 0) (was stopped down : Bool) (before after : List Turn) (kept : Kept) → (over → ⊥) → AsksDue due brings stopped down before after kept → KeepsUp over due brings was stopped down before after kept
-keeps_by over due brings was stopped down before after kepts.Did on h = (on, h)
-keeps_by over due brings was stopped down before after kepts.Due on h = (on, h)
-keeps_by over due brings was stopped down before after kepts.Idle on h = absurd h.2
-keeps_by over due brings was stopped down before after kepts.Over on h = inr (on, h)
+pub keeps_by : (over : Type 0) (due : Option Statement → Type 0) (brings : Statement → Type 0) (waited was stopped down : Bool) (before after : List Turn) (kept : Kept) → (over → ⊥) → AsksDue due brings waited stopped down before after kept → KeepsUp over due brings waited was stopped down before after kept
+keeps_by over due brings waited was stopped down before after kepts.Did on h = (on, h)
+keeps_by over due brings waited was stopped down before after kepts.Due on h = (on, h)
+keeps_by over due brings waited was stopped down before after kepts.Idle on h = absurd h.2
+keeps_by over due brings waited was stopped down before after kepts.Over on h = inr (on, h)
 
 -- a turn of the saver's, which wakes the merger where that waited
-pub keeps_woken : (over : Type 0) (due : Option Statement → Type 0) (was stopped down : Bool) (before after : List Turn) (w : Bool) (kept : Kept) (st : Statement) → (over → ⊥) → due (Some st) → AsksOnce st stopped down before after kept
-    → KeepsUp over due (λ st. Unit {0}) was stopped down before after (woken w kept)
-keeps_woken over due was stopped down before after w kept st on is h = keeps_by over due (λ st. Unit {0}) was stopped down before after (woken w kept) on (st, is, woken_once st stopped down before after w kept h, λ goes. tt)
+pub keeps_woken : (over : Type 0) (due : Option Statement → Type 0) (was stopped down : Bool) (before after : List Turn) (w : Bool) (kept : Kept) (st : Statement) → (over → ⊥) → due (Some st) → AsksOnce st false stopped down before after kept
+    → KeepsUp over due (λ st. Unit {0}) w was stopped down before after (woken w kept)
+keeps_woken over due was stopped down before after w kept st on is h = keeps_by over due (λ st. Unit {0}) w was stopped down before after (woken w kept) on (st, is, woken_once st stopped down before after w kept h, λ goes. tt)
 
-pub shared_once : (st : Statement) (stopped stopped' down : Bool) (before after : List Turn) (kept kept' : Kept) → IsShared kept stopped kept' stopped' → AsksOnce st stopped down before after kept → AsksOnce st stopped' down before after kept'
-shared_once st stopped stopped' down before after kept kept' (inl s) h =
-    subst (λ (k : Kept). AsksOnce st stopped' down before after k) (sym s.0) (subst (λ (b : Bool). AsksOnce st b down before after kept) (sym s.1) h)
-shared_once st stopped stopped' down before after kept kept' (inr s) h = subst (λ (k : Kept). AsksOnce st stopped' down before after k) (sym s.0) (inl s.1)
+pub shared_once : (st : Statement) (waited stopped stopped' down : Bool) (before after : List Turn) (kept kept' : Kept) → IsShared kept stopped kept' stopped' → AsksOnce st waited stopped down before after kept → AsksOnce st waited stopped' down before after kept'
+shared_once st waited stopped stopped' down before after kept kept' (inl s) h =
+    subst (λ (k : Kept). AsksOnce st waited stopped' down before after k) (sym s.0) (subst (λ (b : Bool). AsksOnce st waited b down before after kept) (sym s.1) h)
+shared_once st waited stopped stopped' down before after kept kept' (inr s) h = subst (λ (k : Kept). AsksOnce st waited stopped' down before after k) (sym s.0) (inl s.1)
 
 -- the end of a merge that was pending is no refusal
 pub end_taken : (pending : Option PendingMerge) (reply : Reply) → EndsMerge pending reply → is_refusal reply ≡ false
@@ -135,7 +139,7 @@ module _ (l1 : ℕ) (store : Logged) (disk : View) where
 
     -- a begin that was due found no room
     pub begin_lost : (n : ℕ) (w down : Bool) (before after : List Turn) → w ≡ false → ((p : Plain) → Runs store disk p → merge_due l1 p ≡ Some (statements.MergeBegin (table_at p place) (kind_of_merge n)))
-        → AsksDue (IsMergeDue l1 w store disk) (BringsJob None) true down before after kepts.Over
+        → AsksDue (IsMergeDue l1 w store disk) (BringsJob None) false true down before after kepts.Over
     begin_lost n w down before after now due = (statements.MergeBegin name (kind_of_merge n), begin_is_due n w now due, inl refl, λ goes. absurd (goes refl))
 
   pub may_merge : (last : Begun) (st : Statement) → ((p : Plain) → Runs store disk p → merge_due l1 p ≡ Some st) → (p : Plain) → Runs store disk p → StoreAsks l1 last p st
@@ -193,6 +197,11 @@ module _ (last : Begun) (store : Logged) (disk : View) (piece : Option Statement
   pub waits_is : (w : Bool) → w ≡ waits (is_some store.store.counts.pending) piece → IsWaiting last store disk w
   waits_is w e p runs =
       e ∙ ap (λ (o : Option PendingMerge). waits (is_some o) piece) runs.stands.counts.pending ∙ ap (waits (is_some p.pending)) (next_is p runs)
+
+  -- whether a saver that sleeps would do something
+  pub saver_called : (noted w : Bool) → w ≡ waits (is_some store.store.counts.pending) piece → (p : Plain) → Runs store disk p → calls_saver last noted p ≡ (is_begin piece && not (noted && w))
+  saver_called noted w e p runs =
+      ap (λ (x : Option Statement). is_begin x && not (noted && save_waits last p)) (sym (next_is p runs)) ∙ ap (λ (b : Bool). is_begin piece && not (noted && b)) (sym (waits_is w e p runs))
 
   pub save_none : (w : Bool) → w ≡ waits (is_some store.store.counts.pending) piece → w ≡ true → IsSaveDue last store disk None
   save_none w e f p runs = ap (λ (b : Bool). cond b None (piece_next last p)) (sym (waits_is w e p runs) ∙ f)

@@ -4,6 +4,8 @@ pub mod WeaveLemmas
 pub mod AskingLemmas
 pub mod RipeLemmas
 pub mod KeeperLemmas
+pub mod DueLemmas
+pub mod WakeLemmas
 pub mod DatingLemmas
 pub mod StandLemmas
 pub mod EndLemmas

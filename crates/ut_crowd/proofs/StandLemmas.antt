@@ -34,8 +34,8 @@ use Rattle.ut_crowd.specs.Queues.{Takes, TakesNone, left_of}
 use Rattle.ut_crowd.specs.Sorting.{Sorted}
 use Rattle.ut_crowd.specs.Asking.{StoreAsks, IsAsked, IsTaken, Asks, begun_by, begun_first, begun_in}
 use Rattle.ut_crowd.specs.Standing.{IsHeld, StandsOn, Starts}
-use Rattle.ut_crowd.specs.Dating.{WasLeft, AreTimely}
-use Rattle.ut_crowd.proofs.DatingLemmas.{SeenStays, left_now, strangers_timely, timely_turn}
+use Rattle.ut_crowd.specs.Dating.{WasLeft, AreInOrder, AreTimely}
+use Rattle.ut_crowd.proofs.DatingLemmas.{SeenStays, left_now, order_turn, strangers_in_order, strangers_timely, timely_turn}
 use Rattle.ut_crowd.proofs.AskingLemmas.{running_at, asks_more, begun_more, asks_none, begun_none}
 use Rattle.ut_crowd.proofs.SortLemmas.{by_nobodys, refused_tell, refused_kept}
 use Rattle.ut_crowd.proofs.TextLaws.{store_line_read}
@@ -124,6 +124,14 @@ module _ (g : Ground) (queues : List (List (List ℕ))) (book : List Turn) (name
       ∙ ap (λ (x : Asked). begun_by (begun_in (begun_first p) book) x t.reply t.journal) (sym is)
       ∙ sym (begun_more (begun_first p) book t)
 
+-- the moments ascend, one turn more
+ordered_on : (g : Ground) (queues : List (List (List ℕ))) (book : List Turn) (name : GName) (was now : View) (old new : Logged) (job : Option JobValue) (l1 : ℕ) (last : Begun) (session : ℕ) (asked : Asked) (line : Parsed) (t : Turn) → turn_now session asked t old new now → old.down ≡ false
+    → Comes old was line (Some session) t.reply new now → StandsOn g queues book name was old job l1 last → IsTold g.disk → AreInOrder (book ++ t ∷ [])
+ordered_on g queues book name was now old new job l1 last session asked line t turn up comes s told =
+    let p = s.some in
+    let q = running p.0 g.disk (lines_in book) (answers_in book) (acks_in book) was old up (s.course p.0 p.1) in
+    order_turn q.0 line (Some session) was now new t turn.3 (s.told ∙ told) book (comes.each q.0 q.1) (s.timely told) (s.ordered told)
+
 -- no turn's moment is past the next entry of the log, one turn more
 timely_on : (g : Ground) (queues : List (List (List ℕ))) (book : List Turn) (name : GName) (was now : View) (old new : Logged) (job : Option JobValue) (l1 : ℕ) (last : Begun) (session : ℕ) (asked : Asked) (line : Parsed) (t : Turn) → turn_now session asked t old new now → CountsNow now → SeenStays now → old.down ≡ false
     → Comes old was line (Some session) t.reply new now → StandsOn g queues book name was old job l1 last → IsTold g.disk → AreTimely now (book ++ t ∷ [])
@@ -145,6 +153,7 @@ stands_more g queues left book name name' was now old new job l1 last session li
   last_is = last_on g queues book name was old job l1 last t (Line line) turn.1 s last refl;
   l1_is = s.l1_is;
   range = s.range;
+  ordered = ordered_on g queues book name was now old new job l1 last session (Line line) (parsed true line) t turn up comes s;
   timely = timely_on g queues book name was now old new job l1 last session (Line line) (parsed true line) t turn counts stays up comes s;
   told = comes.told ∙ s.told;
   faults = omega (arith, s.faults, comes.later);
@@ -169,6 +178,7 @@ stands_asked g queues book name name' was now old new job job' l1 last last' st 
   last_is = last_on g queues book name was old job l1 last t (Store st) turn.1 s last' last_is;
   l1_is = s.l1_is;
   range = s.range;
+  ordered = ordered_on g queues book name was now old new job l1 last 0 (Store st) (Good 0 st) t turn up comes s;
   timely = timely_on g queues book name was now old new job l1 last 0 (Store st) (Good 0 st) t turn counts stays up comes s;
   told = comes.told ∙ s.told;
   faults = omega (arith, s.faults, comes.later);
@@ -237,6 +247,7 @@ stands_same g queues left book name now store job l1 last session none s = recor
   last_is = s.last_is;
   l1_is = s.l1_is;
   range = s.range;
+  ordered = s.ordered;
   timely = s.timely;
   told = s.told;
   faults = s.faults;
@@ -268,6 +279,7 @@ starts_stand g lines queues book n m name now store l1 e f only counts stays sor
   last_is = λ p from. ap begun_at (e ∙ (s.runs p from).stands.counts.entries) ∙ sym (begun_none (begun_first p) book n m sorted.turns);
   l1_is = s.l1_is;
   range = s.range;
+  ordered = λ told. strangers_in_order book n m sorted.turns;
   timely = λ told.
       let p = s.some in
       let runs = s.runs p.0 p.1 in

@@ -9,7 +9,7 @@ use Rattle.ut_crowd.specs.declared.book.Turn.{Turn}
 use Rattle.ut_crowd.specs.Book.{lines_in, answers_in, acks_in}
 use Rattle.ut_crowd.specs.Queues.{Weaves, HasAnswered}
 use Rattle.ut_crowd.specs.Asking.{AsksFrom}
-use Rattle.ut_crowd.specs.Dating.{AreTimely}
+use Rattle.ut_crowd.specs.Dating.{AreInOrder, AreTimely}
 
 -- A store and its disk, before these lines and after them, and the book of what was answered.
 -- Where not all lines were, there was no memory for a turn, or the disk failed.
@@ -22,7 +22,9 @@ pub record Crowded
   pub course : (p : Plain) → Runs store disk p → Course p disk (lines_in book) (answers_in book) (acks_in book) now new
   -- and what the store asked of its own accord is what it may ask there
   pub asks : (p : Plain) → Runs store disk p → AsksFrom l1 p book
-  -- no turn's moment is past the next entry of the log
+  -- no turn's moment is before that of the turn before it,
+  pub ordered : IsTold disk → AreInOrder book
+  -- nor past the next entry of the log
   pub timely : IsTold disk → AreTimely now book
   pub told : now.told ≡ disk.told
   pub faults : disk.faults ≤ now.faults

@@ -35,15 +35,19 @@ pub record HasAsked (st : Statement) (before after : List Turn) : Type 0 where
   pub who : turn.session ≡ Some 0
   pub asked : turn.asked ≡ Store st
 
+-- a statement was asked and taken, and the hall goes on
+abbrev pub HasDone : Statement → (stopped down : Bool) → List Turn → List Turn → Type 0
+HasDone st stopped down before after =
+    (asked : HasAsked st before after) × (is_refusal asked.turn.reply ≡ false) × (stopped ≡ false) × (down ≡ false)
+
 -- A keeper asked a statement. It is over exactly where there was no room for the turn, the disk failed, or the statement was refused.
-abbrev pub AsksOnce : Statement → (stopped down : Bool) → List Turn → List Turn → Kept → Type 0
-AsksOnce st stopped down before after Idle = ⊥
-AsksOnce st stopped down before after Over =
+-- It asks that the other keeper be woken (`Due`) just where that had to wait for it.
+abbrev pub AsksOnce : Statement → (waited stopped down : Bool) → List Turn → List Turn → Kept → Type 0
+AsksOnce st waited stopped down before after Idle = ⊥
+AsksOnce st waited stopped down before after Over =
     IsTrue stopped ⊎ IsTrue down ⊎ ((asked : HasAsked st before after) × IsTrue (is_refusal asked.turn.reply))
-AsksOnce st stopped down before after Did =
-    (asked : HasAsked st before after) × (is_refusal asked.turn.reply ≡ false) × (stopped ≡ false) × (down ≡ false)
-AsksOnce st stopped down before after Due =
-    (asked : HasAsked st before after) × (is_refusal asked.turn.reply ≡ false) × (stopped ≡ false) × (down ≡ false)
+AsksOnce st waited stopped down before after Did = (waited ≡ false) × HasDone st stopped down before after
+AsksOnce st waited stopped down before after Due = IsTrue waited × HasDone st stopped down before after
 
 -- a merge into main that began brings its job
 abbrev pub BringsJob : Option JobValue → Statement → Type 0
@@ -51,19 +55,22 @@ BringsJob job (MergeBegin name kind) = IsSome job
 BringsJob job st = Unit {0}
 
 -- a keeper asked what was due, and where it goes on it has what that brings
-abbrev pub AsksDue : (due : Option Statement → Type 0) → (brings : Statement → Type 0) → (stopped down : Bool) → List Turn → List Turn → Kept → Type 0
-AsksDue due brings stopped down before after kept =
-    (st : Statement) × due (Some st) × AsksOnce st stopped down before after kept × ((kept ≡ Over → ⊥) → brings st)
+abbrev pub AsksDue : (due : Option Statement → Type 0) → (brings : Statement → Type 0) → (waited stopped down : Bool) → List Turn → List Turn → Kept → Type 0
+AsksDue due brings waited stopped down before after kept =
+    (st : Statement) × due (Some st) × AsksOnce st waited stopped down before after kept × ((kept ≡ Over → ⊥) → brings st)
 
 -- A keeper's turn by what was due: it is idle exactly where the hall wasn't over and nothing was due, and over exactly where the hall was,
--- so that nothing changes, or what was due found no room, lost the disk, or was refused. Else it has asked what was due.
-abbrev pub KeepsUp : (over : Type 0) → (due : Option Statement → Type 0) → (brings : Statement → Type 0) → (was stopped down : Bool) → List Turn → List Turn → Kept → Type 0
-KeepsUp over due brings was stopped down before after Idle =
+-- so that nothing changes, or what was due found no room, lost the disk, or was refused. Else it has asked what was due, and it asks that the
+-- other keeper be woken just where that had to wait for it.
+abbrev pub KeepsUp : (over : Type 0) → (due : Option Statement → Type 0) → (brings : Statement → Type 0) → (waited was stopped down : Bool) → List Turn → List Turn → Kept → Type 0
+KeepsUp over due brings waited was stopped down before after Idle =
     (over → ⊥) × due None × (after ≡ before) × (stopped ≡ false) × (down ≡ false)
-KeepsUp over due brings was stopped down before after Over =
-    (over × (after ≡ before) × (stopped ≡ was)) ⊎ ((over → ⊥) × AsksDue due brings stopped down before after Over)
-KeepsUp over due brings was stopped down before after Did = (over → ⊥) × AsksDue due brings stopped down before after Did
-KeepsUp over due brings was stopped down before after Due = (over → ⊥) × AsksDue due brings stopped down before after Due
+KeepsUp over due brings waited was stopped down before after Over =
+    (over × (after ≡ before) × (stopped ≡ was)) ⊎ ((over → ⊥) × AsksDue due brings waited stopped down before after Over)
+KeepsUp over due brings waited was stopped down before after Did =
+    (over → ⊥) × AsksDue due brings waited stopped down before after Did
+KeepsUp over due brings waited was stopped down before after Due =
+    (over → ⊥) × AsksDue due brings waited stopped down before after Due
 
 -- no merge into main begins while a savepoint waits
 abbrev pub unless_waiting : Bool → Option Statement → Option Statement

@@ -7,6 +7,7 @@ pub mod Sorting
 pub mod Saving
 pub mod Asking
 pub mod Keepers
+pub mod Waking
 pub mod Crowding
 pub mod Ripe
 pub mod Texts

@@ -13,7 +13,7 @@ use Rattle.ut_crowd.specs.declared.book.Turn.{Turn}
 use Rattle.ut_crowd.specs.Ground.{Ground}
 use Rattle.ut_crowd.specs.Book.{lines_in, answers_in, acks_in}
 use Rattle.ut_crowd.specs.Asking.{AsksFrom, begun_first, begun_in}
-use Rattle.ut_crowd.specs.Dating.{AreTimely}
+use Rattle.ut_crowd.specs.Dating.{AreInOrder, AreTimely}
 use Rattle.ut_crowd.specs.Queues.{Weaves}
 
 -- a job that a hall has is that of the pending merge, of a store whose disk failed too
@@ -36,7 +36,9 @@ pub record StandsOn
   pub range : (1 ≤ l1) × (l1 ≤ 1048576)
   pub told : now.told ≡ g.disk.told
   pub faults : g.disk.faults ≤ now.faults
-  -- no turn's moment is past the next entry of the log
+  -- no turn's moment is before that of the turn before it,
+  pub ordered : IsTold g.disk → AreInOrder book
+  -- nor past the next entry of the log
   pub timely : IsTold g.disk → AreTimely now book
   pub loan : g.loan ≡ Some name
   pub held : IsHeld job store

@@ -6,6 +6,7 @@ ghost use Rattle.ut_crowd.specs.Standing.{StandsOn};
 ghost use Rattle.ut_crowd.specs.Queues.{EndsSession, IsDone};
 ghost use Rattle.ut_crowd.specs.Going.{goes_on};
 ghost use Rattle.ut_crowd.specs.Keepers.{IsDated};
+ghost use Rattle.ut_crowd.specs.Waking.{Calls, Wakes, went_of};
 
 use crate::book::Asked;
 use crate::hall::{Hall, Opening, turn_of};
@@ -29,6 +30,7 @@ impl<'a, 'd, D: Disk + Send, O: Opening + Send, H: Hook> Act<Hall<'d, D, O>> for
     ghost use Rattle.ut_crowd.specs.Queues.{EndsSession, IsDone};
     ghost use Rattle.ut_crowd.specs.Going.{goes_on};
     ghost use Rattle.ut_crowd.specs.Keepers.{IsDated};
+    ghost use Rattle.ut_crowd.specs.Waking.{Wakes};
     ghost use Rattle.std.specs.Prelude.{◌≡◌, false, IsTrue};
 
     type Answer = Went;
@@ -37,20 +39,22 @@ impl<'a, 'd, D: Disk + Send, O: Opening + Send, H: Hook> Act<Hall<'d, D, O>> for
         (goes_on answer ≡ false → EndsSession a.session x.stopped y.stopped x.engine.store x.queues.items x.book.items y.book.items)
         × (IsTrue (goes_on answer) → (IsDone a.session x.stopped x.engine.store x.queues.items → ⊥) × (y.stopped ≡ false) × HasTurn a.session (λ _. Unit {0}) x.book.items y.book.items)
         × IsDated (D.view y.engine.disk).moment x.book.items y.book.items
-        × (y.save_waits ≡ x.save_waits) };
+        × (y.save_waits ≡ x.save_waits)
+        × Wakes y.l1 y.last y.save_waits y.engine.store (D.view y.engine.disk) answer };
 
     ghost asks = { λ _ _. Unit {0} };
 
     #[tactic(auto, using(ut_gate::proofs::Jobs::job_stays))]
     fn run(&mut self, value: &mut Hall<'d, D, O>, _slip: &mut Slip<Job>) -> Went {
         let more = value.advance(self.session);
-        came_to(more, value.is_due())
+        let due = value.calls_keeper();
+        went_of(more, due)
     }
 }
 
-// What a turn came to, where there may be more of them, and where a keeper may have something to do.
-fn came_to(more: bool, due: bool) -> Went
-    ensures { goes_on result ≡ more }
+// What a turn comes to, where there may be more of them, and where a keeper that sleeps would do something.
+fn went_of(more: bool, due: bool) -> Went
+    ensures { result ≡ went_of more due }
 {
     if !more {
         Went::Over
@@ -96,8 +100,14 @@ impl<'d, D: Disk, O: Opening> Hall<'d, D, O> {
         true
     }
 
-    // Whether a keeper that sleeps may have something to do. It looks at the lengths of each table.
-    fn is_due(&self) -> bool {
-        !self.stopped && !self.engine.down() && (self.calls_saver() || self.calls_merger())
+    // Whether a keeper that sleeps would do something at its turn. It looks at the lengths of each table.
+    fn calls_keeper(&self) -> bool
+        ensures called { self.now.stopped ≡ false → Calls self.now.l1 self.now.last self.now.save_waits self.now.engine.store (D.view self.now.engine.disk) result }
+        ensures up { IsTrue result → self.now.engine.store.down ≡ false }
+    {
+        if self.stopped || self.engine.down() {
+            return false;
+        }
+        self.calls_saver() || self.calls_merger()
     }
 }

@@ -140,7 +140,7 @@ impl<'d, D: Disk, O: Opening> Hall<'d, D, O> {
         requires stands { StandsOn O.ground self.old.queues.items self.old.book.items self.old.engine.loan (D.view self.old.engine.disk) self.old.engine.store self.old.job self.old.l1 self.old.last }
         ensures stands { StandsOn O.ground self.new.queues.items self.new.book.items self.new.engine.loan (D.view self.new.engine.disk) self.new.engine.store self.new.job self.new.l1 self.new.last }
         ensures book { AddsOne self.old.book.items self.new.book.items }
-        ensures kept { AsksOnce st self.new.stopped self.new.engine.store.down self.old.book.items self.new.book.items result }
+        ensures kept { AsksOnce st false self.new.stopped self.new.engine.store.down self.old.book.items self.new.book.items result }
         ensures dated { IsDated (D.view self.new.engine.disk).moment self.old.book.items self.new.book.items }
 
         // What else the hall holds.
@@ -148,6 +148,7 @@ impl<'d, D: Disk, O: Opening> Hall<'d, D, O> {
         ensures waits { self.new.save_waits ≡ self.old.save_waits }
     {
         if self.book.reserve(1).is_err() {
+            drop(st);
             self.stopped = true;
             return Kept::Over;
         }

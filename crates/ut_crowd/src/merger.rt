@@ -12,8 +12,9 @@ ghost use Rattle.ut_course.specs.Coming.{Comes};
 ghost use Rattle.ut_crowd.specs.Asking.{first_full, is_refusal, kind_of_merge, merge_due, second_full, table_at};
 ghost use Rattle.ut_crowd.specs.Keepers.{AsksDue, BringsJob, EndsJob, IsDated, IsMergeDue, IsShared, KeepsUp, ended};
 ghost use Rattle.ut_crowd.specs.Queues.{IsOver};
-ghost use Rattle.ut_crowd.specs.Ripe.{place_of, ripe_of};
+ghost use Rattle.ut_crowd.specs.Ripe.{is_called, place_of, ripe_of};
 ghost use Rattle.ut_crowd.specs.Standing.{StandsOn};
+ghost use Rattle.ut_crowd.specs.Waking.{calls_merger};
 
 use crate::book::Asked;
 use crate::hall::{Hall, Opening, kept_after, turn_of};
@@ -44,7 +45,7 @@ impl<'a, 'd, D: Disk + Send, O: Opening + Send, B: Build, H: Hook> Act<Hall<'d, 
     type Answer = Kept;
 
     ghost relates = { λ _ _ x y _ slip answer.
-        KeepsUp (IsOver x.stopped x.engine.store x.queues.items) (IsMergeDue x.l1 x.save_waits x.engine.store (D.view x.engine.disk)) (BringsJob slip.job) x.stopped y.stopped y.engine.store.down x.book.items y.book.items answer
+        KeepsUp (IsOver x.stopped x.engine.store x.queues.items) (IsMergeDue x.l1 x.save_waits x.engine.store (D.view x.engine.disk)) (BringsJob slip.job) false x.stopped y.stopped y.engine.store.down x.book.items y.book.items answer
         × IsDated (D.view y.engine.disk).moment x.book.items y.book.items
         × (y.save_waits ≡ x.save_waits) };
 
@@ -121,7 +122,7 @@ impl<'d, D: Disk, O: Opening> Hall<'d, D, O> {
         ensures stands { StandsOn O.ground self.new.queues.items self.new.book.items self.new.engine.loan (D.view self.new.engine.disk) self.new.engine.store self.new.job self.new.l1 self.new.last }
         ensures book { AddsOne self.old.book.items self.new.book.items }
         ensures job { KeepsJob self.old.job self.new.job None result.1 }
-        ensures kept { KeepsUp (IsOver self.old.stopped self.old.engine.store self.old.queues.items) (IsMergeDue self.old.l1 self.old.save_waits self.old.engine.store (D.view self.old.engine.disk)) (BringsJob result.1) self.old.stopped self.new.stopped self.new.engine.store.down self.old.book.items self.new.book.items result.0 }
+        ensures kept { KeepsUp (IsOver self.old.stopped self.old.engine.store self.old.queues.items) (IsMergeDue self.old.l1 self.old.save_waits self.old.engine.store (D.view self.old.engine.disk)) (BringsJob result.1) false self.old.stopped self.new.stopped self.new.engine.store.down self.old.book.items self.new.book.items result.0 }
         ensures dated { IsDated (D.view self.new.engine.disk).moment self.old.book.items self.new.book.items }
         ensures waits { self.new.save_waits ≡ self.old.save_waits }
     {
@@ -146,15 +147,12 @@ impl<'d, D: Disk, O: Opening> Hall<'d, D, O> {
     /// Whether a merger that sleeps would do something at its turn.
     pub(crate) fn calls_merger(&self) -> bool
         requires up { self.now.engine.store.down ≡ false }
+        ensures { (p : Plain) → Runs self.now.engine.store (D.view self.now.engine.disk) p → calls_merger self.now.l1 self.now.save_waits p ≡ result }
     {
         if self.engine.pending().is_some() {
             return false;
         }
-        match first_ripe(&self.engine, self.l1) {
-            None => false,
-            Some(Ripe::First(_)) => true,
-            Some(Ripe::Second(_)) => !self.save_waits,
-        }
+        is_called(self.save_waits, first_ripe(&self.engine, self.l1))
     }
 
     // Moves rows of the first stage of the table at a place. Its name is a part of the turn, so want of memory for it is want of room.
@@ -166,7 +164,7 @@ impl<'d, D: Disk, O: Opening> Hall<'d, D, O> {
         requires stands { StandsOn O.ground self.old.queues.items self.old.book.items self.old.engine.loan (D.view self.old.engine.disk) self.old.engine.store self.old.job self.old.l1 self.old.last }
         ensures stands { StandsOn O.ground self.new.queues.items self.new.book.items self.new.engine.loan (D.view self.new.engine.disk) self.new.engine.store self.new.job self.new.l1 self.new.last }
         ensures book { AddsOne self.old.book.items self.new.book.items }
-        ensures kept { AsksDue (IsMergeDue self.old.l1 self.old.save_waits self.old.engine.store (D.view self.old.engine.disk)) (BringsJob None) self.new.stopped self.new.engine.store.down self.old.book.items self.new.book.items result }
+        ensures kept { AsksDue (IsMergeDue self.old.l1 self.old.save_waits self.old.engine.store (D.view self.old.engine.disk)) (BringsJob None) false self.new.stopped self.new.engine.store.down self.old.book.items self.new.book.items result }
         ensures dated { IsDated (D.view self.new.engine.disk).moment self.old.book.items self.new.book.items }
         ensures job { self.new.job ≡ self.old.job }
         ensures waits { self.new.save_waits ≡ self.old.save_waits }
@@ -192,7 +190,7 @@ impl<'d, D: Disk, O: Opening> Hall<'d, D, O> {
         requires stands { StandsOn O.ground self.old.queues.items self.old.book.items self.old.engine.loan (D.view self.old.engine.disk) self.old.engine.store self.old.job self.old.l1 self.old.last }
         ensures stands { StandsOn O.ground self.new.queues.items self.new.book.items self.new.engine.loan (D.view self.new.engine.disk) self.new.engine.store self.new.job self.new.l1 self.new.last }
         ensures book { AddsOne self.old.book.items self.new.book.items }
-        ensures kept { AsksDue (IsMergeDue self.old.l1 self.old.save_waits self.old.engine.store (D.view self.old.engine.disk)) (BringsJob result.1) self.new.stopped self.new.engine.store.down self.old.book.items self.new.book.items result.0 }
+        ensures kept { AsksDue (IsMergeDue self.old.l1 self.old.save_waits self.old.engine.store (D.view self.old.engine.disk)) (BringsJob result.1) false self.new.stopped self.new.engine.store.down self.old.book.items self.new.book.items result.0 }
         ensures dated { IsDated (D.view self.new.engine.disk).moment self.old.book.items self.new.book.items }
         ensures job { result.1 ≡ self.new.job }
         ensures waits { self.new.save_waits ≡ self.old.save_waits }
@@ -324,6 +322,17 @@ fn kind_after(merges: u32) -> MergeKind
         3 => MergeKind::Classic,
         1 => MergeKind::Resort,
         _ => MergeKind::Partial,
+    }
+}
+
+// Whether a merger does something with such a table, while a savepoint waits or none does.
+fn is_called(waited: bool, ripe: Option<Ripe>) -> bool
+    ensures { result ≡ is_called waited ripe }
+{
+    match ripe {
+        None => false,
+        Some(Ripe::First(_)) => true,
+        Some(Ripe::Second(_)) => !waited,
     }
 }
 

@@ -1,7 +1,9 @@
 //! A saver's turns: the pieces of a savepoint, one after the other.
-ghost use Rattle.std.specs.Prelude.{◌≡◌, false, is_some, IsTrue, IfSome};
+ghost use Rattle.std.specs.Prelude.{◌≡◌, ◌&&◌, false, not, is_some, IsTrue, IfSome};
 ghost use Rattle.ut_plain.specs.Spelled.{is_spelled};
 ghost use Rattle.ut_store.specs.Standing.{is_of_store};
+ghost use Rattle.ut_plain.specs.Plain.{Plain};
+ghost use Rattle.ut_engine.specs.Runs.{Runs};
 ghost use Rattle.ut_engine.specs.Savepoints.{progress_of};
 ghost use Rattle.ut_gate.specs.Turns.{AddsOne};
 ghost use Rattle.ut_course.specs.Coming.{is_of_merge};
@@ -10,6 +12,7 @@ ghost use Rattle.ut_crowd.specs.Keepers.{IsDated, IsSaveDue, IsWaiting, KeepsUp}
 ghost use Rattle.ut_crowd.specs.Queues.{IsOver};
 ghost use Rattle.ut_crowd.specs.Saving.{due_piece, is_enough};
 ghost use Rattle.ut_crowd.specs.Standing.{StandsOn};
+ghost use Rattle.ut_crowd.specs.Waking.{calls_saver, is_begin};
 
 use crate::hall::{Hall, Opening, woken};
 use ut_crew::Kept;
@@ -38,7 +41,7 @@ impl<'d, D: Disk + Send, O: Opening + Send> Act<Hall<'d, D, O>> for Saver {
     type Answer = Kept;
 
     ghost relates = { λ _ _ x y _ _ answer.
-        KeepsUp (IsOver x.stopped x.engine.store x.queues.items) (IsSaveDue x.last x.engine.store (D.view x.engine.disk)) (λ _. Unit {0}) x.stopped y.stopped y.engine.store.down x.book.items y.book.items answer
+        KeepsUp (IsOver x.stopped x.engine.store x.queues.items) (IsSaveDue x.last x.engine.store (D.view x.engine.disk)) (λ _. Unit {0}) x.save_waits x.stopped y.stopped y.engine.store.down x.book.items y.book.items answer
         × ((IsOver x.stopped x.engine.store x.queues.items → ⊥) → IsWaiting x.last x.engine.store (D.view x.engine.disk) y.save_waits)
         × IsDated (D.view y.engine.disk).moment x.book.items y.book.items };
 
@@ -58,7 +61,7 @@ impl<'d, D: Disk, O: Opening> Hall<'d, D, O> {
         ensures stands { StandsOn O.ground self.new.queues.items self.new.book.items self.new.engine.loan (D.view self.new.engine.disk) self.new.engine.store self.new.job self.new.l1 self.new.last }
         ensures book { AddsOne self.old.book.items self.new.book.items }
         ensures job { self.new.job ≡ self.old.job }
-        ensures kept { KeepsUp (IsOver self.old.stopped self.old.engine.store self.old.queues.items) (IsSaveDue self.old.last self.old.engine.store (D.view self.old.engine.disk)) (λ _. Unit {0}) self.old.stopped self.new.stopped self.new.engine.store.down self.old.book.items self.new.book.items result }
+        ensures kept { KeepsUp (IsOver self.old.stopped self.old.engine.store self.old.queues.items) (IsSaveDue self.old.last self.old.engine.store (D.view self.old.engine.disk)) (λ _. Unit {0}) self.old.save_waits self.old.stopped self.new.stopped self.new.engine.store.down self.old.book.items self.new.book.items result }
         ensures waits { (IsOver self.old.stopped self.old.engine.store self.old.queues.items → ⊥) → IsWaiting self.old.last self.old.engine.store (D.view self.old.engine.disk) self.new.save_waits }
         ensures dated { IsDated (D.view self.new.engine.disk).moment self.old.book.items self.new.book.items }
     {
@@ -66,12 +69,11 @@ impl<'d, D: Disk, O: Opening> Hall<'d, D, O> {
             return Kept::Over;
         }
         let waited = self.save_waits;
-        let piece = self.next_piece();
-        self.save_waits = self.has_to_wait(&piece);
+        self.save_waits = self.next_waits();
         if self.save_waits {
             return Kept::Idle;
         }
-        match piece {
+        match self.next_piece() {
             Some(piece) => woken(waited, self.ask(piece)),
             None => Kept::Idle,
         }
@@ -93,25 +95,40 @@ impl<'d, D: Disk, O: Opening> Hall<'d, D, O> {
         )
     }
 
-    // Whether the piece that comes next waits for the end of a merge.
+    // Whether the piece that comes next, if one does, waits for the end of a merge.
+    fn next_waits(&self) -> bool
+        requires up { self.now.engine.store.down ≡ false }
+        ensures { result ≡ waits (is_some self.now.engine.store.store.counts.pending) (due_piece (progress_of self.now.engine.store.saving) self.now.engine.store.store.counts.entries self.now.last.entries self.now.last.pages) }
+    {
+        let piece = self.next_piece();
+        self.has_to_wait(&piece)
+    }
+
+    // Whether a piece waits for the end of a merge.
     fn has_to_wait(&self, piece: &Option<Statement>) -> bool
         ensures { result ≡ waits (is_some self.now.engine.store.store.counts.pending) piece.now }
     {
         waits(self.engine.pending().is_some(), piece)
     }
 
-    /// Whether a saver that sleeps would do something at its turn: none does so while a savepoint is written.
+    /// Whether a saver that sleeps would do something at its turn: none sleeps while a savepoint is written.
     pub(crate) fn calls_saver(&self) -> bool
         requires up { self.now.engine.store.down ≡ false }
+        ensures { (p : Plain) → Runs self.now.engine.store (D.view self.now.engine.disk) p → calls_saver self.now.last self.now.save_waits p ≡ result }
     {
-        let progress = self.engine.phase();
-        progress == Progress::Idle
-            && is_enough(
-                self.engine.journal_len(),
-                self.last.entries,
-                self.last.pages,
-            )
-            && (self.engine.pending().is_none() || !self.save_waits)
+        let piece = self.next_piece();
+        let waits = self.has_to_wait(&piece);
+        begins(&piece, self.save_waits, waits)
+    }
+}
+
+// Whether a piece is the begin of a savepoint, and none that waits as it was noted.
+fn begins(piece: &Option<Statement>, noted: bool, waits: bool) -> bool
+    ensures { result ≡ (is_begin piece.now && not (noted && waits)) }
+{
+    match piece {
+        Some(Statement::SaveBegin) => !(noted && waits),
+        _ => false,
     }
 }
 

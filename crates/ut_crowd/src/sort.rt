@@ -54,7 +54,11 @@ fn owner(alloc: Global, line: &[u8]) -> Whose
     ensures { result ≡ whose_of (parsed true line.now) }
 {
     match parse_line(alloc, line, true) {
-        Ok(parsed) => owner_of(&parsed),
+        Ok(parsed) => {
+            let whose = owner_of(&parsed);
+            drop(parsed);
+            whose
+        }
         Err(lacks) => Whose::Of(lacks.session),
     }
 }

@@ -16,13 +16,25 @@ const WORKING: &str = ".";
 const MAX_OFFSET: u64 = (1 << 63) - 1;
 
 /// The working folder. It tells nothing.
-#[derive(Drop)]
 pub struct WorkingFolder<'a, R: Files<File = File>> {
     rt: &'a R,
     nulls: Option<[File; 3]>,
     redo: Option<File>,
     pages: Option<File>,
     redo2: Option<File>,
+}
+
+// A drop of its own is one step of a proof wherever one is dropped. A derived one is a step for each file, at each place.
+impl<'a, R: Files<File = File>> Drop for WorkingFolder<'a, R> {
+    fn drop(self) {
+        let WorkingFolder {
+            rt: _,
+            nulls: _,
+            redo: _,
+            pages: _,
+            redo2: _,
+        } = self;
+    }
 }
 
 impl<'a, R: Files<File = File>> WorkingFolder<'a, R> {

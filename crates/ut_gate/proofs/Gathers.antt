@@ -4,17 +4,15 @@ use Rattle.std.specs.Prelude.{Option, Some, None, All}
 use mathlib.Core.Option.{some, some-injective, some-ne-none}
 use mathlib.Core.List.{IsPrefix}
 use lib.ListN.{get_elem?}
-use Rattle.atomic_table.specs.Table.{Me}
 use Rattle.atomic_table.specs.Seated.{TableId}
 use Rattle.atomic_table.specs.declared.shared.Seat.{Seat}
 use Rattle.ut_gate.specs.declared.view.View.{View}
 use Rattle.ut_gate.specs.declared.view.Home.{Home}
 use Rattle.ut_gate.specs.Counts.{total, one_if, times}
 use Rattle.ut_gate.specs.Tells.{joined, longer}
-use Rattle.ut_gate.specs.Steps.{HasTurn}
+use Rattle.ut_gate.specs.Steps.{IsLast}
 use Rattle.ut_gate.specs.Passes.{Carried, carried, fresh, IsAway, Gathered, Apart}
 use Rattle.ut_gate.proofs.Sums.{total_append}
-use Rattle.ut_gate.proofs.Leaves.{first_home}
 
 module _ {A : Type 0} where
   pub mid_at : (xs : List A) (p : A) (ys : List A) (d : A) → get_or (xs ++ p ∷ ys) (length xs) d ≡ p
@@ -51,14 +49,14 @@ module _ {A : Type 0} where
   still_there (x ∷ xs) m (suc k) a e = still_there xs m k a e
 
 module _ (X J S : Type 0) where
-  pub fresh_is : (seat : Seat (Option (Home S)) (View X J)) (gate : TableId) → seat.table_id ≡ gate → seat.me.0.seen ≡ [] → seat.me.0.own ≡ [] → carried seat None ≡ fresh gate
+  pub fresh_is : (seat : Seat (Home S) (View X J)) (gate : TableId) → seat.table_id ≡ gate → seat.me.0.seen ≡ [] → seat.me.0.own ≡ [] → carried seat None ≡ fresh gate
   fresh_is seat gate e f h = λ i. record { gate = e i; seen = f i; own = h i; job = None }
 
-  alone : (p : Carried X J) (seat : Seat (Option (Home S)) (View X J)) (job : Option J) → carried seat job ≡ p → (i : ℕ) (q : Carried X J) → get_elem? (p ∷ []) i ≡ some q → (q.seen ≡ seat.me.0.seen) ⊎ ((k : ℕ) × (get_elem? seat.me.0.told k ≡ some q.seen))
+  alone : (p : Carried X J) (seat : Seat (Home S) (View X J)) (job : Option J) → carried seat job ≡ p → (i : ℕ) (q : Carried X J) → get_elem? (p ∷ []) i ≡ some q → (q.seen ≡ seat.me.0.seen) ⊎ ((k : ℕ) × (get_elem? seat.me.0.told k ≡ some q.seen))
   alone p seat job is zero q e = inl (ap (λ (z : Carried X J). z.seen) (sym (some-injective p q e)) ∙ ap (λ (z : Carried X J). z.seen) (sym is))
   alone p seat job is (suc i) q e = absurd (some-ne-none q (sym e))
 
-  pub gathers_first : (p : Carried X J) (seat : Seat (Option (Home S)) (View X J)) (job : Option J) → carried seat job ≡ p → IsAway seat job → Gathered (p ∷ []) seat.me.0
+  pub gathers_first : (p : Carried X J) (seat : Seat (Home S) (View X J)) (job : Option J) → carried seat job ≡ p → IsAway seat job → Gathered (p ∷ []) seat.me.0
   gathers_first p seat job is away = record { seen = alone p seat job is; own = λ n. let e : times n p.own ≡ times n seat.me.0.own = ap (λ (q : Carried X J). times n q.own) (sym is) in omega arith; away = away.0 }
 
   more : (taken : List (Carried X J)) (v w : View X J) (p : Carried X J) → ((i : ℕ) (q : Carried X J) → get_elem? taken i ≡ some q → (q.seen ≡ v.seen) ⊎ ((k : ℕ) × (get_elem? v.told k ≡ some q.seen))) → p.seen ≡ w.seen
@@ -67,7 +65,7 @@ module _ (X J S : Type 0) where
   more taken v w p h is (suc i) q e = ⊎_elim (λ (a : q.seen ≡ v.seen). inr (length v.told, end_there v.told v.seen w.seen ∙ ap (λ (z : List X). some z) (sym a)))
       (λ (a : (k : ℕ) × (get_elem? v.told k ≡ some q.seen)). inr (a.0, still_there v.told (v.seen ∷ w.seen ∷ []) a.0 q.seen a.1)) (h i q e)
 
-  pub gathers_more : (taken : List (Carried X J)) (v u : View X J) (p : Carried X J) (seat : Seat (Option (Home S)) (View X J)) (job : Option J) → Gathered taken v → carried seat job ≡ p → u ≡ joined v seat.me.0 → Gathered (p ∷ taken) u
+  pub gathers_more : (taken : List (Carried X J)) (v u : View X J) (p : Carried X J) (seat : Seat (Home S) (View X J)) (job : Option J) → Gathered taken v → carried seat job ≡ p → u ≡ joined v seat.me.0 → Gathered (p ∷ taken) u
   gathers_more taken v u p seat job h is u_is = subst (Gathered (p ∷ taken)) (sym u_is) record {
     seen = more taken v seat.me.0 p h.seen (ap (λ (z : Carried X J). z.seen) (sym is));
     own = λ n. let e : times n p.own ≡ times n seat.me.0.own = ap (λ (q : Carried X J). times n q.own) (sym is) in
@@ -75,20 +73,14 @@ module _ (X J S : Type 0) where
     away = h.away;
   }
 
-  module _ (book : S → List X) (job : S → Option J) (good : S → Type 0) where
-    same_home : (m m' : Me (Option (Home S)) (View X J)) (x : Home S) (turn : HasTurn book job good m m') → m'.1 ≡ (0, Some x) ∷ [] → turn.1.home ≡ x
-    same_home m m' x turn has = ap (λ (z : Me (Option (Home S)) (View X J)). first_home turn.1.home z.1) (sym turn.1.is) ∙ ap (first_home turn.1.home) has
+  module _ (book : S → List X) (good : S → Type 0) where
+    pub closes_seen : (passes taken : List (Carried X J)) (v : View X J) (y : S) → passes ≡ taken → Gathered taken v → IsLast book good v y → All (λ (p : Carried X J). IsPrefix p.seen (book y)) passes
+    closes_seen passes taken v y is h last =
+        let seen_at : (p : Carried X J) → (p.seen ≡ v.seen) ⊎ ((k : ℕ) × (get_elem? v.told k ≡ some p.seen)) → IsPrefix p.seen (book y) =
+        λ p way. ⊎_elim (λ (e : p.seen ≡ v.seen). subst (λ (l : List X). IsPrefix l (book y)) (sym e) last.seen)
+        (λ (e : (k : ℕ) × (get_elem? v.told k ≡ some p.seen)). last.told p.seen e.0 e.1) way in
+        let there : All (λ (p : Carried X J). IsPrefix p.seen (book y)) taken = λ k d less. seen_at (get_or taken k d) (h.seen k (get_or taken k d) (at_or taken k d less)) in
+        subst (All (λ (p : Carried X J). IsPrefix p.seen (book y))) (sym is) there
 
-    seen_at : (m m' : Me (Option (Home S)) (View X J)) (x : Home S) → HasTurn book job good m m' → m'.1 ≡ (0, Some x) ∷ [] → (p : Carried X J) → (p.seen ≡ m.0.seen) ⊎ ((k : ℕ) × (get_elem? m.0.told k ≡ some p.seen)) → IsPrefix p.seen (book x.value)
-    seen_at m m' x turn has p way =
-        subst (λ (z : Home S). IsPrefix p.seen (book z.value)) (same_home m m' x turn has)
-        (⊎_elim (λ (e : p.seen ≡ m.0.seen). subst (λ (l : List X). IsPrefix l (book turn.1.home.value)) (sym e) turn.1.seen)
-        (λ (e : (k : ℕ) × (get_elem? m.0.told k ≡ some p.seen)). turn.1.told p.seen e.0 e.1) way)
-
-    pub closes_seen : (passes taken : List (Carried X J)) (m m' : Me (Option (Home S)) (View X J)) (x : Home S) → passes ≡ taken → Gathered taken m.0 → HasTurn book job good m m' → m'.1 ≡ (0, Some x) ∷ [] → All (λ (p : Carried X J). IsPrefix p.seen (book x.value)) passes
-    closes_seen passes taken m m' x is h turn has =
-        let there : All (λ (p : Carried X J). IsPrefix p.seen (book x.value)) taken = λ k d less. seen_at m m' x turn has (get_or taken k d) (h.seen k (get_or taken k d) (at_or taken k d less)) in
-        subst (All (λ (p : Carried X J). IsPrefix p.seen (book x.value))) (sym is) there
-
-    pub closes_apart : (passes taken : List (Carried X J)) (m m' : Me (Option (Home S)) (View X J)) → passes ≡ taken → Gathered taken m.0 → HasTurn book job good m m' → Apart passes
-    closes_apart passes taken m m' is h turn n = let o = h.own n in let a = turn.1.apart n in let e = ap (λ (l : List (Carried X J)). total (λ (p : Carried X J). times n p.own) l) is in omega arith
+    pub closes_apart : (passes taken : List (Carried X J)) (v : View X J) (y : S) → passes ≡ taken → Gathered taken v → IsLast book good v y → Apart passes
+    closes_apart passes taken v y is h last n = let o = h.own n in let a = last.apart n in let e = ap (λ (l : List (Carried X J)). total (λ (p : Carried X J). times n p.own) l) is in omega arith

@@ -49,10 +49,10 @@ module _ {J : Type 0} where
   either_none_right (Some x) k e = refl
 
 module _ {X J S : Type 0} (book : S → List X) (job : S → Option J) (good : S → Type 0) where
-  abbrev Rule : State (Option (Home S)) (View X J) → Type 0
+  abbrev Rule : State (Home S) (View X J) → Type 0
   Rule = InOrder book job good
 
-  joins_with : (id : ℕ) (v : View X J) (other : ℕ) (w : View X J) (owner : ℕ) (s : State (Option (Home S)) (View X J)) (r : Rule s) → v.stage ≡ Away → w.stage ≡ Away → get_elem? s.views id ≡ M.some v → other ≢ id → get_elem? s.views other ≡ M.some w
+  joins_with : (id : ℕ) (v : View X J) (other : ℕ) (w : View X J) (owner : ℕ) (s : State (Home S) (View X J)) (r : Rule s) → v.stage ≡ Away → w.stage ≡ Away → get_elem? s.views id ≡ M.some v → other ≢ id → get_elem? s.views other ≡ M.some w
       → owner < length s.views → owner ≢ other → (id ≡ owner → either_job v.job w.job ≡ r.held) → (id ≢ owner → either_job v.job w.job ≡ None)
       → ((j : ℕ) (u : View X J) → j ≢ id → j ≢ other → get_elem? s.views j ≡ M.some u → (j ≡ owner → u.job ≡ r.held) × (j ≢ owner → u.job ≡ None))
       → Rule record { words = s.words; homes = s.homes; views = set (set s.views id (joined v w)) other (newcomer [] 0) }

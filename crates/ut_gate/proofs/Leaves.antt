@@ -18,7 +18,7 @@ use Rattle.ut_gate.specs.Counts.{total, one_if, word_of}
 use Rattle.ut_gate.specs.Turns.{AddsOne, MayChange, slip_after}
 use Rattle.ut_gate.specs.Line.{queued, queued_at, has_turn, InLine, Knows, AtHome, IsOut, InOrder}
 use Rattle.ut_gate.specs.Tells.{own_after, view_after, Leaves, book_of, job_of, ticket_of}
-use Rattle.ut_gate.specs.Steps.{HasTurnAt}
+use Rattle.ut_gate.specs.Steps.{MayLeave, HasLeft}
 use Rattle.ut_gate.proofs.Sums.{total_set, total_none, inside, prefix_refl, prefix_trans, prefix_length, times_none}
 use Rattle.ut_gate.proofs.Views.{waits, spares, at_ticket, places, each_set, clash, same_total, line_served, still_apart, bool_cases}
 use Rattle.ut_gate.proofs.Rules.{only_turn}
@@ -60,19 +60,15 @@ module _ {J : Type 0} where
   )
 
 module _ {S : Type 0} where
-  abbrev pub or_else : Home S → Option (Home S) → Home S
-  or_else d None = d
-  or_else d (Some y) = y
-
-  abbrev pub first_home : Home S → List (ℕ × Option (Home S)) → Home S
+  abbrev pub first_home : Home S → List (ℕ × Home S) → Home S
   first_home d [] = d
-  first_home d (x ∷ xs) = or_else d x.1
+  first_home d (x ∷ xs) = x.1
 
 module _ {X J S : Type 0} (book : S → List X) (job : S → Option J) (good : S → Type 0) where
-  abbrev Rule : State (Option (Home S)) (View X J) → Type 0
+  abbrev Rule : State (Home S) (View X J) → Type 0
   Rule = InOrder book job good
 
-  pub leaves : (slots id : ℕ) (me : Me (Option (Home S)) (View X J)) (y : Home S) → me.0.stage ≡ Holds (ticket_of me.0.stage) (book_of me.0.stage) (job_of me.0.stage) → me.1 ≡ (0, Some y) ∷ []
+  pub leaves : (slots id : ℕ) (me : Me (Home S) (View X J)) (y : Home S) → me.0.stage ≡ Holds (ticket_of me.0.stage) (book_of me.0.stage) (job_of me.0.stage) → me.1 ≡ (0, y) ∷ []
       → y.turns ≡ word_of (ticket_of me.0.stage + 1) → AddsOne (book_of me.0.stage) (book y.value) → MayChange (job_of me.0.stage) (job y.value) me.0.job → good y.value
       → Allows Rule slots id me 1 (λ n. (n + 1) % 18446744073709551616) (Leaves book job good (step slots 1 1 0 M.none) me)
   leaves slots id me y is has turns_is adds may fits s r _ at _ =
@@ -131,7 +127,7 @@ module _ {X J S : Type 0} (book : S → List X) (job : S → Option J) (good : S
             home = y;
             turns = turns_is ∙ ap (λ (z : ℕ). word_of (z + 1)) lin.0;
             homes = ⊎_elim (λ (h : AtHome book job good r.first r.log r.held s). let no : true ≡ false = sym turn ∙ h.nobody id me.0 at in cc)
-                (λ (o : IsOut book job good s). ap (λ (c : List (ℕ × Option (Home S))). put_back s.homes c) has ∙ ap (λ (hs : List (M.Option (Option (Home S)))). set hs 0 (M.some (Some y))) o.homes) r.slot;
+                (λ (o : IsOut book job good s). ap (λ (c : List (ℕ × Home S)). put_back s.homes c) has ∙ ap (λ (hs : List (M.Option (Home S))). set hs 0 (M.some y)) o.homes) r.slot;
             book_is = refl;
             job_is = refl;
             fits = fits;
@@ -139,25 +135,38 @@ module _ {X J S : Type 0} (book : S → List X) (job : S → Option J) (good : S
                 (λ j u ne e. ⊎_elim (λ (q : has_turn u.stage ≡ true). absurd (only_turn book job good s r id me.0 at queue j u ne e q)) (λ (q : has_turn u.stage ≡ false). q) (bool_cases (has_turn u.stage)));
           };
         },
-        λ y' has'. let lists : Prim.Path (List (ℕ × Option (Home S))) ((0, Some y) ∷ []) ((0, Some y') ∷ []) = sym has ∙ has' in
+        λ y' has'. let lists : Prim.Path (List (ℕ × Home S)) ((0, y) ∷ []) ((0, y') ∷ []) = sym has ∙ has' in
             let y_is : y ≡ y' = ap (first_home y) lists in
             λ i. (view_after book job good me.0 (y_is i).value, rest me.1),
       )
 
-  -- the pass at its turn, with the value in the slot
-  filled : (m m1 : Me (Option (Home S)) (View X J)) (y : Home S) → HasTurnAt m → m1 ≡ (m.0, (0, Some y) ∷ rest m.1) → m1 ≡ (m.0, (0, Some y) ∷ [])
-  filled m m1 y h is = is ∙ ap (λ (l : List (ℕ × Option (Home S))). let z : Me (Option (Home S)) (View X J) = (m.0, (0, Some y) ∷ rest l) in z) h.1
+  -- the pass at its turn, with the value as it is when the turn was counted
+  counted : (m m1 : Me (Home S) (View X J)) (y z : Home S) → m.1 ≡ (0, z) ∷ [] → m1 ≡ (m.0, (0, y) ∷ rest m.1) → m1 ≡ (m.0, (0, y) ∷ [])
+  counted m m1 y z out is = is ∙ ap (λ (l : List (ℕ × Home S)). let u : Me (Home S) (View X J) = (m.0, (0, y) ∷ rest l) in u) out
 
-  pub leaves_at : (slots id : ℕ) (m m1 : Me (Option (Home S)) (View X J)) (y : Home S) (had : ℕ) → HasTurnAt m → m1 ≡ (m.0, (0, Some y) ∷ rest m.1)
-      → had ≡ word_of (ticket_of m.0.stage) → y.turns ≡ (had + 1) % 18446744073709551616 → AddsOne (book_of m.0.stage) (book y.value) → MayChange (job_of m.0.stage) (job y.value) m.0.job → good y.value
+  -- the value that is out is the one that was lent
+  lent : (m : Me (Home S) (View X J)) (x z : Home S) → m.1 ≡ (0, x) ∷ rest m.1 → m.1 ≡ (0, z) ∷ [] → x ≡ z
+  lent m x z has out = let lists : Prim.Path (List (ℕ × Home S)) ((0, x) ∷ rest m.1) ((0, z) ∷ []) = sym has ∙ out in ap (first_home x) lists
+
+  pub leaves_at : (slots id : ℕ) (m m1 : Me (Home S) (View X J)) (x y : Home S) → MayLeave book job good m → m.1 ≡ (0, x) ∷ rest m.1 → m1 ≡ (m.0, (0, y) ∷ rest m.1)
+      → y.value ≡ x.value → y.turns ≡ (x.turns + 1) % 18446744073709551616
       → Allows Rule slots id m1 1 (λ n. (n + 1) % 18446744073709551616) (Leaves book job good (step slots 1 1 0 M.none) m1)
-  leaves_at slots id m m1 y had h is had_is turns_is adds may fits = let e : Prim.Path (Me (Option (Home S)) (View X J)) (m.0, (0, Some y) ∷ []) m1 = sym (filled m m1 y h is) in
-      let counted : y.turns ≡ word_of (ticket_of m.0.stage + 1) = turns_is ∙ (ap (λ (z : ℕ). (z + 1) % 18446744073709551616) had_is ∙ mod-add-mod (ticket_of m.0.stage) 18446744073709551616 1) in
-      subst (λ (z : Me (Option (Home S)) (View X J)). Allows Rule slots id z 1 (λ n. (n + 1) % 18446744073709551616) (Leaves book job good (step slots 1 1 0 M.none) z)) e
-      (leaves slots id (m.0, (0, Some y) ∷ []) y h.0 refl counted adds may fits)
+  leaves_at slots id m m1 x y h has is same turns_is =
+      let e : Prim.Path (Me (Home S) (View X J)) (m.0, (0, y) ∷ []) m1 = sym (counted m m1 y h.home h.out is) in
+      let home_is : x ≡ h.home = lent m x h.home has h.out in
+      let value_is : h.home.value ≡ y.value = sym (same ∙ ap (λ (z : Home S). z.value) home_is) in
+      let now : y.turns ≡ word_of (ticket_of m.0.stage + 1) =
+      turns_is ∙ (ap (λ (z : ℕ). (z + 1) % 18446744073709551616) (ap (λ (z : Home S). z.turns) home_is ∙ h.turns) ∙ mod-add-mod (ticket_of m.0.stage) 18446744073709551616 1) in
+      subst (λ (z : Me (Home S) (View X J)). Allows Rule slots id z 1 (λ n. (n + 1) % 18446744073709551616) (Leaves book job good (step slots 1 1 0 M.none) z)) e
+      (leaves slots id (m.0, (0, y) ∷ []) y h.stage refl now
+      (subst (λ (z : S). AddsOne (book_of m.0.stage) (book z)) value_is h.adds)
+      (subst (λ (z : S). MayChange (job_of m.0.stage) (job z) m.0.job) value_is h.may)
+      (subst good value_is h.fits))
 
-  pub left_at : (m m1 m2 : Me (Option (Home S)) (View X J)) (slots : ℕ) (y : Home S) → HasTurnAt m → m1 ≡ (m.0, (0, Some y) ∷ rest m.1) → Leaves book job good (step slots 1 1 0 M.none) m1 0 m2
-      → m2 ≡ (view_after book job good m.0 y.value, [])
-  left_at m m1 m2 slots y h is l = let e = filled m m1 y h is in
-      let k : Leaves book job good (step slots 1 1 0 M.none) (m.0, (0, Some y) ∷ []) 0 m2 = subst (λ (z : Me (Option (Home S)) (View X J)). Leaves book job good (step slots 1 1 0 M.none) z 0 m2) e l in
-      k y refl
+  pub left_at : (m m1 m2 : Me (Home S) (View X J)) (slots : ℕ) (x y : Home S) → m.1 ≡ (0, x) ∷ rest m.1 → m1 ≡ (m.0, (0, y) ∷ rest m.1) → y.value ≡ x.value → Leaves book job good (step slots 1 1 0 M.none) m1 0 m2
+      → HasLeft book job good m m2
+  left_at m m1 m2 slots x y has is same l z out =
+      let e = counted m m1 y z out is in
+      let k : Leaves book job good (step slots 1 1 0 M.none) (m.0, (0, y) ∷ []) 0 m2 = subst (λ (u : Me (Home S) (View X J)). Leaves book job good (step slots 1 1 0 M.none) u 0 m2) e l in
+      let value_is : y.value ≡ z.value = same ∙ ap (λ (u : Home S). u.value) (lent m x z has out) in
+      k y refl ∙ ap (λ (u : S). let w : Me (Home S) (View X J) = (view_after book job good m.0 u, []) in w) value_is

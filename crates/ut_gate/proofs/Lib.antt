@@ -3,6 +3,8 @@ pub mod Views
 pub mod Rules
 pub mod Looks
 pub mod Leaves
+pub mod Ends
+pub mod Acts
 pub mod Splits
 pub mod Joins
 pub mod Gathers

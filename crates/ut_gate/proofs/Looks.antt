@@ -19,7 +19,7 @@ use Rattle.ut_gate.specs.Counts.{total, one_if, times, word_of}
 use Rattle.ut_gate.specs.Turns.{MeetsJob}
 use Rattle.ut_gate.specs.Line.{queued, queued_at, has_turn, InLine, Knows, AtHome, IsOut, InOrder}
 use Rattle.ut_gate.specs.Tells.{staged, Draws, Gets, Looks}
-use Rattle.ut_gate.specs.Steps.{IsWaiting, HasTurn, HasValue}
+use Rattle.ut_gate.specs.Steps.{IsWaiting, HasTurn, IsAtTurn}
 use Rattle.ut_gate.proofs.Sums.{total_set, total_none, one_in, inside}
 use Rattle.ut_gate.proofs.Views.{waits, spares, at_ticket, places, turns, each_set, none_past, same_total, line_longer, drawn_once, mine_or_none}
 use Rattle.ut_gate.proofs.Rules.{short, slot_same, unchanged, only_turn}
@@ -34,10 +34,10 @@ module _ {J : Type 0} where
   meets_if k mine (inr e) = subst (λ (z : Option J). MeetsJob k z) (sym e) tt
 
 module _ {X J S : Type 0} (book : S → List X) (job : S → Option J) (good : S → Type 0) where
-  abbrev Rule : State (Option (Home S)) (View X J) → Type 0
+  abbrev Rule : State (Home S) (View X J) → Type 0
   Rule = InOrder book job good
 
-  pub draws : (slots id : ℕ) (me : Me (Option (Home S)) (View X J)) → me.0.stage ≡ Away → Allows Rule slots id me 0 (λ n. (n + 1) % 18446744073709551616) (Draws book job good (step slots 0 1 0 M.none) me)
+  pub draws : (slots id : ℕ) (me : Me (Home S) (View X J)) → me.0.stage ≡ Away → Allows Rule slots id me 0 (λ n. (n + 1) % 18446744073709551616) (Draws book job good (step slots 0 1 0 M.none) me)
   draws slots id me away s r _ at _ =
       let w : View X J = staged me.0 (Waits r.past) in
       let old = r.each id me.0 at in
@@ -66,7 +66,7 @@ module _ {X J S : Type 0} (book : S → List X) (job : S → Option J) (good : S
         (r.past, ap (λ (ws : List ℕ). get_or ws 0 0) r.words, refl),
       )
 
-  pub looks : (slots id : ℕ) (me : Me (Option (Home S)) (View X J)) (t : ℕ) → me.0.stage ≡ Waits t → Allows Rule slots id me 1 (λ n. n) (Looks book job good (step slots 1 0 0 M.none) me)
+  pub looks : (slots id : ℕ) (me : Me (Home S) (View X J)) (t : ℕ) → me.0.stage ≡ Waits t → Allows Rule slots id me 1 (λ n. n) (Looks book job good (step slots 1 0 0 M.none) me)
   looks slots id me t is s r _ at _ = let n : ℕ = get_or s.words 1 0 in
       let found : n ≡ word_of r.first = ap (λ (ws : List ℕ). get_or ws 1 0) r.words in
       let old = r.each id me.0 at in
@@ -81,8 +81,8 @@ module _ {X J S : Type 0} (book : S → List X) (job : S → Option J) (good : S
       ⊎_elim (λ (h : AtHome book job good r.first r.log r.held s).
       let w : View X J = staged me.0 (Holds t (book h.home.value) (job h.home.value)) in (
         w,
-        takes 0 (Some h.home),
-        ap (λ (hs : List (M.Option (Option (Home S)))). get_elem? hs 0) h.homes,
+        takes 0 h.home,
+        ap (λ (hs : List (M.Option (Home S))). get_elem? hs 0) h.homes,
         record {
           first = r.first;
           past = r.past;
@@ -99,7 +99,7 @@ module _ {X J S : Type 0} (book : S → List X) (job : S → Option J) (good : S
           apart = λ p. let e = same_total (places p) s.views id me.0 w at refl in let c = r.apart p in omega arith;
           there = let c = r.there in omega (arith, length-set s.views id w);
           slot = inr record {
-            homes = ap (λ (hs : List (M.Option (Option (Home S)))). set hs 0 M.none) h.homes;
+            homes = ap (λ (hs : List (M.Option (Home S))). set hs 0 M.none) h.homes;
             seat = id;
             view = w;
             at = set_here s.views id w (inside s.views id me.0 at);
@@ -112,7 +112,7 @@ module _ {X J S : Type 0} (book : S → List X) (job : S → Option J) (good : S
             home = h.home;
             turns = h.turns ∙ ap word_of (first_is ∙ same);
             fits = h.fits;
-            is = ap (λ (z : ℕ). let u : View X J = staged me.0 (Holds z (book h.home.value) (job h.home.value)) in (u, (0, Some h.home) ∷ me.1)) same;
+            is = ap (λ (z : ℕ). let u : View X J = staged me.0 (Holds z (book h.home.value) (job h.home.value)) in (u, (0, h.home) ∷ me.1)) same;
             seen = subst (IsPrefix me.0.seen) (sym h.book_is) old.seen;
             told = λ c k e. subst (IsPrefix c) (sym h.book_is) (old.told c k e);
             job_meets = subst (λ (z : Option J). MeetsJob z me.0.job) (sym h.job_is) (meets_if r.held me.0.job (mine_or_none r.first r.past r.log r.held r.owner id me.0 old));
@@ -128,16 +128,23 @@ module _ {X J S : Type 0} (book : S → List X) (job : S → Option J) (good : S
       r.slot)
       (λ miss. (me.0, keeps, tt, unchanged book job good s r 1 id me.0 at, λ t' is'. let same : t ≡ t' = cc in inr ((λ e. miss (e ∙ ap word_of (sym same))), refl)))
 
-  pub waits_on : (found : ℕ) (m me : Me (Option (Home S)) (View X J)) → IsWaiting found m me → (slots id : ℕ) → Allows Rule slots id me 1 (λ n. n) (Looks book job good (step slots 1 0 0 M.none) me)
-  waits_on found m me w slots id = looks slots id me w.0 (ap (λ (z : Me (Option (Home S)) (View X J)). z.0.stage) w.2)
+  pub waits_on : (found : ℕ) (m me : Me (Home S) (View X J)) → IsWaiting found m me → (slots id : ℕ) → Allows Rule slots id me 1 (λ n. n) (Looks book job good (step slots 1 0 0 M.none) me)
+  waits_on found m me w slots id = looks slots id me w.0 (ap (λ (z : Me (Home S) (View X J)). z.0.stage) w.2)
 
-  regot : (t : ℕ) (m m1 m2 : Me (Option (Home S)) (View X J)) → m1 ≡ (staged m.0 (Waits t), m.1) → Gets book job good t m1 m2 → Gets book job good t m m2
-  regot t m m1 m2 is h = let g = subst (λ (z : Me (Option (Home S)) (View X J)). Gets book job good t z m2) is h in record { home = g.home; turns = g.turns; fits = g.fits; is = g.is; seen = g.seen; told = g.told; job_meets = g.job_meets; apart = g.apart }
+  regot : (t : ℕ) (m m1 m2 : Me (Home S) (View X J)) → m1 ≡ (staged m.0 (Waits t), m.1) → Gets book job good t m1 m2 → Gets book job good t m m2
+  regot t m m1 m2 is h = let g = subst (λ (z : Me (Home S) (View X J)). Gets book job good t z m2) is h in record { home = g.home; turns = g.turns; fits = g.fits; is = g.is; seen = g.seen; told = g.told; job_meets = g.job_meets; apart = g.apart }
 
   -- the turn came
-  pub came : (ticket found : ℕ) (m m1 m2 : Me (Option (Home S)) (View X J)) (slots : ℕ) → IsWaiting ticket m m1 → Looks book job good (step slots 1 0 0 M.none) m1 found m2 → found ≡ ticket → HasTurn book job good m m2
-  came ticket found m m1 m2 slots w look same = ⊎_elim (λ h. (w.0, regot w.0 m m1 m2 w.2 h.1)) (λ h. absurd (h.0 (same ∙ w.1))) (look w.0 (ap (λ (z : Me (Option (Home S)) (View X J)). z.0.stage) w.2))
+  pub came : (ticket found : ℕ) (m m1 m2 : Me (Home S) (View X J)) (slots : ℕ) → IsWaiting ticket m m1 → Looks book job good (step slots 1 0 0 M.none) m1 found m2 → found ≡ ticket → HasTurn book job good m m2
+  came ticket found m m1 m2 slots w look same = ⊎_elim (λ h. (w.0, regot w.0 m m1 m2 w.2 h.1)) (λ h. absurd (h.0 (same ∙ w.1))) (look w.0 (ap (λ (z : Me (Home S) (View X J)). z.0.stage) w.2))
 
-  pub came_with : (ticket found : ℕ) (m m1 m2 : Me (Option (Home S)) (View X J)) (slots : ℕ) → IsWaiting ticket m m1 → Looks book job good (step slots 1 0 0 M.none) m1 found m2 → found ≡ ticket → m.1 ≡ [] → HasValue m2
-  came_with ticket found m m1 m2 slots w look same none = let turn : HasTurn book job good m m2 = came ticket found m m1 m2 slots w look same in
-      (turn.1.home, ap (λ (z : Me (Option (Home S)) (View X J)). z.1) turn.1.is ∙ ap (λ (l : List (ℕ × Option (Home S))). (0, Some turn.1.home) ∷ l) none)
+  -- and the value is as the pass found it
+  pub came_with : (ticket found : ℕ) (m m1 m2 : Me (Home S) (View X J)) (slots : ℕ) → IsWaiting ticket m m1 → Looks book job good (step slots 1 0 0 M.none) m1 found m2 → found ≡ ticket → m.1 ≡ [] → IsAtTurn book job good m2
+  came_with ticket found m m1 m2 slots w look same none = let turn : HasTurn book job good m m2 = came ticket found m m1 m2 slots w look same in record {
+    ticket = turn.0;
+    home = turn.1.home;
+    out = ap (λ (z : Me (Home S) (View X J)). z.1) turn.1.is ∙ ap (λ (l : List (ℕ × Home S)). (0, turn.1.home) ∷ l) none;
+    stage = ap (λ (z : Me (Home S) (View X J)). z.0.stage) turn.1.is;
+    turns = turn.1.turns;
+    fits = turn.1.fits;
+  }

@@ -15,15 +15,15 @@ use Rattle.ut_gate.proofs.Sums.{total_few}
 use Rattle.ut_gate.proofs.Views.{few, waits, turns, each_set, at_of_turn, clash}
 
 module _ {X J S : Type 0} (book : S → List X) (job : S → Option J) (good : S → Type 0) where
-  abbrev Rule : State (Option (Home S)) (View X J) → Type 0
+  abbrev Rule : State (Home S) (View X J) → Type 0
   Rule = InOrder book job good
 
   -- the line is short
-  pub short : (s : State (Option (Home S)) (View X J)) (r : Rule s) → r.past ≤ r.first + 64
+  pub short : (s : State (Home S) (View X J)) (r : Rule s) → r.past ≤ r.first + 64
   short s r = let a : total waits s.views ≤ length s.views = total_few waits s.views (λ v. few v.stage) in let b = r.line in let c = r.spare in omega arith
 
   -- the slot, where a seat that has no turn gets a new view with none
-  pub slot_same : (s : State (Option (Home S)) (View X J)) (first : ℕ) (log : List X) (held : Option J) (ws : List ℕ) (id : ℕ) (v w : View X J) → get_elem? s.views id ≡ M.some v → has_turn v.stage ≡ false → has_turn w.stage ≡ false
+  pub slot_same : (s : State (Home S) (View X J)) (first : ℕ) (log : List X) (held : Option J) (ws : List ℕ) (id : ℕ) (v w : View X J) → get_elem? s.views id ≡ M.some v → has_turn v.stage ≡ false → has_turn w.stage ≡ false
       → AtHome book job good first log held s ⊎ IsOut book job good s
       → AtHome book job good first log held record { words = ws; homes = s.homes; views = set s.views id w } ⊎ IsOut book job good record { words = ws; homes = s.homes; views = set s.views id w }
   slot_same s first log held ws id v w at not not' (inl h) = inl record {
@@ -45,9 +45,9 @@ module _ {X J S : Type 0} (book : S → List X) (job : S → Option J) (good : S
     turn = o.turn;
   }
 
-  pub unchanged : (s : State (Option (Home S)) (View X J)) (r : Rule s) (i id : ℕ) (v : View X J) → get_elem? s.views id ≡ M.some v → Rule record { words = set s.words i (get_or s.words i 0); homes = s.homes; views = set s.views id v }
-  unchanged s r i id v at = let same : Prim.Path (State (Option (Home S)) (View X J)) s record { words = set s.words i (get_or s.words i 0); homes = s.homes; views = set s.views id v } = λ k. record { words = sym (set-get_or s.words i 0) k; homes = s.homes; views = sym (set_again s.views id v at) k } in subst Rule same r
+  pub unchanged : (s : State (Home S) (View X J)) (r : Rule s) (i id : ℕ) (v : View X J) → get_elem? s.views id ≡ M.some v → Rule record { words = set s.words i (get_or s.words i 0); homes = s.homes; views = set s.views id v }
+  unchanged s r i id v at = let same : Prim.Path (State (Home S) (View X J)) s record { words = set s.words i (get_or s.words i 0); homes = s.homes; views = set s.views id v } = λ k. record { words = sym (set-get_or s.words i 0) k; homes = s.homes; views = sym (set_again s.views id v at) k } in subst Rule same r
 
   -- who has the turn is the one whose ticket is served
-  pub only_turn : (s : State (Option (Home S)) (View X J)) (r : Rule s) (id : ℕ) (v : View X J) → get_elem? s.views id ≡ M.some v → queued_at r.first v.stage ≡ 1 → (j : ℕ) (u : View X J) → j ≢ id → get_elem? s.views j ≡ M.some u → has_turn u.stage ≡ true → ⊥
+  pub only_turn : (s : State (Home S) (View X J)) (r : Rule s) (id : ℕ) (v : View X J) → get_elem? s.views id ≡ M.some v → queued_at r.first v.stage ≡ 1 → (j : ℕ) (u : View X J) → j ≢ id → get_elem? s.views j ≡ M.some u → has_turn u.stage ≡ true → ⊥
   only_turn s r id v at q j u ne e turn = clash s.views r.first j id u v (r.once r.first) ne e at (at_of_turn r.first r.past r.log r.held u.stage (r.each j u e).line turn) q

@@ -20,7 +20,7 @@ use Rattle.ut_gate.proofs.Views.{waits, spares, at_ticket, places, each_set, sam
 use Rattle.ut_gate.proofs.Rules.{slot_same}
 
 module _ {X J S : Type 0} (book : S → List X) (job : S → Option J) (good : S → Type 0) where
-  abbrev Rule : State (Option (Home S)) (View X J) → Type 0
+  abbrev Rule : State (Home S) (View X J) → Type 0
   Rule = InOrder book job good
 
   pub splits : (id : ℕ) (v : View X J) → v.stage ≡ Away → 0 < v.spare → Splits Rule id v (cut_left v) (cut_right v)
@@ -65,7 +65,7 @@ module _ {X J S : Type 0} (book : S → List X) (job : S → Option J) (good : S
       }
 
   -- the gate at the start
-  pub opens : (x : S) → job x ≡ None → good x → Rule (opening (0 ∷ 0 ∷ []) (Some record { value = x; turns = 0 } ∷ []) (newcomer [] 63))
+  pub opens : (x : S) → job x ≡ None → good x → Rule (opening (0 ∷ 0 ∷ []) (record { value = x; turns = 0 } ∷ []) (newcomer [] 63))
   opens x none fits = let v : View X J = newcomer [] 63 in let one : (j : ℕ) (u : View X J) → get_elem? (v ∷ []) j ≡ M.some u → (j ≡ 0) × (v ≡ u) = lone v in record {
     first = 0;
     past = 0;
@@ -89,5 +89,5 @@ module _ {X J S : Type 0} (book : S → List X) (job : S → Option J) (good : S
     slot = inl record { home = record { value = x; turns = 0 }; homes = refl; turns = refl; book_is = refl; job_is = refl; fits = fits; nobody = λ j u e. subst (λ (z : View X J). has_turn z.stage ≡ false) (one j u e).1 refl };
   }
 
-  pub splits_new : (id spare : ℕ) (m : Me (Option (Home S)) (View X J)) → m ≡ (newcomer [] spare, []) → 0 < spare → Splits Rule id m.0 (cut_left m.0) (cut_right m.0)
-  splits_new id spare m is some_spare = let e : m.0.spare ≡ spare = ap (λ (z : Me (Option (Home S)) (View X J)). z.0.spare) is in splits id m.0 (ap (λ (z : Me (Option (Home S)) (View X J)). z.0.stage) is) (omega arith)
+  pub splits_new : (id spare : ℕ) (m : Me (Home S) (View X J)) → m ≡ (newcomer [] spare, []) → 0 < spare → Splits Rule id m.0 (cut_left m.0) (cut_right m.0)
+  splits_new id spare m is some_spare = let e : m.0.spare ≡ spare = ap (λ (z : Me (Home S) (View X J)). z.0.spare) is in splits id m.0 (ap (λ (z : Me (Home S) (View X J)). z.0.stage) is) (omega arith)

@@ -9,7 +9,7 @@ use native.Mathlib.Decide.{ℕ_discrete}
 use lib.ListN.{get_elem?}
 use Rattle.atomic_table.proofs.Lists.{at_set}
 use Rattle.ut_gate.specs.declared.view.Stage.{Stage}
-use Rattle.ut_gate.specs.declared.view.Stage.TheVariants.{Away, Waits, Holds}
+use Rattle.ut_gate.specs.declared.view.Stage.TheVariants.{Away, Waits, Holds, Ends}
 use Rattle.ut_gate.specs.declared.view.View.{View}
 use Rattle.ut_gate.specs.Counts.{total, one_if, times}
 use Rattle.ut_gate.specs.Line.{queued, queued_at, has_turn, InLine, Knows}
@@ -34,6 +34,7 @@ module _ {X J : Type 0} where
   few Away = omega arith
   few (Waits t) = omega arith
   few (Holds t b k) = omega arith
+  few (Ends t) = omega arith
 
   abbrev pub waits : View X J → ℕ
   waits v = queued v.stage
@@ -58,6 +59,7 @@ module _ {X J : Type 0} where
   at_of_turn first past log held Away h e = cc
   at_of_turn first past log held (Waits t) h e = cc
   at_of_turn first past log held (Holds t b k) h e = ap one_if (eq-eqb t first h.0)
+  at_of_turn first past log held (Ends t) h e = cc
 
   -- two seats have no ticket in common
   pub clash : (vs : List (View X J)) (t i j : ℕ) (v w : View X J) → total (at_ticket t) vs ≤ 1 → i ≢ j → get_elem? vs i ≡ M.some v → get_elem? vs j ≡ M.some w → queued_at t v.stage ≡ 1 → queued_at t w.stage ≡ 1 → ⊥
@@ -68,6 +70,7 @@ module _ {X J : Type 0} where
   none_past first past log held Away h = refl
   none_past first past log held (Waits t) h = ap one_if (ne_eqb t past (λ q. let a = h.1 in omega arith))
   none_past first past log held (Holds t b k) h = ap one_if (ne_eqb t past (λ q. let a = h.0 in let b = h.1 in omega arith))
+  none_past first past log held (Ends t) h = ap one_if (ne_eqb t past (λ q. let a = h.0 in let b = h.1 in omega arith))
 
   pub same_total : (f : View X J → ℕ) (vs : List (View X J)) (id : ℕ) (v w : View X J) → get_elem? vs id ≡ M.some v → f w ≡ f v → total f (set vs id w) ≡ total f vs
   same_total f vs id v w e same = let h : total f (set vs id w) + f v ≡ total f vs + f w = total_set f vs id v w e in omega arith
@@ -76,6 +79,7 @@ module _ {X J : Type 0} where
   line_longer first past log held Away h = tt
   line_longer first past log held (Waits t) h = let a = h.1 in (h.0, omega arith)
   line_longer first past log held (Holds t b k) h = let a = h.1 in (h.0, omega arith, h.2, h.3)
+  line_longer first past log held (Ends t) h = let a = h.1 in (h.0, omega arith)
 
   pub drawn_once : (x : ℕ) (vs : List (View X J)) (past id : ℕ) (v w : View X J) → get_elem? vs id ≡ M.some v → queued_at x v.stage ≡ 0 → queued_at x w.stage ≡ one_if (eqb past x) → total (at_ticket x) vs ≤ 1
       → (past ≡ x → total (at_ticket x) vs ≡ 0) → total (at_ticket x) (set vs id w) ≤ 1
@@ -94,6 +98,7 @@ module _ {X J : Type 0} where
   line_served first past log log' held held' Away h un = tt
   line_served first past log log' held held' (Waits t) h un = let a = h.0 in let apart : t ≢ first = λ e. un (ap one_if (eq-eqb t first e)) in (omega arith, h.1)
   line_served first past log log' held held' (Holds t b k) h un = absurd (un (ap one_if (eq-eqb t first h.0)))
+  line_served first past log log' held held' (Ends t) h un = absurd (un (ap one_if (eq-eqb t first h.0)))
 
   pub still_apart : (p : ℕ) (vs : List (View X J)) (id : ℕ) (v w : View X J) (before after : List X) → get_elem? vs id ≡ M.some v → w.own ≡ own_after v.own before after → total (places p) vs ≤ 1
       → (length before ≡ p → total (places p) vs ≡ 0) → total (places p) (set vs id w) ≤ 1

@@ -6,7 +6,7 @@ use lib.ListN.{get_elem?}
 use Rattle.atomic_table.specs.Table.{State}
 use Rattle.ut_gate.specs.declared.view.Home.{Home}
 use Rattle.ut_gate.specs.declared.view.Stage.{Stage}
-use Rattle.ut_gate.specs.declared.view.Stage.TheVariants.{Away, Waits, Holds}
+use Rattle.ut_gate.specs.declared.view.Stage.TheVariants.{Away, Waits, Holds, Ends}
 use Rattle.ut_gate.specs.declared.view.View.{View}
 use Rattle.ut_gate.specs.Counts.{total, one_if, times, word_of}
 
@@ -16,24 +16,28 @@ module _ {X J : Type 0} where
   queued Away = 0
   queued (Waits t) = 1
   queued (Holds t b k) = 1
+  queued (Ends t) = 1
 
   -- 1 for a pass with this ticket
   abbrev pub queued_at : ℕ → Stage X J → ℕ
   queued_at n Away = 0
   queued_at n (Waits t) = one_if (t == n)
   queued_at n (Holds t b k) = one_if (t == n)
+  queued_at n (Ends t) = one_if (t == n)
 
-  -- whether a pass is at its turn
+  -- whether a pass is at its turn, with the value
   abbrev pub has_turn : Stage X J → Bool
   has_turn Away = false
   has_turn (Waits t) = false
   has_turn (Holds t b k) = true
+  has_turn (Ends t) = false
 
   -- a ticket is in the line; who has the turn is the first, and has noted the book and the job
   abbrev pub InLine : ℕ → ℕ → List X → Option J → Stage X J → Type 0
   InLine first past log held Away = Unit {0}
   InLine first past log held (Waits t) = (first ≤ t) × (t < past)
   InLine first past log held (Holds t b k) = (t ≡ first) × (first < past) × (b ≡ log) × (k ≡ held)
+  InLine first past log held (Ends t) = (t ≡ first) × (first < past)
 
   -- what is true of the pass with this seat
   pub record Knows (first past : ℕ) (log : List X) (held : Option J) (owner seat : ℕ) (v : View X J) : Type 0 where
@@ -48,10 +52,10 @@ module _ {X J : Type 0} where
     pub others : seat ≢ owner → v.job ≡ None
 
   module _ {S : Type 0} (book : S → List X) (job : S → Option J) (good : S → Type 0) where
-    -- the value is at home, and nobody has the turn
-    pub record AtHome (first : ℕ) (log : List X) (held : Option J) (s : State (Option (Home S)) (View X J)) : Type 0 where
+    -- the value is at home, and nobody has it
+    pub record AtHome (first : ℕ) (log : List X) (held : Option J) (s : State (Home S) (View X J)) : Type 0 where
       pub home : Home S
-      pub homes : s.homes ≡ M.some (Some home) ∷ []
+      pub homes : s.homes ≡ M.some home ∷ []
       -- it has had as many turns as were served
       pub turns : home.turns ≡ word_of first
       pub book_is : book home.value ≡ log
@@ -59,8 +63,8 @@ module _ {X J : Type 0} where
       pub fits : good home.value
       pub nobody : (j : ℕ) (v : View X J) → get_elem? s.views j ≡ M.some v → has_turn v.stage ≡ false
 
-    -- the slot is empty, and somebody has the turn
-    pub record IsOut (s : State (Option (Home S)) (View X J)) : Type 0 where
+    -- the value is out, and somebody has it
+    pub record IsOut (s : State (Home S) (View X J)) : Type 0 where
       pub homes : s.homes ≡ M.none ∷ []
       pub seat : ℕ
       pub view : View X J
@@ -68,7 +72,7 @@ module _ {X J : Type 0} where
       pub turn : has_turn view.stage ≡ true
 
     -- the rule
-    pub record InOrder (s : State (Option (Home S)) (View X J)) : Type 0 where
+    pub record InOrder (s : State (Home S) (View X J)) : Type 0 where
       -- how many turns were served and how many tickets were drawn, in full
       pub first : ℕ
       pub past : ℕ

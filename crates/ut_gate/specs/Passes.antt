@@ -53,7 +53,7 @@ abbrev pub Apart : {X J : Type 0} → List (Carried X J) → Type 0
 Apart {X} {J} passes = (n : ℕ) → total (λ (p : Carried X J). times n p.own) passes ≤ 1
 
 -- a pass with no ticket and no slot, to which no other was joined
-abbrev pub IsAway : {X J S : Type 0} → Seat (Option (Home S)) (View X J) → Option J → Type 0
+abbrev pub IsAway : {X J S : Type 0} → Seat (Home S) (View X J) → Option J → Type 0
 IsAway seat job =
     (seat.me.0.stage ≡ Away)
     × (seat.me.1 ≡ [])
@@ -63,7 +63,7 @@ IsAway seat job =
     × (seat.table_id.slots ≡ 1)
 
 -- what a contract sees of a seat and its slip's job
-abbrev pub carried : {X J S : Type 0} → Seat (Option (Home S)) (View X J) → Option J → Carried X J
+abbrev pub carried : {X J S : Type 0} → Seat (Home S) (View X J) → Option J → Carried X J
 carried seat job =
     record { gate = seat.table_id; seen = seat.me.0.seen; own = seat.me.0.own; job = job }
 

@@ -6,7 +6,7 @@ use lib.ListN.{get_elem?}
 use Rattle.atomic_table.specs.Table.{Me, Step, rest}
 use Rattle.ut_gate.specs.declared.view.Home.{Home}
 use Rattle.ut_gate.specs.declared.view.Stage.{Stage}
-use Rattle.ut_gate.specs.declared.view.Stage.TheVariants.{Away, Waits, Holds}
+use Rattle.ut_gate.specs.declared.view.Stage.TheVariants.{Away, Waits, Holds, Ends}
 use Rattle.ut_gate.specs.declared.view.View.{View}
 use Rattle.ut_gate.specs.Counts.{times, word_of}
 use Rattle.ut_gate.specs.Turns.{MeetsJob, slip_after}
@@ -74,10 +74,10 @@ module _ {X J : Type 0} where
   module _ {S : Type 0} (book : S → List X) (job : S → Option J) (good : S → Type 0) where
     -- what a pass knows, with the slots that are out with it
     abbrev pub Seated : Type 0
-    Seated = Me (Option (Home S)) (View X J)
+    Seated = Me (Home S) (View X J)
 
     -- a ticket was drawn
-    abbrev pub Draws : Step (Option (Home S)) → Seated → ℕ → Seated → Type 0
+    abbrev pub Draws : Step (Home S) → Seated → ℕ → Seated → Type 0
     Draws st m found m' = (t : ℕ) × (found ≡ word_of t) × (m' ≡ (staged m.0 (Waits t), m.1))
 
     -- the turn of ticket t came, with the value
@@ -85,7 +85,7 @@ module _ {X J : Type 0} where
       pub home : Home S
       pub turns : home.turns ≡ word_of t
       pub fits : good home.value
-      pub is : m' ≡ (staged m.0 (Holds t (book home.value) (job home.value)), (0, Some home) ∷ m.1)
+      pub is : m' ≡ (staged m.0 (Holds t (book home.value) (job home.value)), (0, home) ∷ m.1)
       -- its book begins with all that the pass had seen
       pub seen : IsPrefix m.0.seen (book home.value)
       pub told : (b : List X) → (k : ℕ) → get_elem? m.0.told k ≡ M.some b → IsPrefix b (book home.value)
@@ -94,7 +94,7 @@ module _ {X J : Type 0} where
       pub apart : (p : ℕ) → times p m.0.own ≤ 1
 
     -- the turn came where the word is the ticket's, and otherwise nothing changed
-    abbrev pub Looks : Step (Option (Home S)) → Seated → ℕ → Seated → Type 0
+    abbrev pub Looks : Step (Home S) → Seated → ℕ → Seated → Type 0
     Looks st m found m' = (t : ℕ) → m.0.stage ≡ Waits t → ((found ≡ word_of t) × Gets t m m') ⊎ ((found ≢ word_of t) × (m' ≡ m))
 
     -- the pass after a turn in which the value became y
@@ -108,6 +108,10 @@ module _ {X J : Type 0} where
       spare = v.spare;
     }
 
-    -- the value was put back, and the pass is out of the line
-    abbrev pub Leaves : Step (Option (Home S)) → Seated → ℕ → Seated → Type 0
-    Leaves st m found m' = (y : Home S) → m.1 ≡ (0, Some y) ∷ [] → m' ≡ (view_after m.0 y.value, rest m.1)
+    -- the value went home, and the pass is out of the line
+    abbrev pub Leaves : Step (Home S) → Seated → ℕ → Seated → Type 0
+    Leaves st m found m' = (y : Home S) → m.1 ≡ (0, y) ∷ [] → m' ≡ (view_after m.0 y.value, rest m.1)
+
+    -- the value went home at the last turn, and the pass stays in the line
+    abbrev pub Rests : Step (Home S) → Seated → ℕ → Seated → Type 0
+    Rests st m found m' = m' ≡ (staged m.0 (Ends (ticket_of m.0.stage)), rest m.1)

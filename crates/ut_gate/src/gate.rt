@@ -9,7 +9,7 @@ use crate::bells::Bells;
 use crate::held::{Act, Held};
 use crate::pass::{Pass, PassList};
 use crate::rule::{Line, One, Place, Room};
-use crate::steps::{enter, leave, take};
+use crate::steps::{end, enter, leave};
 use crate::view::Home;
 use atomic_table::Refused;
 use std::alloc::Global;
@@ -60,7 +60,7 @@ impl<E: Held> Gate<E> {
         let Ok(bells) = Bells::new(alloc) else {
             return Err(Back { value });
         };
-        slots.push_reserved(Some(Home { value, turns: 0 }));
+        slots.push_reserved(Home { value, turns: 0 });
         match Room::<E>::new(alloc, &[0, 0], slots, &()) {
             Ok((table, seat)) => {
                 let passes = deal(&table.shared, seat, passes, seats);
@@ -68,10 +68,8 @@ impl<E: Held> Gate<E> {
             }
             Err(refused) => {
                 let Refused { mut slots } = refused;
-                match slots.pop() {
-                    Some(Some(home)) => Err(Back { value: home.value }),
-                    _ => unreachable!(),
-                }
+                let Home { value, turns: _ } = slots.swap_remove(0);
+                Err(Back { value })
             }
         }
     }
@@ -87,9 +85,9 @@ impl<E: Held> Gate<E> {
         let line = &self.table.shared;
         let Pass { seat, slip } = pass;
         enter(line, &self.bells, rt, seat);
-        let mut home = take(line, seat);
+        let home = seat.slot_mut(line, 0);
         let answer = act.run(&mut home.value, slip);
-        leave(line, &self.bells, seat, home);
+        leave(line, &self.bells, seat);
         answer
     }
 
@@ -104,15 +102,12 @@ impl<E: Held> Gate<E> {
         let Gate { table, bells } = self;
         let line = &table.shared;
         let mut rest = passes;
-        let Some(first) = rest.pop() else {
-            unreachable!()
-        };
-        let mut seat = first.into_seat();
+        let mut seat = rest.take_last().into_seat();
         while let Some(pass) = rest.pop() {
             line.join_seat::<One>(&mut seat, pass.into_seat());
         }
         enter(line, &bells, rt, &mut seat);
-        take(line, &mut seat).value
+        end(table, seat)
     }
 }
 

@@ -1,5 +1,5 @@
 //! What a thread has of the gate.
-ghost use Rattle.std.specs.Prelude.{◌≡◌, [], ◌∷◌, ◌++◌, None, MatchOption};
+ghost use Rattle.std.specs.Prelude.{◌≡◌, ◌<◌, [], ◌∷◌, ◌++◌, length, None, MatchOption};
 ghost use Rattle.std.specs.Option.{option_copied};
 ghost use Rattle.ut_gate.specs.Passes.{IsAway, carried};
 
@@ -78,5 +78,13 @@ impl<E: Held> PassList<E> {
         ensures { MatchOption result ((self.old ≡ []) × (self.new ≡ [])) (λ p. self.old ≡ self.new ++ p ∷ []) }
     {
         self.passes.pop()
+    }
+
+    /// Takes the last one out of a list that has one.
+    pub(crate) fn take_last(&mut self) -> Pass<E>
+        requires { 0 < length self.old }
+        ensures { self.old ≡ self.new ++ result ∷ [] }
+    {
+        self.passes.take_last()
     }
 }

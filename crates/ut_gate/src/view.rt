@@ -14,8 +14,10 @@ pub enum Stage<X, J> {
     Away,
     /// In the line, with this ticket.
     Waits(u64),
-    /// At its turn: its ticket, and the book and the job that it found.
+    /// At its turn, with the value: its ticket, and the book and the job that it found.
     Holds(u64, LinkedList<X>, Option<J>),
+    /// At its turn, for good, with the value at home: its ticket.
+    Ends(u64),
 }
 
 /// What a pass knows. No value of it is made.

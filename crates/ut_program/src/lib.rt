@@ -3,8 +3,6 @@
 
 mod run;
 mod status;
-#[cfg(test)]
-mod tests;
 mod words;
 
 pub use run::program;

@@ -17,7 +17,7 @@ split_seat-other-requires g c = let inv = c.loop-i.invariant.2 in let sum = inv.
 
 pub loop-i-preserved : goal.loop-i-preserved
 loop-i-preserved g c =
-    let Mine : Type 0 = Me (Option (Home g.row.E.Denot)) (View g.row.E-Entry.Denot g.row.E-Job.Denot) in
+    let Mine : Type 0 = Me (Home g.row.E.Denot) (View g.row.E-Entry.Denot g.row.E-Job.Denot) in
     let inv = c.loop-i.invariant.2 in
     let sum = inv.3 in
     let at = inv.4 in
@@ -45,7 +45,7 @@ loop-i-preserved g c =
 
 pub returns : goal.returns
 returns g c =
-    let Mine : Type 0 = Me (Option (Home g.row.E.Denot)) (View g.row.E-Entry.Denot g.row.E-Job.Denot) in
+    let Mine : Type 0 = Me (Home g.row.E.Denot) (View g.row.E-Entry.Denot g.row.E-Job.Denot) in
     let inv = c.loop-i.invariant.2 in
     let at = inv.4 in
     let gate = c.args.line.now.table_id in

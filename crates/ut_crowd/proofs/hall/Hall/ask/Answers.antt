@@ -1,4 +1,4 @@
-use Rattle.std.proofs.Common.{◌≡◌, Bool, List, [], ◌∷◌, ◌++◌, sym, subst, ap, ◌∙◌}
+use Rattle.std.proofs.Common.{◌≡◌, Bool, false, List, [], ◌∷◌, ◌++◌, sym, subst, ap, ◌∙◌}
 use Rattle.ut_crew.specs.declared.role.Kept.{Kept}
 use Rattle.ut_crowd.specs.declared.book.Turn.{Turn}
 use Rattle.ut_crowd.specs.Keepers.{AsksOnce, kept_after}
@@ -26,7 +26,7 @@ returns-clause-kept g c =
     let stopped = c.args.self.now.stopped in
     let book = c.args.self.now.book.items in
     let kept : c.kept_after-kept.result ≡ kept_after reply down = c.kept_after-kept.ensures ∙ ap (λ (b : Bool). kept_after reply b) c.down.ensures in
-    subst (λ (k : Kept). AsksOnce c.args.st stopped down book c.push_reserved.new.self.items k) (sym kept)
+    subst (λ (k : Kept). AsksOnce c.args.st false stopped down book c.push_reserved.new.self.items k) (sym kept)
     (asks_once c.args.st stopped down book c.push_reserved.new.self.items t reply
     (c.push_reserved.ensures.items ∙ ap (λ (b : List Turn). b ++ t ∷ []) c.reserve.ensures.items)
     (ap (λ (u : Turn). u.session) c.turn_of-turn.ensures) (ap (λ (u : Turn). u.asked) c.turn_of-turn.ensures) (ap (λ (u : Turn). u.reply) c.turn_of-turn.ensures) c.requires.going)

@@ -1,4 +1,4 @@
-use Rattle.std.proofs.Common.{◌≡◌, ◌+◌, Bool, List, ℕ, [], ◌∷◌, ◌++◌, None, Some, Option, refl, sym, subst, ap, ◌∙◌}
+use Rattle.std.proofs.Common.{◌≡◌, ◌+◌, Bool, false, List, ℕ, [], ◌∷◌, ◌++◌, None, Some, Option, refl, sym, subst, ap, ◌∙◌}
 use Rattle.std.specs.Prelude.{IsTrue}
 use Rattle.ut_value.specs.Text.{is_name}
 use Rattle.ut_value.specs.declared.entry.MergeKind.{MergeKind}
@@ -71,16 +71,16 @@ returns-clause-kept g c =
     (subst (λ (name : List ℕ). IsMergeDue l1 waited old was (Some (statements.MergeBegin name (kind_of_merge n)))) (sym c.in-Ok.ensures.copy)
     (begin_is_due l1 old was c.args.place c.table_name.result.now c.table_name.ensures.plain n waited c.requires.now c.requires.due)) in
     let kept : given ≡ kept_after reply down = c.kept_after-kept.ensures ∙ ap (λ (b : Bool). kept_after reply b) c.down.ensures in
-    let once : AsksOnce (statements.MergeBegin table kind) stopped down book after given =
-    subst (λ (k : Kept). AsksOnce (statements.MergeBegin table kind) stopped down book after k) (sym kept)
+    let once : AsksOnce (statements.MergeBegin table kind) false stopped down book after given =
+    subst (λ (k : Kept). AsksOnce (statements.MergeBegin table kind) false stopped down book after k) (sym kept)
     (asks_once (statements.MergeBegin table kind) stopped down book after t reply
     (c.push_reserved.ensures.items ∙ ap (λ (b : List Turn). b ++ t ∷ []) c.reserve.ensures.items)
     (ap (λ (u : Turn). u.session) c.turn_of-turn.ensures) (ap (λ (u : Turn). u.asked) c.turn_of-turn.ensures) (ap (λ (u : Turn). u.reply) c.turn_of-turn.ensures) c.requires.going) in
     let new = c.share.new.self in
-    let shared : AsksOnce (statements.MergeBegin table kind) new.stopped down book after c.share.result.0 = shared_once (statements.MergeBegin table kind) stopped new.stopped down book after given c.share.result.0 c.share.ensures.kept once in (
+    let shared : AsksOnce (statements.MergeBegin table kind) false new.stopped down book after c.share.result.0 = shared_once (statements.MergeBegin table kind) false stopped new.stopped down book after given c.share.result.0 c.share.ensures.kept once in (
       statements.MergeBegin table kind,
       due,
-      subst (λ (b : List Turn). AsksOnce (statements.MergeBegin table kind) new.stopped new.engine.store.down book b c.share.result.0) (sym c.share.ensures.book)
-          (subst (λ (e : Lent g.row.D.Denot). AsksOnce (statements.MergeBegin table kind) new.stopped e.store.down book after c.share.result.0) (sym c.share.ensures.engine) shared),
+      subst (λ (b : List Turn). AsksOnce (statements.MergeBegin table kind) false new.stopped new.engine.store.down book b c.share.result.0) (sym c.share.ensures.book)
+          (subst (λ (e : Lent g.row.D.Denot). AsksOnce (statements.MergeBegin table kind) false new.stopped e.store.down book after c.share.result.0) (sym c.share.ensures.engine) shared),
       c.share.ensures.some,
     )
