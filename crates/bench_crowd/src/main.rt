@@ -22,7 +22,19 @@ fn main(rt: HostRuntime) -> Result<ExitCode> {
     let mut source = StdSource::new(rt.reader());
     let mut sink = StdSink::new(io::writer(&rt));
     let mut disk = RealDisk::new(WorkingFolder::new(&rt));
-    let status = run(&rt, rt.alloc(), &mut source, &mut sink, &mut disk)?;
+    run(&rt, rt.alloc(), &mut source, &mut sink, &mut disk)
+}
+
+// A run with the words of the process. How it ended is said last.
+fn run<S: Source<K>, K: Sink<D>, D: Disk + Send>(
+    rt: &(impl AllocGlobal + Eprint + Env + Clock + Threads + Wait + Sync),
+    alloc: Global,
+    source: &mut S,
+    sink: &mut K,
+    disk: &mut D,
+) -> Result<ExitCode> {
+    let words = words_of(rt, alloc)?;
+    let status = run_with(rt, alloc, &words, source, sink, disk)?;
     eprintln!(rt; "status {status:?}")?;
     Ok(match status {
         Status::Done => ExitCode::SUCCESS,
@@ -30,18 +42,29 @@ fn main(rt: HostRuntime) -> Result<ExitCode> {
     })
 }
 
-// A run with the words of the process, and what the hook saw.
-fn run<S: Source<K>, K: Sink<D>, D: Disk + Send>(
-    rt: &(impl AllocGlobal + Eprint + Env + Clock + Threads + Wait + Sync),
+fn run_with<S: Source<K>, K: Sink<D>, D: Disk + Send>(
+    rt: &(impl AllocGlobal + Eprint + Clock + Threads + Wait + Sync),
     alloc: Global,
+    words: &[String],
     source: &mut S,
     sink: &mut K,
     disk: &mut D,
 ) -> Result<Status> {
-    let words = words_of(rt, alloc)?;
-    let texts = texts_of(alloc, &words)?;
+    let texts = texts_of(alloc, words)?;
+    watched(rt, alloc, &texts, source, sink, disk)
+}
+
+// A run with these words, and what the hook saw.
+fn watched<S: Source<K>, K: Sink<D>, D: Disk + Send>(
+    rt: &(impl AllocGlobal + Eprint + Clock + Threads + Wait + Sync),
+    alloc: Global,
+    texts: &[&str],
+    source: &mut S,
+    sink: &mut K,
+    disk: &mut D,
+) -> Result<Status> {
     let watch = Watch::new(rt)?;
-    let report = top(rt, alloc, &texts, source, sink, disk, &watch);
+    let report = top(rt, alloc, texts, source, sink, disk, &watch);
     say(rt, &watch)?;
     Ok(report.status)
 }

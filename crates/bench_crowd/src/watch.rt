@@ -8,7 +8,6 @@ use ut_outside::{Hook, Point};
 
 /// Times in nanoseconds since the watch began. A gap is the time from one answered line to the next. While a merge is built it
 /// begins with the build at the earliest, so that the turns of the merge's own begin and end are in none of these.
-#[derive(Drop)]
 pub(crate) struct Watch<'a, R> {
     rt: &'a R,
     start: Instant,
@@ -25,6 +24,26 @@ pub(crate) struct Watch<'a, R> {
     longest_in_builds: AtomicU64,
     longest: AtomicU64,
     over: AtomicU64,
+}
+
+// A drop of its own is one step of a proof wherever one is dropped. A derived one is a step for each part, at each place.
+impl<'a, R> Drop for Watch<'a, R> {
+    fn drop(self) {
+        let Watch {
+            rt: _,
+            start: _,
+            answered: _,
+            began: _,
+            lines: _,
+            builds: _,
+            lines_in_builds: _,
+            lines_behind: _,
+            building: _,
+            longest_in_builds: _,
+            longest: _,
+            over: _,
+        } = self;
+    }
 }
 
 /// A gap in a build that is longer is counted: 50 milliseconds.

@@ -26,7 +26,6 @@ enum Turn {
 }
 
 /// The slow store behind some turns of a book, and the rest of the book.
-#[derive(Drop)]
 struct Follower<'a> {
     rest: &'a [u8],
     /// So many lines have no session that can be read. They come first.
@@ -34,6 +33,18 @@ struct Follower<'a> {
     store: Oracle,
     /// The store without the turn in which the disk failed.
     before: Option<Oracle>,
+}
+
+// One step of a proof, wherever one is dropped.
+impl<'a> Drop for Follower<'a> {
+    fn drop(self) {
+        let Follower {
+            rest: _,
+            strangers: _,
+            store: _,
+            before: _,
+        } = self;
+    }
 }
 
 impl<'a> Follower<'a> {
@@ -220,7 +231,6 @@ fn lacking(line: &[u8]) -> Turn {
 }
 
 /// What a book came to: what its store answers to the question that is opened again.
-#[derive(Drop)]
 pub struct Outcome {
     pub turns: usize,
     /// So many of them were refused for want of memory.
@@ -228,6 +238,18 @@ pub struct Outcome {
     with: Vec<u8>,
     /// The same without the last turn, where the disk failed in it.
     without: Option<Vec<u8>>,
+}
+
+// One step of a proof, wherever one is dropped.
+impl Drop for Outcome {
+    fn drop(self) {
+        let Outcome {
+            turns: _,
+            refused: _,
+            with: _,
+            without: _,
+        } = self;
+    }
 }
 
 impl Outcome {

@@ -1,6 +1,6 @@
 //! The verdict on a crowd in which an allocation may have been refused.
 use crate::books::{Share, outcome_of, share_of};
-use crate::runs::{CROWD_NEW, Came, journal_on, left_on, run_crowd};
+use crate::runs::{Came, journal_on, left_on, run_failing};
 use crate::scripts::OF_THREE;
 use std::alloc::{AllocError, Global};
 use std::fmt;
@@ -53,10 +53,9 @@ impl fmt::Display for Verdict {
 
 /// The verdict on a crowd of three sessions over a new store.
 pub fn verdict_on(rt: &(impl Threads + Wait + Sync), alloc: Global) -> Result<Verdict, AllocError> {
-    let mut disk = MemDisk::of(alloc, &[], &[], &[])?;
-    let came = run_crowd(rt, alloc, CROWD_NEW, OF_THREE, &mut disk)?;
-    let wrong = wrong_in(rt, alloc, &came, &mut disk)?;
-    Ok(Verdict::new(came.status, wrong))
+    let mut crowd = run_failing(rt, alloc, OF_THREE, &[])?;
+    let wrong = wrong_in(rt, alloc, &crowd.came, &mut crowd.disk)?;
+    Ok(Verdict::new(crowd.came.status, wrong))
 }
 
 fn wrong_in(

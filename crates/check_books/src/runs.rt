@@ -4,8 +4,8 @@ use check_run::saved::QUESTION;
 use std::alloc::{AllocError, Global};
 use std::sync::Wait;
 use std::thread::Threads;
-use ut_app::{Status, top};
-use ut_outside::{AckList, MemDisk, MemSink, MemSource, NoHook};
+use ut_app::{Report, Status, top};
+use ut_outside::{AckList, Hook, MemDisk, MemSink, MemSource, NoHook};
 
 /// The words that answer a crowd with merges of few rows, in a store that is there and in one that is made.
 pub const CROWD: &[&str] = &["ut", "crowd", "--l1", "2"];
@@ -16,12 +16,23 @@ pub const CROWD_NEW: &[&str] = &["ut", "crowd", "--new", "--l1", "2"];
 const PIECE: usize = 4096;
 
 /// How a crowd ended, its book, its acknowledgements, and how many entries its journal had.
-#[derive(Drop)]
 pub struct Came {
     pub status: Status,
     pub book: Vec<u8>,
     pub acks: AckList,
     pub journal: u64,
+}
+
+// A drop of its own is one step of a proof wherever one is dropped. A derived one is a step for each part, at each place.
+impl Drop for Came {
+    fn drop(self) {
+        let Came {
+            status: _,
+            book: _,
+            acks: _,
+            journal: _,
+        } = self;
+    }
 }
 
 pub fn run_crowd(
@@ -31,22 +42,44 @@ pub fn run_crowd(
     lines: &[u8],
     disk: &mut MemDisk,
 ) -> Result<Came, AllocError> {
+    run_hooked(rt, alloc, words, lines, &NoHook, disk)
+}
+
+/// Runs a crowd with a hook.
+pub fn run_hooked<H: Hook + Sync>(
+    rt: &(impl Threads + Wait + Sync),
+    alloc: Global,
+    words: &[&str],
+    lines: &[u8],
+    hook: &H,
+    disk: &mut MemDisk,
+) -> Result<Came, AllocError> {
     let mut source = MemSource::new(alloc, lines, PIECE, None)?;
     let mut sink = MemSink::new(alloc, None);
-    let report = top(rt, alloc, words, &mut source, &mut sink, disk, &NoHook);
+    let report = top(rt, alloc, words, &mut source, &mut sink, disk, hook);
+    came_of(alloc, report, sink.bytes())
+}
+
+fn came_of(alloc: Global, report: Report, book: &[u8]) -> Result<Came, AllocError> {
+    let book = Vec::from_slice(alloc, book)?;
     Ok(Came {
         status: report.status,
-        book: Vec::from_slice(alloc, sink.bytes())?,
+        book,
         acks: report.acks,
         journal: report.journal,
     })
 }
 
 /// A crowd, and the disk that it leaves.
-#[derive(Drop)]
 pub struct Crowd {
     pub came: Came,
     pub disk: MemDisk,
+}
+
+impl Drop for Crowd {
+    fn drop(self) {
+        let Crowd { came: _, disk: _ } = self;
+    }
 }
 
 /// Runs a crowd on a new disk whose calls of these numbers fail.
@@ -56,12 +89,40 @@ pub fn run_failing(
     lines: &[u8],
     calls: &[u64],
 ) -> Result<Crowd, AllocError> {
+    run_over(rt, alloc, CROWD_NEW, lines, &NoHook, failing(alloc, calls)?)
+}
+
+/// Runs a crowd on a new disk, with a hook.
+pub fn run_watched<H: Hook + Sync>(
+    rt: &(impl Threads + Wait + Sync),
+    alloc: Global,
+    words: &[&str],
+    lines: &[u8],
+    hook: &H,
+) -> Result<Crowd, AllocError> {
+    run_over(rt, alloc, words, lines, hook, new_disk(alloc)?)
+}
+
+fn failing(alloc: Global, calls: &[u64]) -> Result<MemDisk, AllocError> {
     let mut disk = new_disk(alloc)?;
     for call in calls {
         disk.fail_at(*call)?;
     }
-    let came = run_crowd(rt, alloc, CROWD_NEW, lines, &mut disk)?;
-    Ok(Crowd { came, disk })
+    Ok(disk)
+}
+
+fn run_over<H: Hook + Sync>(
+    rt: &(impl Threads + Wait + Sync),
+    alloc: Global,
+    words: &[&str],
+    lines: &[u8],
+    hook: &H,
+    mut disk: MemDisk,
+) -> Result<Crowd, AllocError> {
+    match run_hooked(rt, alloc, words, lines, hook, &mut disk) {
+        Ok(came) => Ok(Crowd { came, disk }),
+        Err(error) => Err(error),
+    }
 }
 
 /// What a disk has.
@@ -81,10 +142,18 @@ pub fn left_on(
     disk: &MemDisk,
 ) -> Result<Left, AllocError> {
     let mut copy = copy_of(alloc, disk)?;
-    let ran = run_on(rt, alloc, RUN, QUESTION, &mut copy)?;
+    left_by(rt, alloc, &mut copy)
+}
+
+fn left_by(
+    rt: &(impl Threads + Wait + Sync),
+    alloc: Global,
+    disk: &mut MemDisk,
+) -> Result<Left, AllocError> {
+    let ran = run_on(rt, alloc, RUN, QUESTION, disk)?;
     Ok(match ran.status {
         Status::NoStore => Left::NoStore,
-        Status::Done => Left::Answers(ran.replies),
+        Status::Done => Left::Answers(ran.into_replies()),
         _ => Left::Else,
     })
 }

@@ -52,9 +52,7 @@ fn run_count(rt: &impl Abort, alloc: Global, codes: &[u32], reach: u32) -> Resul
 
 // The sizes in bits of the packed form, of runs and of the sparse form.
 fn bits_of(rt: &impl Abort, rows: u64, width: u64, frequent: u64, runs: u32) -> [u64; 3] {
-    assert!(rt; rows <= 1000);
-    assert!(rt; width <= 32);
-    assert!(rt; frequent <= rows);
+    assert!(rt; rows <= 1000 && width <= 32 && frequent <= rows);
     [
         rows * width,
         64 * u64::from(runs),
@@ -112,9 +110,8 @@ fn is_again(
     bytes: &[u8],
     codes: &[u32],
 ) {
-    assert!(rt; again.1 == bytes.len());
-    assert!(rt; again.0.form() == vector.form());
-    assert!(rt; again.0.width() == vector.width());
+    let is_alike = again.0.form() == vector.form() && again.0.width() == vector.width();
+    assert!(rt; is_alike && again.1 == bytes.len());
     has_codes(rt, &again.0, codes);
 }
 
@@ -131,6 +128,7 @@ fn is_read_back(
         Some(again) => is_again(rt, again, vector, bytes, codes),
         None => panic!(rt; "not read back"),
     }
+    drop(read);
     Ok(())
 }
 
@@ -146,6 +144,20 @@ fn written(
     Ok(bytes)
 }
 
+// The same of the vector of a form that the codes make.
+fn vector_bytes(
+    rt: &impl Abort,
+    alloc: Global,
+    codes: &[u32],
+    reach: u32,
+    form: Form,
+) -> Result<Vec<u8>, AllocError> {
+    let vector = vector_of(rt, alloc, codes, reach, form)?;
+    let bytes = written(rt, alloc, &vector, codes);
+    drop(vector);
+    bytes
+}
+
 /// Codes below a limit, with the sizes, the form and the bytes that they have.
 #[derive(Clone, Copy)]
 struct Case<'a> {
@@ -159,8 +171,7 @@ struct Case<'a> {
 fn has_bytes(rt: &impl Abort, alloc: Global, case: &Case<'_>) -> Result<(), AllocError> {
     let sizes = sizes(rt, alloc, case.codes, case.reach)?;
     assert!(rt; sizes == case.sizes);
-    let vector = vector_of(rt, alloc, case.codes, case.reach, case.form)?;
-    let bytes = written(rt, alloc, &vector, case.codes)?;
+    let bytes = vector_bytes(rt, alloc, case.codes, case.reach, case.form)?;
     same_bytes(rt, &bytes, case.bytes);
     Ok(())
 }
@@ -239,44 +250,34 @@ fn tenths(alloc: Global) -> Result<Vec<u32>, AllocError> {
 
 fn are_sparse(rt: &impl Abort, alloc: Global, codes: &[u32]) -> Result<(), AllocError> {
     let sizes = sizes(rt, alloc, codes, 11)?;
-    assert!(rt; sizes == [400, 1344, 140]);
-    let vector = vector_of(rt, alloc, codes, 11, Form::Sparse)?;
-    let bytes = written(rt, alloc, &vector, codes)?;
-    assert_eq!(rt; bytes.len(), 1 + 4 + 13 + 5);
+    let bytes = vector_bytes(rt, alloc, codes, 11, Form::Sparse)?;
+    assert!(rt; sizes == [400, 1344, 140] && bytes.len() == 1 + 4 + 13 + 5);
     Ok(())
 }
 
 #[test]
 fn few_exceptions_are_sparse(rt: HostRuntime) -> Result<(), AllocError> {
     let alloc = rt.alloc();
-    assert_eq!(rt; width_of(11), 4);
+    assert!(rt; width_of(11) == 4);
     let codes = tenths(alloc)?;
     are_sparse(&rt, alloc, &codes)
 }
 
-// A thousand codes, again and again from zero.
-fn cycles(alloc: Global) -> Result<Vec<u32>, AllocError> {
-    let mut codes = Vec::new(alloc);
-    for i in 0..1000u32 {
-        codes.push(i % 128)?;
+// A code of a vector that has this form: again and again from zero, in runs of a hundred, or zero but in each twentieth
+// place.
+fn code_at(form: Form, place: u32) -> u32 {
+    match form {
+        Form::Packed => place % 128,
+        Form::Runs => place / 100,
+        Form::Sparse => { if place % 20 == 0 { place / 20 + 1 } else { 0 } }
     }
-    Ok(codes)
 }
 
-// A thousand codes in ten runs.
-fn steps(alloc: Global) -> Result<Vec<u32>, AllocError> {
+// A thousand codes whose vector has this form.
+fn thousand(alloc: Global, form: Form) -> Result<Vec<u32>, AllocError> {
     let mut codes = Vec::new(alloc);
-    for i in 0..1000u32 {
-        codes.push(i / 100)?;
-    }
-    Ok(codes)
-}
-
-// A thousand codes: zeros, and in each twentieth place another one.
-fn twentieths(alloc: Global) -> Result<Vec<u32>, AllocError> {
-    let mut codes = Vec::new(alloc);
-    for i in 0..1000u32 {
-        codes.push(if i % 20 == 0 { i / 20 + 1 } else { 0 })?;
+    for place in 0..1000u32 {
+        codes.push(code_at(form, place))?;
     }
     Ok(codes)
 }
@@ -294,28 +295,50 @@ fn kept(
     Ok(mask.count())
 }
 
-// A mask keeps so many places of a vector of the codes.
-fn keeps(
+// How many it keeps of the vector of a form that codes make.
+fn kept_of(
     rt: &impl Abort,
     alloc: Global,
     codes: &[u32],
     form: Form,
     ranges: &[(u32, u32)],
+) -> Result<u32, AllocError> {
+    let vector = vector_of(rt, alloc, codes, 128, form)?;
+    let places = kept(rt, alloc, &vector, ranges);
+    drop(vector);
+    places
+}
+
+// A mask keeps so many places of a vector of a thousand codes.
+fn keeps(
+    rt: &impl Abort,
+    alloc: Global,
+    form: Form,
+    ranges: &[(u32, u32)],
     count: u32,
 ) -> Result<(), AllocError> {
-    let vector = vector_of(rt, alloc, codes, 128, form)?;
-    let places = kept(rt, alloc, &vector, ranges)?;
+    let codes = thousand(alloc, form)?;
+    let places = kept_of(rt, alloc, &codes, form, ranges)?;
     same_number(rt, places, count);
     Ok(())
 }
 
+const LOW: &[(u32, u32)] = &[(0, 5), (100, 101)];
+
+const HIGH: &[(u32, u32)] = &[(3, 9), (40, 60)];
+
+/// A form, ranges, and how many places stay.
+const KEPT: [(Form, &[(u32, u32)], u32); 4] = [
+    (Form::Packed, LOW, 48),
+    (Form::Runs, LOW, 500),
+    (Form::Sparse, LOW, 954),
+    (Form::Sparse, HIGH, 17),
+];
+
 #[test]
 fn a_mask_keeps_the_places_in_ranges(rt: HostRuntime) -> Result<(), AllocError> {
-    let alloc = rt.alloc();
-    let low = [(0, 5), (100, 101)];
-    keeps(&rt, alloc, &cycles(alloc)?, Form::Packed, &low, 48)?;
-    keeps(&rt, alloc, &steps(alloc)?, Form::Runs, &low, 500)?;
-    keeps(&rt, alloc, &twentieths(alloc)?, Form::Sparse, &low, 954)?;
-    let high = [(3, 9), (40, 60)];
-    keeps(&rt, alloc, &twentieths(alloc)?, Form::Sparse, &high, 17)
+    for (form, ranges, count) in KEPT {
+        keeps(&rt, rt.alloc(), form, ranges, count)?;
+    }
+    Ok(())
 }

@@ -1,4 +1,7 @@
 //! A worked merge as one piece, and one so great that it is made in two pieces, on real threads.
+ghost use Rattle.std.specs.Prelude.{◌<◌, length};
+ghost use Rattle.ut_key.specs.Keys.{IsAscending};
+
 use crate::prefix::list_of;
 use std::alloc::{AllocError, Global};
 use std::process::Abort;
@@ -19,9 +22,16 @@ fn is_worked(merged: &Merged) -> bool {
 fn same_cuts(rt: &impl Abort, got: &[Cut], wanted: &[Cut]) {
     assert!(rt; got.len() == wanted.len());
     for i in 0..got.len() {
-        assert!(rt; got[i].a == wanted[i].a);
-        assert!(rt; got[i].b == wanted[i].b);
+        assert!(rt; got[i].a == wanted[i].a && got[i].b == wanted[i].b);
     }
+}
+
+// Ends the test where the keys don't ascend, or are many.
+fn ascend(rt: &impl Abort, keys: &KeyList)
+    ensures ascending { IsAscending keys.now }
+    ensures few { length keys.now < 100000 }
+{
+    assert!(rt; is_ascending(keys) && keys.len() < 100_000);
 }
 
 // The merge has these borders between two pieces.
@@ -32,10 +42,8 @@ fn has_borders(
     b: &KeyList,
     wanted: &[Cut],
 ) -> Result<(), AllocError> {
-    assert!(rt; is_ascending(a));
-    assert!(rt; is_ascending(b));
-    assert!(rt; a.len() < 100_000);
-    assert!(rt; b.len() < 100_000);
+    ascend(rt, a);
+    ascend(rt, b);
     let borders = cuts(alloc, a, b, 2)?;
     same_cuts(rt, &borders, wanted);
     Ok(())
@@ -48,10 +56,8 @@ fn merged<R: Threads + Sync + Abort>(
     a: &KeyList,
     b: &KeyList,
 ) -> Result<Merged, AllocError> {
-    assert!(rt; is_ascending(a));
-    assert!(rt; is_ascending(b));
-    assert!(rt; a.len() < 100_000);
-    assert!(rt; b.len() < 100_000);
+    ascend(rt, a);
+    ascend(rt, b);
     let used_a = vec![in alloc; true; a.len()]?;
     let used_b = vec![in alloc; true; b.len()]?;
     merge(rt, alloc, a, &used_a, b, &used_b, 2)
@@ -59,15 +65,11 @@ fn merged<R: Threads + Sync + Abort>(
 
 // How many keys a piece of two lists of three has.
 fn count_of(rt: &impl Abort, a: &KeyList, b: &KeyList, used: &[bool], from: &Cut, to: &Cut) -> u32 {
-    assert!(rt; is_ascending(a));
-    assert!(rt; is_ascending(b));
-    assert!(rt; used.len() == a.len());
-    assert!(rt; used.len() == b.len());
-    assert!(rt; used.len() == 3);
-    assert!(rt; from.a <= to.a);
-    assert!(rt; from.b <= to.b);
-    assert!(rt; to.a as usize <= a.len());
-    assert!(rt; to.b as usize <= b.len());
+    ascend(rt, a);
+    ascend(rt, b);
+    assert!(rt; used.len() == a.len() && used.len() == b.len() && used.len() == 3);
+    assert!(rt; from.a <= to.a && to.a as usize <= a.len());
+    assert!(rt; from.b <= to.b && to.b as usize <= b.len());
     count_piece(a, used, b, used, from, to)
 }
 
@@ -81,10 +83,12 @@ fn check_worked<R: Threads + Sync + Abort>(
     let wanted = [Cut { a: 0, b: 0 }, Cut { a: 2, b: 2 }, Cut { a: 3, b: 3 }];
     has_borders(rt, alloc, a, b, &wanted)?;
     let all = [true; 3];
-    assert_eq!(rt; count_of(rt, a, b, &all, &wanted[0], &wanted[1]), 3);
-    assert_eq!(rt; count_of(rt, a, b, &all, &wanted[1], &wanted[2]), 2);
+    let first = count_of(rt, a, b, &all, &wanted[0], &wanted[1]);
+    let second = count_of(rt, a, b, &all, &wanted[1], &wanted[2]);
+    assert!(rt; first == 3 && second == 2);
     let whole = merged(rt, alloc, a, b)?;
     assert!(rt; is_worked(&whole));
+    drop(whole);
     Ok(())
 }
 
@@ -123,14 +127,15 @@ fn check_each(rt: &impl Abort, merged: &Merged) {
     let mut place = 0;
     for number in 0..=LAST {
         let (is_of_a, is_of_b) = (number % 2 == 0, number % 3 == 0);
-        assert!(rt; !is_of_a || went_to(&merged.from_a, number / 2, place));
-        assert!(rt; !is_of_b || went_to(&merged.from_b, number / 3, place));
+        let went = (!is_of_a || went_to(&merged.from_a, number / 2, place))
+            && (!is_of_b || went_to(&merged.from_b, number / 3, place));
+        let stands = !(is_of_a || is_of_b) || has_key(&merged.keys, place, number);
+        assert!(rt; went && stands, "{number}");
         if is_of_a || is_of_b {
-            assert!(rt; has_key(&merged.keys, place, number), "{number}");
             place += 1;
         }
     }
-    assert_eq!(rt; place as usize, merged.keys.len());
+    assert!(rt; place as usize == merged.keys.len());
 }
 
 // The multiples of two and of three.
@@ -153,10 +158,10 @@ fn check_pieces<R: Threads + Sync + Abort>(
     ];
     has_borders(rt, alloc, twos, threes, &wanted)?;
     let merged = merged(rt, alloc, twos, threes)?;
-    assert_eq!(rt; merged.from_a.len(), 60_001);
-    assert_eq!(rt; merged.from_b.len(), 40_001);
-    assert_eq!(rt; merged.keys.len(), 80_001);
+    assert!(rt; merged.from_a.len() == 60_001 && merged.from_b.len() == 40_001);
+    assert!(rt; merged.keys.len() == 80_001);
     check_each(rt, &merged);
+    drop(merged);
     Ok(())
 }
 

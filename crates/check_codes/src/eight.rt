@@ -73,17 +73,16 @@ const SPELLED: [Spelled<'static>; 6] = [
 ];
 
 fn is_spelled(rt: &impl Abort, alloc: Global, case: &Spelled<'_>) -> Result<(), AllocError> {
-    assert!(rt; case.rows <= 100);
-    assert!(rt; case.width <= 32);
+    assert!(rt; case.rows <= 100 && case.width <= 32);
     let read = Packed::from_bytes(alloc, case.bytes, case.rows, case.width)?;
     match &read {
         Some((vector, _)) => {
-            assert!(rt; case.at <= 100);
-            assert!(rt; case.at + 8 <= vector.len());
+            assert!(rt; case.at <= 100 && case.at + 8 <= vector.len());
             same_eight(rt, vector.eight(case.at), case.want);
         }
         None => panic!(rt; "not read"),
     }
+    drop(read);
     Ok(())
 }
 
@@ -140,10 +139,10 @@ const FORMED: [Formed<'static>; 3] = [
 fn has_each(rt: &impl Abort, alloc: Global, case: &Formed<'_>) -> Result<(), AllocError> {
     let vector = vector_of(rt, alloc, case.codes, case.reach, case.form)?;
     for (at, want) in case.wants {
-        assert!(rt; at <= 100);
-        assert!(rt; at + 8 <= vector.len());
+        assert!(rt; at <= 100 && at + 8 <= vector.len());
         same_eight(rt, vector.eight(at), want);
     }
+    drop(vector);
     Ok(())
 }
 

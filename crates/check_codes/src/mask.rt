@@ -26,8 +26,7 @@ fn is_whole(rt: &impl Abort, alloc: Global, rows: u32, places: &[u32]) -> Result
 
 // Clears a range that the mask has, unless it stays.
 fn keep(rt: &impl Abort, mask: &mut Mask, from: u32, to: u32, stays: bool) {
-    assert!(rt; from <= to);
-    assert!(rt; to <= mask.len());
+    assert!(rt; from <= to && to <= mask.len());
     mask.keep_range(from, to, stays);
 }
 
@@ -42,12 +41,9 @@ fn thin(rt: &impl Abort, mask: &mut Mask) {
 
 // Clears the last places of the second word.
 fn clear_word(rt: &impl Abort, mask: &mut Mask) {
-    assert!(rt; mask.len() == 150);
-    assert!(rt; !mask.is_word_clear(1));
-    assert!(rt; mask.len() == 150);
+    assert!(rt; mask.len() == 150 && !mask.is_word_clear(1));
     mask.clear(60, 66);
-    assert!(rt; mask.len() == 150);
-    assert!(rt; mask.is_word_clear(1));
+    assert!(rt; mask.len() == 150 && mask.is_word_clear(1));
     assert_places(rt, mask, &[5, 148, 149]);
 }
 

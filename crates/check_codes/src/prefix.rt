@@ -16,8 +16,7 @@ pub(crate) fn dictionary_of(
     alloc: Global,
     list: &KeyList,
 ) -> Result<PrefixDict, AllocError> {
-    assert!(rt; is_ascending(list));
-    assert!(rt; list.len() < 100);
+    assert!(rt; is_ascending(list) && list.len() < 100);
     PrefixDict::from_sorted(alloc, list)
 }
 
@@ -38,7 +37,9 @@ pub(crate) fn list_of(
 // The dictionary of a few keys that ascend.
 fn dictionary(rt: &impl Abort, alloc: Global, keys: &[&[u8]]) -> Result<PrefixDict, AllocError> {
     let list = list_of(rt, alloc, keys)?;
-    dictionary_of(rt, alloc, &list)
+    let dict = dictionary_of(rt, alloc, &list);
+    drop(list);
+    dict
 }
 
 // The dictionary of the even numbers below eighty.
@@ -103,9 +104,16 @@ fn are_found<L: Ledger>(rt: &impl Abort, dict: &PrefixDict, steps: &mut Steps<L>
     }
 }
 
-fn finds_none<L: Ledger>(rt: &impl Abort, none: &PrefixDict, steps: &mut Steps<L>) {
+fn none_finds<L: Ledger>(
+    rt: &impl Abort,
+    alloc: Global,
+    steps: &mut Steps<L>,
+) -> Result<(), AllocError> {
+    let none = dictionary(rt, alloc, &[])?;
     assert!(rt; none.len() == 0);
-    same_place(rt, find_in_none(none, &[1], steps), None);
+    same_place(rt, find_in_none(&none, &[1], steps), None);
+    drop(none);
+    Ok(())
 }
 
 fn look_up<L: Ledger>(rt: &impl Abort, alloc: Global, blank: Blank) -> Result<(), AllocError>
@@ -114,10 +122,10 @@ fn look_up<L: Ledger>(rt: &impl Abort, alloc: Global, blank: Blank) -> Result<()
     requires positive { 0 < blank.parts }
 {
     let mut steps = Steps::<L>::new(blank);
-    let none = dictionary(rt, alloc, &[])?;
-    finds_none(rt, &none, &mut steps);
+    none_finds(rt, alloc, &mut steps)?;
     let dict = forty(rt, alloc)?;
     are_found(rt, &dict, &mut steps);
+    drop(dict);
     Ok(())
 }
 
@@ -128,8 +136,7 @@ fn push_small<L: Ledger>(
     steps: &mut Steps<L>,
 ) -> Result<(), AllocError> {
     assert!(rt; chain.lacks_all(&dict, steps));
-    assert!(rt; dict.len() < 100);
-    assert!(rt; chain.len() < 100);
+    assert!(rt; dict.len() < 100 && chain.len() < 100);
     chain.push(dict)
 }
 
@@ -145,6 +152,18 @@ pub(crate) fn push_dictionary<L: Ledger>(
     push_small(rt, chain, dict, steps)
 }
 
+// Adds a dictionary of a few keys that ascend, which the chain lacks.
+fn push_keys<L: Ledger>(
+    rt: &impl Abort,
+    alloc: Global,
+    chain: &mut DictChain,
+    keys: &[&[u8]],
+    steps: &mut Steps<L>,
+) -> Result<(), AllocError> {
+    let dict = dictionary(rt, alloc, keys)?;
+    push_dictionary(rt, alloc, chain, dict, steps)
+}
+
 /// The chain of a dictionary for each of the lists of keys.
 pub(crate) fn chain_of<L: Ledger>(
     rt: &impl Abort,
@@ -154,8 +173,7 @@ pub(crate) fn chain_of<L: Ledger>(
 ) -> Result<DictChain, AllocError> {
     let mut chain = DictChain::new(alloc);
     for keys in lists {
-        let dict = dictionary(rt, alloc, keys)?;
-        push_dictionary(rt, alloc, &mut chain, dict, steps)?;
+        push_keys(rt, alloc, &mut chain, keys, steps)?;
     }
     Ok(chain)
 }
@@ -203,19 +221,41 @@ fn has_ranges<L: Ledger>(
     Ok(())
 }
 
+// The chain of 2, 4, 6 and of 1, 9, handed out again.
+fn chain_again<L: Ledger>(
+    rt: &impl Abort,
+    alloc: Global,
+    steps: &mut Steps<L>,
+) -> Result<DictChain, AllocError> {
+    let chain = chain_of(rt, alloc, &[&[&[2], &[4], &[6]], &[&[1], &[9]]], steps)?;
+    let again = chain.again(alloc);
+    drop(chain);
+    again
+}
+
+fn compare_each<L: Ledger>(
+    rt: &impl Abort,
+    alloc: Global,
+    chain: &DictChain,
+    steps: &mut Steps<L>,
+) -> Result<(), AllocError> {
+    has_five(rt, chain, steps);
+    for (op, want) in RANGES {
+        has_ranges(rt, alloc, chain, op, want, steps)?;
+    }
+    Ok(())
+}
+
 fn compare_all<L: Ledger>(rt: &impl Abort, alloc: Global, blank: Blank) -> Result<(), AllocError>
     requires name { blank.name ≡ L.name }
     requires parts { blank.parts ≡ L.parts }
     requires positive { 0 < blank.parts }
 {
     let mut steps = Steps::<L>::new(blank);
-    let chain = chain_of(rt, alloc, &[&[&[2], &[4], &[6]], &[&[1], &[9]]], &mut steps)?;
-    let chain = chain.again(alloc)?;
-    has_five(rt, &chain, &mut steps);
-    for (op, want) in RANGES {
-        has_ranges(rt, alloc, &chain, op, want, &mut steps)?;
-    }
-    Ok(())
+    let chain = chain_again(rt, alloc, &mut steps)?;
+    let compared = compare_each(rt, alloc, &chain, &mut steps);
+    drop(chain);
+    compared
 }
 
 // The keys "ab", "abc" and "b", which are spelled by these bytes.
@@ -234,6 +274,7 @@ fn is_read(rt: &impl Abort, alloc: Global) -> Result<(), AllocError> {
         Some((dict, size)) => assert!(rt; dict.len() == 3 && *size == 13),
         None => panic!(rt; "not read"),
     }
+    drop(read);
     Ok(())
 }
 
@@ -241,7 +282,13 @@ fn has_keys(rt: &impl Abort, alloc: Global, dict: &PrefixDict) -> Result<(), All
     let keys = dict.keys(alloc)?;
     assert!(rt; keys.len() == 3);
     same_bytes(rt, keys.key(1), b"abc");
+    drop(keys);
     Ok(())
+}
+
+fn spells(rt: &impl Abort, alloc: Global, dict: &PrefixDict) -> Result<(), AllocError> {
+    is_spelled(rt, alloc, dict)?;
+    has_keys(rt, alloc, dict)
 }
 
 const REFUSED: [&[u8]; 7] = [
@@ -257,6 +304,7 @@ const REFUSED: [&[u8]; 7] = [
 fn is_refused(rt: &impl Abort, alloc: Global, bytes: &[u8]) -> Result<(), AllocError> {
     let read = PrefixDict::from_bytes(alloc, bytes)?;
     assert!(rt; read.is_none(), "{bytes:?}");
+    drop(read);
     Ok(())
 }
 
@@ -268,8 +316,9 @@ fn a_dictionary_is_spelled_and_read_back(rt: HostRuntime) -> Result<(), AllocErr
         is_refused(&rt, alloc, bytes)?;
     }
     let dict = dictionary(&rt, alloc, &[b"ab", b"abc", b"b"])?;
-    is_spelled(&rt, alloc, &dict)?;
-    has_keys(&rt, alloc, &dict)
+    let spelled = spells(&rt, alloc, &dict);
+    drop(dict);
+    spelled
 }
 
 #[test]

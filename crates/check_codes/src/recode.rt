@@ -78,8 +78,7 @@ fn order_two(
     a: Vec<u32>,
     b: Vec<u32>,
 ) -> Result<Vec<u32>, AllocError> {
-    assert!(rt; a.len() == 4);
-    assert!(rt; b.len() == 4);
+    assert!(rt; a.len() == 4 && b.len() == 4);
     order(alloc, &[a, b], &[2, 1], &[1, 2, 3, 4])
 }
 
@@ -100,9 +99,7 @@ fn order_three(
     b: Vec<u32>,
     c: Vec<u32>,
 ) -> Result<Vec<u32>, AllocError> {
-    assert!(rt; a.len() == 3);
-    assert!(rt; b.len() == 3);
-    assert!(rt; c.len() == 3);
+    assert!(rt; a.len() == 3 && b.len() == 3 && c.len() == 3);
     order(alloc, &[a, b, c], &[2, 1, 2], &[9, 8, 7])
 }
 

@@ -22,7 +22,9 @@ fn order_of(rt: &impl Abort, alloc: Global, keys: &[&[u8]]) -> Result<Vec<u32>, 
     for key in keys {
         add(rt, &mut dict, key)?;
     }
-    dict.order(alloc)
+    let order = dict.order(alloc);
+    drop(dict);
+    order
 }
 
 fn is_ordered(

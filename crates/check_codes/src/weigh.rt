@@ -59,9 +59,12 @@ fn weigh_each<L: Ledger>(rt: &impl Abort, alloc: Global, blank: Blank) -> Result
     requires positive { 0 < blank.parts }
 {
     let mut steps = Steps::<L>::new(blank);
-    weighs(rt, &DictChain::new(alloc), &[1, 2], 0);
+    let none = DictChain::new(alloc);
+    weighs(rt, &none, &[1, 2], 0);
+    drop(none);
     let chain = chain_of(rt, alloc, &[&FIRST, &SECOND, &TEXTS], &mut steps)?;
     are_weighed(rt, &chain);
+    drop(chain);
     Ok(())
 }
 
@@ -99,6 +102,7 @@ fn weigh_forty<L: Ledger>(rt: &impl Abort, alloc: Global, blank: Blank) -> Resul
     let mut chain = DictChain::new(alloc);
     push_dictionary(rt, alloc, &mut chain, dict, &mut steps)?;
     are_forty_weighed(rt, &chain);
+    drop(chain);
     Ok(())
 }
 

@@ -5,17 +5,16 @@ ghost use Rattle.ut_crowd.specs.Standing.{Starts};
 ghost use Rattle.ut_engine.specs.Runs.{Runs};
 ghost use Rattle.ut_plain.specs.Plain.{Plain};
 
-use crate::asking::lines_with;
-use crate::calls::{lines_of, made, text_of};
+use crate::calls::{check_told, lines_of, made};
+use crate::facts::holds;
 use check_run::run::new_disk;
 use std::alloc::{AllocError, Global};
 use std::collections::VecDeque;
 use std::marker::Brand;
 use std::process::Abort;
-use std::test::Fail;
 use std::thread::Threads;
 use ut_crew::{Build, Kept, Went};
-use ut_crowd::{Advance, Hall, Merger, Opening, Saver, Turn, hall_of};
+use ut_crowd::{Advance, Merger, Opening, Saver, hall_of};
 use ut_engine::Engine;
 use ut_gate::{Act, Held, Slip};
 use ut_merge::Builder;
@@ -36,14 +35,24 @@ const TOLD: [(&[u8], usize); 7] = [
     (b"7", 1),
 ];
 
-/// A turn of an act with an empty slip, which is lost behind it.
-fn turn<E: Held, A: Act<E>>(act: &mut A, value: &mut E) -> A::Answer
+/// A session's turn with an empty slip, which is lost behind it, comes to this.
+fn goes<E: Held, A: Act<E, Answer = Went>>(rt: &impl Abort, act: &mut A, value: &mut E, went: Went)
     requires asks { A.asks act.old (record { job = None }) }
     requires ground { E.stands_on E.ground value.old }
     ensures ground { E.stands_on E.ground value.new }
 {
     let mut slip = Slip { job: None };
-    act.run(value, &mut slip)
+    holds(rt, act.run(value, &mut slip) == went);
+}
+
+/// A keeper's turn with such a slip comes to this.
+fn keeps<E: Held, A: Act<E, Answer = Kept>>(rt: &impl Abort, act: &mut A, value: &mut E, kept: Kept)
+    requires asks { A.asks act.old (record { job = None }) }
+    requires ground { E.stands_on E.ground value.old }
+    ensures ground { E.stands_on E.ground value.new }
+{
+    let mut slip = Slip { job: None };
+    holds(rt, act.run(value, &mut slip) == kept);
 }
 
 /// A merger's turn, and behind it that of the act which ends the job that it took: what the last of them came to.
@@ -65,8 +74,8 @@ fn merged<E: Held, M: Act<E, Answer = Kept> + Build<E>>(
     Some(end.run(value, &mut slip))
 }
 
-/// Nothing is due before the first line; behind the second a row moves, then a merge begins and ends; behind the last all are over.
-fn check_turns<
+/// Nothing is due before the first line; behind the second a row moves, then a merge begins and ends.
+fn check_merge<
     E: Held,
     A: Act<E, Answer = Went>,
     M: Act<E, Answer = Kept> + Build<E>,
@@ -76,41 +85,41 @@ fn check_turns<
     requires ground { E.stands_on E.ground value.old }
     ensures ground { E.stands_on E.ground value.new }
 {
-    assert!(rt; turn(saver, value) == Kept::Idle);
-    assert!(rt; turn(merger, value) == Kept::Idle);
-    assert!(rt; turn(session, value) == Went::On);
-    assert!(rt; turn(session, value) == Went::Due);
-    assert!(rt; turn(merger, value) == Kept::Did);
-    assert!(rt; merged(merger, value) == Some(Kept::Due));
-    assert!(rt; turn(merger, value) == Kept::Idle);
-    assert!(rt; turn(saver, value) == Kept::Idle);
-    assert!(rt; turn(session, value) == Went::On);
-    assert!(rt; turn(session, value) == Went::Over);
-    assert!(rt; turn(merger, value) == Kept::Over);
-    assert!(rt; turn(saver, value) == Kept::Over);
+    keeps(rt, saver, value, Kept::Idle);
+    keeps(rt, merger, value, Kept::Idle);
+    goes(rt, session, value, Went::On);
+    goes(rt, session, value, Went::Due);
+    keeps(rt, merger, value, Kept::Did);
+    holds(rt, merged(merger, value) == Some(Kept::Due));
 }
 
-fn check_told(rt: &impl Abort, alloc: Global, book: &[Turn]) -> Result<(), AllocError> {
-    let text = text_of(alloc, book)?;
-    for (front, lines) in TOLD {
-        assert_eq!(rt; lines_with(&text, front), lines);
-    }
-    Ok(())
+/// Behind the merge nothing is due; behind the last line all are over.
+fn check_end<
+    E: Held,
+    A: Act<E, Answer = Went>,
+    M: Act<E, Answer = Kept> + Build<E>,
+    S: Act<E, Answer = Kept>,
+>(rt: &impl Abort, value: &mut E, session: &mut A, merger: &mut M, saver: &mut S)
+    requires can { CanAlways A.asks M.asks M.ready S.asks }
+    requires ground { E.stands_on E.ground value.old }
+{
+    keeps(rt, merger, value, Kept::Idle);
+    keeps(rt, saver, value, Kept::Idle);
+    goes(rt, session, value, Went::On);
+    goes(rt, session, value, Went::Over);
+    keeps(rt, merger, value, Kept::Over);
+    keeps(rt, saver, value, Kept::Over);
 }
 
-// A hall on a ground that its caller names, with a row a merge.
+// A hall on a ground that its caller names, with a row a merge. It is dropped by one call.
 fn on_ground<D: Disk + Send, O: Opening + Send>(
     rt: &(impl Abort + Threads + Sync),
     alloc: Global,
     engine: Engine<'_, D>,
     lines: VecDeque<Seq<u8>>,
-) -> Result<(), Fail>
+) -> Result<(), AllocError>
     requires starts { Starts O.ground lines.items engine.loan (D.view engine.disk) engine.store 1 }
 {
-    let mut hall: Hall<'_, D, O> = match hall_of(alloc, engine, lines, 1) {
-        Ok(hall) => hall,
-        Err(_) => panic!(rt; "no memory for a hall"),
-    };
     let builder = Builder::alone(rt, &NoHook);
     let mut session = Advance {
         session: 1,
@@ -121,9 +130,16 @@ fn on_ground<D: Disk + Send, O: Opening + Send>(
         builder: &builder,
         hook: &NoHook,
     };
-    check_turns(rt, &mut hall, &mut session, &mut merger, &mut Saver);
-    check_told(rt, alloc, &hall.book)?;
-    Ok(())
+    match hall_of::<D, O>(alloc, engine, lines, 1) {
+        Ok(mut hall) => {
+            check_merge(rt, &mut hall, &mut session, &mut merger, &mut Saver);
+            check_end(rt, &mut hall, &mut session, &mut merger, &mut Saver);
+            let told = check_told(rt, alloc, &hall.book, &TOLD);
+            drop(hall);
+            told
+        }
+        Err(_) => panic!(rt; "no memory for a hall"),
+    }
 }
 
 fn check_acts<D: Disk + Send>(
@@ -131,14 +147,14 @@ fn check_acts<D: Disk + Send>(
     alloc: Global,
     engine: Engine<'_, D>,
     lines: VecDeque<Seq<u8>>,
-) -> Result<(), Fail>
+) -> Result<(), AllocError>
     requires runs { (p : Plain) × Runs engine.store (D.view engine.disk) p }
 {
     on_ground::<D, Brand>(rt, alloc, engine, lines)
 }
 
 #[test]
-fn each_act_is_idle_or_over_just_where_it_has_to_be(rt: HostRuntime) -> Result<(), Fail> {
+fn each_act_is_idle_or_over_just_where_it_has_to_be(rt: HostRuntime) -> Result<(), AllocError> {
     let lines = lines_of(rt.alloc(), &LINES)?;
     let mut disk = new_disk(rt.alloc())?;
     match made::<MemDisk>(rt.alloc(), &mut disk) {

@@ -1,15 +1,15 @@
 //! What the store asks of its own accord: merges of each kind, by the number of rows in the words, and savepoints to their end.
+use crate::facts::holds;
 use check_books::books::outcome_of;
-use check_run::run::new_disk;
+use check_books::runs::{Crowd, run_watched};
 use std::alloc::{AllocError, Global};
 use std::process::Abort;
 use std::sync::Wait;
 use std::sync::atomic::AtomicU64;
 use std::sync::atomic::Ordering::SeqCst;
-use std::test::Fail;
 use std::thread::{Threads, yield_now};
-use ut_app::{Status, top};
-use ut_outside::{Hook, MemSink, MemSource, Point};
+use ut_app::Status;
+use ut_outside::{Hook, Point};
 
 /// So many times a session that is held looks.
 const PATIENCE: u32 = 1_000_000;
@@ -18,11 +18,21 @@ const PATIENCE: u32 = 1_000_000;
 const ROWS: u32 = 120;
 
 /// Holds a session behind each line until the merger has built what the lines before give it to build, with so many rows a merge.
-#[derive(Drop)]
 struct Pace {
     rows: u64,
     lines: AtomicU64,
     builds: AtomicU64,
+}
+
+// One step of a proof, wherever one is dropped.
+impl Drop for Pace {
+    fn drop(self) {
+        let Pace {
+            rows: _,
+            lines: _,
+            builds: _,
+        } = self;
+    }
 }
 
 impl Pace {
@@ -70,22 +80,24 @@ fn of_rows(alloc: Global) -> Result<Vec<u8>, AllocError> {
     Ok(lines)
 }
 
-/// The book of such a crowd, whose merges take so many rows. It is one history.
-fn book_by(
+/// Such a crowd, whose merges take so many rows.
+fn paced(rt: &(impl Threads + Wait + Sync), alloc: Global, rows: u64) -> Result<Crowd, AllocError> {
+    let number = format!(in alloc; "{rows}")?;
+    let words = &["ut", "crowd", "--new", "--l1", number.as_str()];
+    let lines = of_rows(alloc)?;
+    run_watched(rt, alloc, words, &lines, &Pace::new(rows))
+}
+
+/// Such a crowd, whose book is one history.
+fn crowd_by(
     rt: &(impl Abort + Threads + Wait + Sync),
     alloc: Global,
     rows: u64,
-) -> Result<Vec<u8>, AllocError> {
-    let number = format!(in alloc; "{rows}")?;
-    let words = &["ut", "crowd", "--new", "--l1", number.as_str()];
-    let mut disk = new_disk(alloc)?;
-    let mut source = MemSource::new(alloc, &of_rows(alloc)?, 4096, None)?;
-    let mut sink = MemSink::new(alloc, None);
-    let pace = Pace::new(rows);
-    let report = top(rt, alloc, words, &mut source, &mut sink, &mut disk, &pace);
-    assert_eq!(rt; report.status, Status::Done);
-    assert!(rt; outcome_of(alloc, sink.bytes(), 0)?.is_some());
-    Vec::from_slice(alloc, sink.bytes())
+) -> Result<Crowd, AllocError> {
+    let crowd = paced(rt, alloc, rows)?;
+    holds(rt, crowd.came.status == Status::Done);
+    holds(rt, outcome_of(alloc, &crowd.came.book, 0)?.is_some());
+    Ok(crowd)
 }
 
 /// How many lines of a book begin so.
@@ -99,34 +111,54 @@ pub(crate) fn lines_with(book: &[u8], front: &[u8]) -> usize {
     lines
 }
 
-#[test]
-fn each_kind_of_merge_is_asked(rt: HostRuntime) -> Result<(), Fail> {
-    let book = book_by(&rt, rt.alloc(), 8)?;
-    for kind in [b"classic", b"partial"] {
-        let mut line = Vec::from_slice(rt.alloc(), b"> 0 merge begin T ")?;
-        line.extend_from_slice(kind)?;
-        assert!(rt; lines_with(&book, &line) > 0);
+/// So many lines of a book, or of what is told else, begin so.
+pub(crate) fn check_lines(rt: &impl Abort, book: &[u8], told: &[(&[u8], usize)]) {
+    for (front, lines) in told {
+        holds(rt, lines_with(book, front) == *lines);
     }
-    assert!(rt; lines_with(&book, b"> 0 merge begin T resort") > 0);
-    assert_eq!(rt; lines_with(&book, b"> 0 merge begin T extend"), 0);
+}
+
+/// What lines of a book begin with that ask for merges of these kinds.
+const ASKED: [&[u8]; 3] = [
+    b"> 0 merge begin T classic",
+    b"> 0 merge begin T partial",
+    b"> 0 merge begin T resort",
+];
+
+#[test]
+fn each_kind_of_merge_is_asked(rt: HostRuntime) -> Result<(), AllocError> {
+    let crowd = crowd_by(&rt, rt.alloc(), 8)?;
+    for front in &ASKED {
+        holds(&rt, lines_with(&crowd.came.book, front) > 0);
+    }
+    holds(
+        &rt,
+        lines_with(&crowd.came.book, b"> 0 merge begin T extend") == 0,
+    );
     Ok(())
 }
 
 #[test]
-fn a_savepoint_is_selected(rt: HostRuntime) -> Result<(), Fail> {
-    let book = book_by(&rt, rt.alloc(), 8)?;
-    assert!(rt; lines_with(&book, b"0 ok root ") > 0);
+fn a_savepoint_is_selected(rt: HostRuntime) -> Result<(), AllocError> {
+    let crowd = crowd_by(&rt, rt.alloc(), 8)?;
+    holds(&rt, lines_with(&crowd.came.book, b"0 ok root ") > 0);
+    Ok(())
+}
+
+/// Rows move by the number in the words, and by no other.
+fn check_moves(rt: &impl Abort, alloc: Global, book: &[u8], rows: u64) -> Result<(), AllocError> {
+    let asked = format!(in alloc; "> 0 merge l1 T {rows}")?;
+    let moves = lines_with(book, asked.as_bytes());
+    holds(rt, moves > 0);
+    holds(rt, moves == lines_with(book, b"> 0 merge l1 "));
     Ok(())
 }
 
 #[test]
-fn rows_move_by_the_number_in_the_words(rt: HostRuntime) -> Result<(), Fail> {
+fn rows_move_by_the_number_in_the_words(rt: HostRuntime) -> Result<(), AllocError> {
     for rows in [3, 8, 20] {
-        let book = book_by(&rt, rt.alloc(), rows)?;
-        let asked = format!(in rt.alloc(); "> 0 merge l1 T {rows}")?;
-        let moves = lines_with(&book, asked.as_bytes());
-        assert!(rt; moves > 0);
-        assert_eq!(rt; moves, lines_with(&book, b"> 0 merge l1 "));
+        let crowd = crowd_by(&rt, rt.alloc(), rows)?;
+        check_moves(&rt, rt.alloc(), &crowd.came.book, rows)?;
     }
     Ok(())
 }

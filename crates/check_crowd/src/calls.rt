@@ -3,13 +3,13 @@ ghost use Rattle.std.specs.Prelude.{IfOk};
 ghost use Rattle.ut_plain.specs.Plain.{Plain};
 ghost use Rattle.ut_engine.specs.Runs.{Runs};
 
-use crate::asking::lines_with;
+use crate::asking::check_lines;
+use crate::facts::holds;
 use check_run::run::new_disk;
 use std::alloc::{AllocError, Global};
 use std::collections::VecDeque;
 use std::process::Abort;
 use std::sync::Wait;
-use std::test::Fail;
 use std::thread::Threads;
 use ut_crowd::{Asked, Ended, Turn, crowd, put_book};
 use ut_engine::{Engine, OpenError};
@@ -98,7 +98,7 @@ fn run(
     alloc: Global,
     disk: &mut MemDisk,
     lines: VecDeque<Seq<u8>>,
-) -> Result<Came, Fail> {
+) -> Result<Came, AllocError> {
     let builder = Builder::alone(rt, &NoHook);
     match made(alloc, disk) {
         Ok(engine) => match crowd(rt, alloc, engine, lines, AMPLE, &builder, &NoHook) {
@@ -117,35 +117,37 @@ fn run_new(
     rt: &(impl Abort + Threads + Wait + Sync),
     alloc: Global,
     lines: VecDeque<Seq<u8>>,
-) -> Result<Came, Fail> {
+) -> Result<Came, AllocError> {
     let mut disk = new_disk(alloc)?;
     run(rt, alloc, &mut disk, lines)
 }
 
-pub(crate) fn text_of(alloc: Global, book: &[Turn]) -> Result<Vec<u8>, AllocError> {
+fn text_of(alloc: Global, book: &[Turn]) -> Result<Vec<u8>, AllocError> {
     let mut text = Vec::new(alloc);
     put_book(&mut text, book)?;
     Ok(text)
 }
 
-/// Each line of each session has its turn and its answer.
-fn check_told(rt: &impl Abort, alloc: Global, book: &[Turn]) -> Result<(), AllocError> {
+/// So many lines of the text of a book begin so.
+pub(crate) fn check_told(
+    rt: &impl Abort,
+    alloc: Global,
+    book: &[Turn],
+    told: &[(&[u8], usize)],
+) -> Result<(), AllocError> {
     let text = text_of(alloc, book)?;
-    for (front, lines) in TOLD {
-        assert_eq!(rt; lines_with(&text, front), lines);
-    }
+    check_lines(rt, &text, told);
     Ok(())
 }
 
-/// Two tables are made, and a row is put into each of them.
+/// Two tables are made, and a row is put into each of them. Each line of each session has its turn and its answer.
 #[test]
-fn two_sessions_are_answered(rt: HostRuntime) -> Result<(), Fail> {
+fn two_sessions_are_answered(rt: HostRuntime) -> Result<(), AllocError> {
     let lines = lines_of(rt.alloc(), &LINES)?;
     let came = run_new(&rt, rt.alloc(), lines)?;
-    assert!(rt; came.all && came.book.len() == LINES.len());
-    assert_eq!(rt; came.entries, 4);
-    check_told(&rt, rt.alloc(), &came.book)?;
-    Ok(())
+    holds(&rt, came.all && came.book.len() == LINES.len());
+    holds(&rt, came.entries == 4);
+    check_told(&rt, rt.alloc(), &came.book, &TOLD)
 }
 
 /// A turn behind others. How many entries the journal has, and the moment, aren't in the text.
@@ -220,14 +222,13 @@ const TEXT: &[u8] = b"> nobody\n? refused syntax\n\
 
 fn check_text(rt: &impl Abort, alloc: Global, book: &[Turn]) -> Result<(), AllocError> {
     let text = text_of(alloc, book)?;
-    assert!(rt; text.as_slice() == TEXT);
+    holds(rt, text.as_slice() == TEXT);
     Ok(())
 }
 
 #[test]
-fn a_book_is_written_turn_by_turn(rt: HostRuntime) -> Result<(), Fail> {
+fn a_book_is_written_turn_by_turn(rt: HostRuntime) -> Result<(), AllocError> {
     let mut book = Vec::new(rt.alloc());
     put_turns(rt.alloc(), &mut book)?;
-    check_text(&rt, rt.alloc(), &book)?;
-    Ok(())
+    check_text(&rt, rt.alloc(), &book)
 }

@@ -1,6 +1,7 @@
 //! Faults of the disk at each of its calls in a crowd: the last turn tells of them, and what was told before is there again.
 ghost use Rattle.std.specs.Prelude.{◌<◌};
 
+use crate::facts::{holds, holds_at};
 use check_books::books::{Outcome, Share, outcome_of, share_of};
 use check_books::runs::{Came, Crowd, Left, left_on, run_failing};
 use check_books::scripts::{OF_THREE, of_four};
@@ -8,7 +9,6 @@ use check_run::saved::TEARS;
 use std::alloc::{AllocError, Global};
 use std::process::Abort;
 use std::sync::Wait;
-use std::test::Fail;
 use std::thread::Threads;
 use ut_app::Status;
 use ut_outside::{Disk, MemDisk, Tear};
@@ -32,8 +32,8 @@ fn outcome_behind(
     let Some(outcome) = outcome_of(alloc, &came.book, 0)? else {
         panic!(rt; "a turn isn't told as the slow store tells it, at {call}")
     };
-    assert_eq!(rt; outcome.turns, came.acks.len());
-    assert!(rt; outcome.is_open() || came.book.is_empty(), "at {call}");
+    holds(rt, outcome.turns == came.acks.len());
+    holds_at(rt, outcome.is_open() || came.book.is_empty(), call);
     Ok(outcome)
 }
 
@@ -72,13 +72,31 @@ fn check_fault(
     crowd: &Crowd,
     call: u64,
 ) -> Result<(), AllocError> {
-    assert_eq!(rt; crowd.came.status, Status::DiskFault, "at {call}");
-    assert_eq!(rt; crowd.disk.calls(), call.saturating_add(1));
+    holds_at(rt, crowd.came.status == Status::DiskFault, call);
+    holds(rt, crowd.disk.calls() == call.saturating_add(1));
     let outcome = outcome_behind(rt, alloc, &crowd.came, call)?;
     check_left(rt, alloc, &outcome, &crowd.disk, call)
 }
 
-/// Whether a crowd ended before the call that fails: then it is whole. Else the disk failed in its last turn.
+/// A crowd that ended before the call that fails is whole. Else the disk failed in its last turn.
+fn check_ended(
+    rt: &(impl Abort + Threads + Wait + Sync),
+    alloc: Global,
+    lines: &[u8],
+    crowd: &Crowd,
+    call: u64,
+) -> Result<(), AllocError> {
+    let share = share_of(alloc, lines, &crowd.came.book)?;
+    if crowd.came.status == Status::Done {
+        holds_at(rt, crowd.disk.calls() <= call, call);
+        holds(rt, share == Share::All);
+        return Ok(());
+    }
+    holds_at(rt, share != Share::Else, call);
+    check_fault(rt, alloc, crowd, call)
+}
+
+/// Whether a crowd ended before the call that fails.
 fn is_whole(
     rt: &(impl Abort + Threads + Wait + Sync),
     alloc: Global,
@@ -86,15 +104,8 @@ fn is_whole(
     call: u64,
 ) -> Result<bool, AllocError> {
     let crowd = run_failing(rt, alloc, lines, &[call])?;
-    let share = share_of(alloc, lines, &crowd.came.book)?;
-    if crowd.came.status == Status::Done {
-        assert!(rt; crowd.disk.calls() <= call, "no fault at {call}");
-        assert_eq!(rt; share, Share::All);
-        return Ok(true);
-    }
-    assert!(rt; share != Share::Else, "at {call}");
-    check_fault(rt, alloc, &crowd, call)?;
-    Ok(false)
+    check_ended(rt, alloc, lines, &crowd, call)?;
+    Ok(crowd.came.status == Status::Done)
 }
 
 /// Tries each call, or one of so many.
@@ -109,7 +120,7 @@ fn check_calls(
     let mut whole: u32 = 0;
     for call in (0..MOST).step_by(step) {
         if is_whole(rt, alloc, lines, call)? {
-            assert!(rt; call >= LEAST, "no fault at {call}");
+            holds_at(rt, call >= LEAST, call);
             whole = whole.saturating_add(1);
         }
         if whole >= WHOLE {
@@ -120,14 +131,12 @@ fn check_calls(
 }
 
 #[test]
-fn a_fault_of_the_disk_is_the_last_turn(rt: HostRuntime) -> Result<(), Fail> {
-    check_calls(&rt, rt.alloc(), OF_THREE, 1)?;
-    Ok(())
+fn a_fault_of_the_disk_is_the_last_turn(rt: HostRuntime) -> Result<(), AllocError> {
+    check_calls(&rt, rt.alloc(), OF_THREE, 1)
 }
 
 #[test]
-fn a_fault_of_the_disk_amid_savepoints_is_the_last_turn(rt: HostRuntime) -> Result<(), Fail> {
+fn a_fault_of_the_disk_amid_savepoints_is_the_last_turn(rt: HostRuntime) -> Result<(), AllocError> {
     let lines = of_four(rt.alloc())?;
-    check_calls(&rt, rt.alloc(), &lines, 3)?;
-    Ok(())
+    check_calls(&rt, rt.alloc(), &lines, 3)
 }

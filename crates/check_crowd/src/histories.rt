@@ -1,8 +1,11 @@
 //! Books of crowds: each is one history, which the slow store tells the same.
-use crate::asking::lines_with;
+use crate::asking::{check_lines, lines_with};
+use crate::facts::holds;
 use crate::watch::Watch;
 use check_books::books::{Outcome, Share, outcome_of, share_of};
-use check_books::runs::{CROWD, CROWD_NEW, Came, journal_on, left_on, run_crowd, run_failing};
+use check_books::runs::{
+    CROWD, CROWD_NEW, Came, journal_on, left_on, run_crowd, run_failing, run_watched,
+};
 use check_books::scripts::{LINES_OF_THREE, OF_THREE};
 use check_run::run::new_disk;
 use check_run::saved::put_line;
@@ -10,10 +13,9 @@ use check_scripts::{LINES, StoreLines, script_line};
 use std::alloc::{AllocError, Global};
 use std::process::Abort;
 use std::sync::Wait;
-use std::test::Fail;
 use std::thread::Threads;
-use ut_app::{Status, top};
-use ut_outside::{MemDisk, MemSink, MemSource};
+use ut_app::Status;
+use ut_outside::MemDisk;
 
 /// The books of a script differ from run to run, so it is run so often.
 const ROUNDS: u32 = 10;
@@ -40,8 +42,8 @@ fn outcome_behind(
     let Some(outcome) = outcome_of(alloc, &came.book, strangers)? else {
         panic!(rt; "a turn isn't told as the slow store tells it")
     };
-    assert_eq!(rt; outcome.turns, came.acks.len());
-    assert!(rt; outcome.refused == 0 && !outcome.is_open());
+    holds(rt, outcome.turns == came.acks.len());
+    holds(rt, outcome.refused == 0 && !outcome.is_open());
     Ok(outcome)
 }
 
@@ -65,14 +67,14 @@ fn check_book(
     strangers: usize,
     disk: &MemDisk,
 ) -> Result<(), AllocError> {
-    assert_eq!(rt; came.status, Status::Done);
-    assert_eq!(rt; share_of(alloc, lines, &came.book)?, Share::All);
+    holds(rt, came.status == Status::Done);
+    holds(rt, share_of(alloc, lines, &came.book)? == Share::All);
     let outcome = outcome_behind(rt, alloc, came, strangers)?;
     check_left(rt, alloc, &outcome, disk)
 }
 
 #[test]
-fn a_book_is_one_history(rt: HostRuntime) -> Result<(), Fail> {
+fn a_book_is_one_history(rt: HostRuntime) -> Result<(), AllocError> {
     for _ in 0..ROUNDS {
         check_history(&rt, rt.alloc(), OF_THREE, 0)?;
     }
@@ -99,7 +101,7 @@ fn random_lines(alloc: Global, seed: u64) -> Result<Vec<u8>, AllocError> {
 }
 
 #[test]
-fn books_of_random_lines_are_histories(rt: HostRuntime) -> Result<(), Fail> {
+fn books_of_random_lines_are_histories(rt: HostRuntime) -> Result<(), AllocError> {
     for seed in 1..20 {
         let lines = random_lines(rt.alloc(), seed)?;
         check_history(&rt, rt.alloc(), &lines, 0)?;
@@ -128,7 +130,7 @@ fn with_bad_lines(alloc: Global, place: usize) -> Result<Vec<u8>, AllocError> {
 }
 
 #[test]
-fn bad_lines_are_refused_in_each_place(rt: HostRuntime) -> Result<(), Fail> {
+fn bad_lines_are_refused_in_each_place(rt: HostRuntime) -> Result<(), AllocError> {
     for place in 0..=LINES_OF_THREE {
         let lines = with_bad_lines(rt.alloc(), place)?;
         check_history(&rt, rt.alloc(), &lines, STRANGERS)?;
@@ -148,27 +150,7 @@ fn of_hundred(alloc: Global) -> Result<Vec<u8>, AllocError> {
     Ok(lines)
 }
 
-/// Runs the program's own words, with a hook.
-fn watched(
-    rt: &(impl Threads + Wait + Sync),
-    alloc: Global,
-    words: &[&str],
-    lines: &[u8],
-    watch: &Watch,
-    disk: &mut MemDisk,
-) -> Result<Came, AllocError> {
-    let mut source = MemSource::new(alloc, lines, 4096, None)?;
-    let mut sink = MemSink::new(alloc, None);
-    let report = top(rt, alloc, words, &mut source, &mut sink, disk, watch);
-    Ok(Came {
-        status: report.status,
-        book: Vec::from_slice(alloc, sink.bytes())?,
-        acks: report.acks,
-        journal: report.journal,
-    })
-}
-
-/// Such a run's book is one history.
+/// Runs the program's own words, with a hook. The book is one history.
 fn check_watched(
     rt: &(impl Abort + Threads + Wait + Sync),
     alloc: Global,
@@ -176,15 +158,14 @@ fn check_watched(
     watch: &Watch,
 ) -> Result<(), AllocError> {
     let words = &["ut", "crowd", "--new", "--l1", "8"];
-    let mut disk = new_disk(alloc)?;
-    let came = watched(rt, alloc, words, lines, watch, &mut disk)?;
-    check_book(rt, alloc, &came, lines, 1, &disk)
+    let crowd = run_watched(rt, alloc, words, lines, watch)?;
+    check_book(rt, alloc, &crowd.came, lines, 1, &crowd.disk)
 }
 
 /// The program's own words, with a hook that holds a session until a merge is built, and that build until three more lines are
 /// answered.
 #[test]
-fn the_program_answers_lines_while_a_merge_is_built(rt: HostRuntime) -> Result<(), Fail> {
+fn the_program_answers_lines_while_a_merge_is_built(rt: HostRuntime) -> Result<(), AllocError> {
     let watch = Watch::new();
     let lines = of_hundred(rt.alloc())?;
     check_watched(&rt, rt.alloc(), &lines, &watch)?;
@@ -210,11 +191,12 @@ const TURNS: [(&[u8], usize); 4] = [(b"> 1 ", 11), (b"> 2 ", 10), (b"> 9 ", 10),
 
 /// So many turns these sessions have. The lines of nobody come first, and the store has turns of its own.
 fn check_turns(rt: &impl Abort, book: &[u8]) {
-    assert!(rt; book.starts_with(b"> nobody\n? refused syntax\n> 0 merge end\n? refused syntax\n"));
-    assert!(rt; lines_with(book, b"> 0 ") >= 2);
-    for (front, turns) in TURNS {
-        assert_eq!(rt; lines_with(book, front), turns);
-    }
+    holds(
+        rt,
+        book.starts_with(b"> nobody\n? refused syntax\n> 0 merge end\n? refused syntax\n"),
+    );
+    holds(rt, lines_with(book, b"> 0 ") >= 2);
+    check_lines(rt, book, &TURNS);
 }
 
 fn check_strangers(
@@ -223,18 +205,16 @@ fn check_strangers(
     lines: &[u8],
     watch: &Watch,
 ) -> Result<(), AllocError> {
-    let mut disk = new_disk(alloc)?;
-    let came = watched(rt, alloc, CROWD_NEW, lines, watch, &mut disk)?;
-    check_turns(rt, &came.book);
-    check_book(rt, alloc, &came, lines, 2, &disk)
+    let crowd = run_watched(rt, alloc, CROWD_NEW, lines, watch)?;
+    check_turns(rt, &crowd.came.book);
+    check_book(rt, alloc, &crowd.came, lines, 2, &crowd.disk)
 }
 
 #[test]
-fn each_line_has_its_turn(rt: HostRuntime) -> Result<(), Fail> {
+fn each_line_has_its_turn(rt: HostRuntime) -> Result<(), AllocError> {
     let watch = Watch::new(); // the store has a turn before the session of the ninth line goes on
     let lines = of_four_and_strangers(rt.alloc())?;
-    check_strangers(&rt, rt.alloc(), &lines, &watch)?;
-    Ok(())
+    check_strangers(&rt, rt.alloc(), &lines, &watch)
 }
 
 /// How many entries the journal of a crowd has that ends well, and all of whose lines were answered.
@@ -245,19 +225,31 @@ fn journal_behind(
     disk: &mut MemDisk,
 ) -> Result<u64, AllocError> {
     let came = run_crowd(rt, alloc, words, OF_THREE, disk)?;
-    assert_eq!(rt; came.status, Status::Done);
-    assert_eq!(rt; share_of(alloc, OF_THREE, &came.book)?, Share::All);
+    holds(rt, came.status == Status::Done);
+    holds(rt, share_of(alloc, OF_THREE, &came.book)? == Share::All);
     Ok(came.journal)
 }
 
 /// A crowd in a store that is there goes on where it stands.
-#[test]
-fn a_second_crowd_goes_on_behind_the_first(rt: HostRuntime) -> Result<(), Fail> {
-    let mut disk = new_disk(rt.alloc())?;
-    let first = journal_behind(&rt, rt.alloc(), CROWD_NEW, &mut disk)?;
-    let second = journal_behind(&rt, rt.alloc(), CROWD, &mut disk)?;
-    assert!(rt; first < second);
-    let there = journal_on(&rt, rt.alloc(), &mut disk)?;
-    assert_eq!(rt; there, Some(second));
+fn check_second(
+    rt: &(impl Abort + Threads + Wait + Sync),
+    alloc: Global,
+    disk: &mut MemDisk,
+) -> Result<(), AllocError> {
+    let first = journal_behind(rt, alloc, CROWD_NEW, disk)?;
+    let second = journal_behind(rt, alloc, CROWD, disk)?;
+    holds(rt, first < second);
+    let there = journal_on(rt, alloc, disk)?;
+    holds(rt, there == Some(second));
     Ok(())
+}
+
+fn check_two(rt: &(impl Abort + Threads + Wait + Sync), alloc: Global) -> Result<(), AllocError> {
+    let mut disk = new_disk(alloc)?;
+    check_second(rt, alloc, &mut disk)
+}
+
+#[test]
+fn a_second_crowd_goes_on_behind_the_first(rt: HostRuntime) -> Result<(), AllocError> {
+    check_two(&rt, rt.alloc())
 }

@@ -8,6 +8,8 @@ mod asking;
 #[cfg(test)]
 mod calls;
 #[cfg(test)]
+mod facts;
+#[cfg(test)]
 mod faults;
 #[cfg(test)]
 mod histories;

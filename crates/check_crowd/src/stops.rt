@@ -1,4 +1,5 @@
 //! Crashes at every moment of a crowd: what is opened has each turn that was acknowledged, and perhaps the next.
+use crate::facts::holds;
 use crate::faults::left_torn;
 use check_books::books::lefts_of;
 use check_books::runs::{Crowd, Left, run_failing};
@@ -7,7 +8,6 @@ use check_run::saved::TEARS;
 use std::alloc::{AllocError, Global};
 use std::process::Abort;
 use std::sync::Wait;
-use std::test::Fail;
 use std::thread::Threads;
 use ut_app::Status;
 use ut_outside::{Ack, Disk, MemDisk};
@@ -76,7 +76,7 @@ fn calls_of_making(rt: &(impl Threads + Wait + Sync), alloc: Global) -> Result<u
 fn whole(rt: &(impl Abort + Threads + Wait + Sync), alloc: Global) -> Result<Crowd, AllocError> {
     let lines = of_four(alloc)?;
     let crowd = run_failing(rt, alloc, &lines, &[])?;
-    assert_eq!(rt; crowd.came.status, Status::Done);
+    holds(rt, crowd.came.status == Status::Done);
     Ok(crowd)
 }
 
@@ -107,10 +107,9 @@ fn check_moments(
 }
 
 #[test]
-fn a_crash_leaves_each_turn_that_was_told(rt: HostRuntime) -> Result<(), Fail> {
+fn a_crash_leaves_each_turn_that_was_told(rt: HostRuntime) -> Result<(), AllocError> {
     let making = calls_of_making(&rt, rt.alloc())?;
     let crowd = whole(&rt, rt.alloc())?;
     let lefts = lefts_behind(&rt, rt.alloc(), &crowd.came.book)?;
-    check_moments(&rt, rt.alloc(), &crowd, &lefts, making)?;
-    Ok(())
+    check_moments(&rt, rt.alloc(), &crowd, &lefts, making)
 }

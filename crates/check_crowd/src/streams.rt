@@ -1,4 +1,5 @@
 //! Sources and sinks that fail, and input past the limits.
+use crate::facts::{holds, holds_at};
 use check_books::books::is_front;
 use check_books::runs::{CROWD_NEW, Came, Crowd, journal_on};
 use check_books::scripts::OF_TWO;
@@ -8,7 +9,6 @@ use check_run::told::last_told;
 use std::alloc::{AllocError, Global};
 use std::process::Abort;
 use std::sync::Wait;
-use std::test::Fail;
 use std::thread::Threads;
 use ut_app::{Status, top};
 use ut_outside::{Disk, Failed, MemDisk, MemSink, MemSource, NoHook, Sink, Taken};
@@ -102,22 +102,22 @@ fn check_answered(
     came: &Came,
     disk: &mut MemDisk,
 ) -> Result<(), AllocError> {
-    assert!(rt; came.acks.len() >= 8);
+    holds(rt, came.acks.len() >= 8);
     let there = journal_on(rt, alloc, disk)?;
-    assert_eq!(rt; there, Some(came.journal));
-    assert_eq!(rt; last_told(came.acks.as_slice()), came.journal);
+    holds(rt, there == Some(came.journal));
+    holds(rt, last_told(came.acks.as_slice()) == came.journal);
     Ok(())
 }
 
 /// A book that was written as far as its sink took it.
 fn check_cut(rt: &impl Abort, alloc: Global, came: &Came, bytes: u64) -> Result<(), AllocError> {
     let len = came.book.len() as u64;
-    assert!(rt; is_front(alloc, &came.book, 1)?, "at {bytes}");
+    holds_at(rt, is_front(alloc, &came.book, 1)?, bytes);
     if came.status == Status::Done {
-        assert!(rt; len <= bytes);
+        holds(rt, len <= bytes);
     } else {
-        assert_eq!(rt; came.status, Status::WriteFault, "at {bytes}");
-        assert_eq!(rt; len, bytes);
+        holds_at(rt, came.status == Status::WriteFault, bytes);
+        holds(rt, len == bytes);
     }
     Ok(())
 }
@@ -135,7 +135,7 @@ fn takes_all(
 }
 
 #[test]
-fn a_fault_of_the_sink_at_each_byte_cuts_the_book(rt: HostRuntime) -> Result<(), Fail> {
+fn a_fault_of_the_sink_at_each_byte_cuts_the_book(rt: HostRuntime) -> Result<(), AllocError> {
     for bytes in 0..MOST {
         if takes_all(&rt, rt.alloc(), bytes)? {
             return Ok(());
@@ -149,33 +149,44 @@ fn status_of_nothing(
     rt: &(impl Abort + Threads + Wait + Sync),
     alloc: Global,
     words: &[&str],
-    mut source: MemSource,
+    source: &mut MemSource,
     disk: &mut MemDisk,
 ) -> Status {
     let mut sink = MemSink::new(alloc, None);
-    let report = top(rt, alloc, words, &mut source, &mut sink, disk, &NoHook);
-    assert!(rt; sink.bytes().is_empty() && report.acks.len() == 0);
-    assert!(rt; report.lines == 0 && report.journal == 0);
+    let report = top(rt, alloc, words, source, &mut sink, disk, &NoHook);
+    holds(rt, sink.bytes().is_empty() && report.acks.len() == 0);
+    holds(rt, report.lines == 0 && report.journal == 0);
     report.status
 }
 
 /// Runs a crowd over a source, and looks that no line is answered.
+fn check_nothing_on(
+    rt: &(impl Abort + Threads + Wait + Sync),
+    alloc: Global,
+    words: &[&str],
+    source: &mut MemSource,
+    status: Status,
+    disk: &mut MemDisk,
+) -> Result<(), AllocError> {
+    let ended = status_of_nothing(rt, alloc, words, source, disk);
+    holds(rt, ended == status);
+    holds(rt, journal_on(rt, alloc, disk)? == Some(0));
+    Ok(())
+}
+
 fn check_nothing_run(
     rt: &(impl Abort + Threads + Wait + Sync),
     alloc: Global,
     words: &[&str],
-    source: MemSource,
+    mut source: MemSource,
     status: Status,
 ) -> Result<(), AllocError> {
     let mut disk = new_disk(alloc)?;
-    let ended = status_of_nothing(rt, alloc, words, source, &mut disk);
-    assert_eq!(rt; ended, status);
-    assert_eq!(rt; journal_on(rt, alloc, &mut disk)?, Some(0));
-    Ok(())
+    check_nothing_on(rt, alloc, words, &mut source, status, &mut disk)
 }
 
 #[test]
-fn a_fault_of_the_source_at_each_call_runs_nothing(rt: HostRuntime) -> Result<(), Fail> {
+fn a_fault_of_the_source_at_each_call_runs_nothing(rt: HostRuntime) -> Result<(), AllocError> {
     for call in 0..=OF_TWO.len() as u64 {
         let source = MemSource::new(rt.alloc(), OF_TWO, 1, Some(call))?;
         check_nothing_run(&rt, rt.alloc(), CROWD_NEW, source, Status::ReadFault)?;
@@ -212,7 +223,7 @@ fn commented(alloc: Global, place: usize, len: usize) -> Result<MemSource, Alloc
 }
 
 #[test]
-fn a_line_that_is_too_long_runs_nothing(rt: HostRuntime) -> Result<(), Fail> {
+fn a_line_that_is_too_long_runs_nothing(rt: HostRuntime) -> Result<(), AllocError> {
     for place in 0..=8 {
         let source = commented(rt.alloc(), place, LINE_LIMIT + 1)?;
         check_nothing_run(&rt, rt.alloc(), CROWD_NEW, source, Status::TooLong)?;
@@ -221,7 +232,7 @@ fn a_line_that_is_too_long_runs_nothing(rt: HostRuntime) -> Result<(), Fail> {
 }
 
 #[test]
-fn more_lines_than_the_limit_run_nothing(rt: HostRuntime) -> Result<(), Fail> {
+fn more_lines_than_the_limit_run_nothing(rt: HostRuntime) -> Result<(), AllocError> {
     for limit in ["1", "2", "3", "4", "5", "6", "7"] {
         let words = &["ut", "crowd", "--new", "--lines", limit];
         let source = MemSource::new(rt.alloc(), OF_TWO, 4096, None)?;
@@ -231,27 +242,46 @@ fn more_lines_than_the_limit_run_nothing(rt: HostRuntime) -> Result<(), Fail> {
 }
 
 /// All nine lines of a source are answered.
+fn run_nine(
+    rt: &(impl Abort + Threads + Wait + Sync),
+    alloc: Global,
+    source: &mut MemSource,
+    sink: &mut MemSink,
+    disk: &mut MemDisk,
+) {
+    let words = &["ut", "crowd", "--new", "--lines", "9"];
+    let report = top(rt, alloc, words, source, sink, disk, &NoHook);
+    holds(rt, report.status == Status::Done);
+    holds(rt, report.lines == 9);
+}
+
+fn check_nine_on(
+    rt: &(impl Abort + Threads + Wait + Sync),
+    alloc: Global,
+    source: &mut MemSource,
+    disk: &mut MemDisk,
+) -> Result<(), AllocError> {
+    let mut sink = MemSink::new(alloc, None);
+    run_nine(rt, alloc, source, &mut sink, disk);
+    holds(rt, is_front(alloc, sink.bytes(), 1)?);
+    Ok(())
+}
+
 fn check_nine(
     rt: &(impl Abort + Threads + Wait + Sync),
     alloc: Global,
     mut source: MemSource,
-    disk: &mut MemDisk,
 ) -> Result<(), AllocError> {
-    let mut sink = MemSink::new(alloc, None);
-    let words = &["ut", "crowd", "--new", "--lines", "9"];
-    let report = top(rt, alloc, words, &mut source, &mut sink, disk, &NoHook);
-    assert_eq!(rt; (report.status, report.lines), (Status::Done, 9));
-    assert!(rt; is_front(alloc, sink.bytes(), 1)?);
-    Ok(())
+    let mut disk = new_disk(alloc)?;
+    check_nine_on(rt, alloc, &mut source, &mut disk)
 }
 
 /// A line at the limit, and as many lines as there may be.
 #[test]
-fn input_at_the_limits_is_answered(rt: HostRuntime) -> Result<(), Fail> {
+fn input_at_the_limits_is_answered(rt: HostRuntime) -> Result<(), AllocError> {
     for len in [LINE_LIMIT, 1] {
-        let mut disk = new_disk(rt.alloc())?;
         let source = commented(rt.alloc(), 4, len)?;
-        check_nine(&rt, rt.alloc(), source, &mut disk)?;
+        check_nine(&rt, rt.alloc(), source)?;
     }
     Ok(())
 }

@@ -1,4 +1,5 @@
 //! A hook that holds threads at points of a run, to see that others go on meanwhile.
+use crate::facts::holds;
 use std::process::Abort;
 use std::sync::atomic::AtomicU64;
 use std::sync::atomic::Ordering::SeqCst;
@@ -13,11 +14,21 @@ const PATIENCE: u32 = 10_000_000;
 const HELD: u64 = 8;
 
 /// How often each point was reached, and how often a wait was given up.
-#[derive(Drop)]
 pub(crate) struct Watch {
     pub lines: AtomicU64,
     pub builds: AtomicU64,
     pub missed: AtomicU64,
+}
+
+// One step of a proof, wherever one is dropped.
+impl Drop for Watch {
+    fn drop(self) {
+        let Watch {
+            lines: _,
+            builds: _,
+            missed: _,
+        } = self;
+    }
 }
 
 impl Watch {
@@ -31,9 +42,9 @@ impl Watch {
 
     /// A hundred lines were answered, a merge was built, and neither waited for the other in vain.
     pub fn check(&self, rt: &impl Abort) {
-        assert_eq!(rt; self.lines.load(SeqCst), 100);
-        assert!(rt; self.builds.load(SeqCst) >= 1);
-        assert_eq!(rt; self.missed.load(SeqCst), 0);
+        holds(rt, self.lines.load(SeqCst) == 100);
+        holds(rt, self.builds.load(SeqCst) >= 1);
+        holds(rt, self.missed.load(SeqCst) == 0);
     }
 
     fn until(&self, word: &AtomicU64, least: u64) {

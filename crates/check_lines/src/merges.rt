@@ -2,7 +2,6 @@
 use check_stages::{closing, no_stages, switched};
 use std::alloc::{AllocError, Global};
 use std::process::Abort;
-use std::test::Fail;
 use ut_plain::{Placed, TableStages};
 use ut_value::{MergeKind, Seq, Value};
 
@@ -67,19 +66,23 @@ fn stages(alloc: Global, table: &Table) -> Result<TableStages, AllocError> {
 
 fn closed(alloc: Global, table: &Table, case: &Case) -> Result<TableStages, AllocError> {
     let stages = stages(alloc, table)?;
-    closing(alloc, case.needed, case.kind, &stages)
+    let closed = closing(alloc, case.needed, case.kind, &stages);
+    drop(stages);
+    closed
 }
 
 fn merged(alloc: Global, table: &Table, case: &Case) -> Result<TableStages, AllocError> {
     let closed = closed(alloc, table, case)?;
-    switched(alloc, case.kind, &closed)
+    let merged = switched(alloc, case.kind, &closed);
+    drop(closed);
+    merged
 }
 
 // The places have these ids in this order.
 fn has_ids(rt: &impl Abort, places: &[Placed], wanted: &[u32]) {
-    assert_eq!(rt; places.len(), wanted.len());
+    assert!(rt; places.len() == wanted.len());
     for (place, id) in places.iter().zip(wanted) {
-        assert_eq!(rt; place.id, *id);
+        assert!(rt; place.id == *id, "{} for {id}", place.id);
     }
 }
 
@@ -96,6 +99,7 @@ fn check(rt: &impl Abort, alloc: Global, table: &Table, case: &Case) -> Result<(
     for (part, wanted) in case.wanted.iter().enumerate() {
         has_part(rt, &next, part, wanted);
     }
+    drop(next);
     Ok(())
 }
 
@@ -112,9 +116,10 @@ const RESORT: Case = Case {
 };
 
 #[test]
-fn a_resorted_part_is_ordered_by_the_column_of_fewest_keys(rt: HostRuntime) -> Result<(), Fail> {
-    check(&rt, rt.alloc(), &UNSORTED, &RESORT)?;
-    Ok(())
+fn a_resorted_part_is_ordered_by_the_column_of_fewest_keys(
+    rt: HostRuntime,
+) -> Result<(), AllocError> {
+    check(&rt, rt.alloc(), &UNSORTED, &RESORT)
 }
 
 /// Rows of 2 and 4, of 1 and of 9, and behind them of 4 and 10.
@@ -130,9 +135,8 @@ const PARTIAL: Case = Case {
 };
 
 #[test]
-fn a_partial_merge_leaves_two_of_three_parts(rt: HostRuntime) -> Result<(), Fail> {
-    check(&rt, rt.alloc(), &THREE, &PARTIAL)?;
-    Ok(())
+fn a_partial_merge_leaves_two_of_three_parts(rt: HostRuntime) -> Result<(), AllocError> {
+    check(&rt, rt.alloc(), &THREE, &PARTIAL)
 }
 
 /// A part that stays keeps a row that nobody needs, and a part that is rebuilt drops it.
@@ -156,8 +160,7 @@ const CLASSIC: Case = Case {
 #[test]
 fn a_row_that_nobody_needs_is_dropped_where_its_part_is_rebuilt(
     rt: HostRuntime,
-) -> Result<(), Fail> {
+) -> Result<(), AllocError> {
     check(&rt, rt.alloc(), &ONE, &EXTEND)?;
-    check(&rt, rt.alloc(), &ONE, &CLASSIC)?;
-    Ok(())
+    check(&rt, rt.alloc(), &ONE, &CLASSIC)
 }

@@ -1,7 +1,6 @@
 //! A reply's text behind what is there, and the same rows as lists and by columns.
 use std::alloc::{AllocError, Global};
 use std::process::Abort;
-use std::test::Fail;
 use ut_plain::{Refusal, Reply};
 use ut_reply::{put_reply, put_small};
 use ut_rows::{Cells, Rows};
@@ -9,7 +8,9 @@ use ut_value::{Seq, Text, Value, is_text, same_bytes};
 
 fn refused(alloc: Global) -> Result<Vec<u8>, AllocError> {
     let mut out = Vec::with_capacity(alloc, 96)?;
-    put_small(&mut out, None, &Reply::Refused(Refusal::Syntax));
+    let reply = Reply::Refused(Refusal::Syntax);
+    put_small(&mut out, None, &reply);
+    drop(reply);
     Ok(out)
 }
 
@@ -18,11 +19,13 @@ fn put_changed(out: &mut Vec<u8>) -> Result<(), AllocError> {
         rows: 2,
         commit: Some(7),
     };
-    put_reply(out, Some(3), &changed)
+    let put = put_reply(out, Some(3), &changed);
+    drop(changed);
+    put
 }
 
 #[test]
-fn replies_stand_one_behind_the_other(rt: HostRuntime) -> Result<(), Fail> {
+fn replies_stand_one_behind_the_other(rt: HostRuntime) -> Result<(), AllocError> {
     let mut out = refused(rt.alloc())?;
     put_changed(&mut out)?;
     assert!(rt; same_bytes(&out, b"? refused syntax\n3 ok 2 commit 7\n"));
@@ -36,8 +39,9 @@ fn text(rt: &impl Abort, alloc: Global, bytes: &[u8]) -> Result<Value, AllocErro
 
 // So many values, a text and then numbers.
 fn values(rt: &impl Abort, alloc: Global, count: u32) -> Result<Vec<Value>, AllocError> {
+    let first = text(rt, alloc, b"it's")?;
     let mut values = Vec::new(alloc);
-    values.push(text(rt, alloc, b"it's")?)?;
+    values.push(first)?;
     for number in 1..count {
         values.push(Value::Int(i64::from(number)))?;
     }
@@ -63,8 +67,7 @@ fn by_columns(
     first: Cells,
     second: Cells,
 ) -> Result<Rows, AllocError> {
-    assert!(rt; first.len() == rows as usize);
-    assert!(rt; second.len() == rows as usize);
+    assert!(rt; first.len() == rows as usize && second.len() == rows as usize);
     let columns = vec![in alloc; first, second]?;
     Ok(Rows::of_columns(rows as usize, columns))
 }
@@ -112,6 +115,13 @@ fn put(alloc: Global, reply: &Reply) -> Result<Vec<u8>, AllocError> {
     Ok(out)
 }
 
+fn put_all(alloc: Global, rows: Rows) -> Result<Vec<u8>, AllocError> {
+    let reply = Reply::Rows(rows);
+    let out = put(alloc, &reply);
+    drop(reply);
+    out
+}
+
 fn put_rows(
     rt: &impl Abort,
     alloc: Global,
@@ -119,7 +129,7 @@ fn put_rows(
     distinct: u32,
 ) -> Result<Vec<u8>, AllocError> {
     let rows = rows_by_turns(rt, alloc, rows, distinct)?;
-    put(alloc, &Reply::Rows(rows))
+    put_all(alloc, rows)
 }
 
 fn are_put(rt: &impl Abort, alloc: Global, rows: u32, distinct: u32) -> Result<(), AllocError> {
@@ -134,7 +144,7 @@ fn are_put(rt: &impl Abort, alloc: Global, rows: u32, distinct: u32) -> Result<(
 const SHARED: [(u32, u32); 4] = [(63, 1), (64, 16), (64, 17), (300, 2)];
 
 #[test]
-fn rows_that_share_values_are_put_as_others(rt: HostRuntime) -> Result<(), Fail> {
+fn rows_that_share_values_are_put_as_others(rt: HostRuntime) -> Result<(), AllocError> {
     for (rows, distinct) in SHARED {
         are_put(&rt, rt.alloc(), rows, distinct)?;
     }
@@ -142,15 +152,13 @@ fn rows_that_share_values_are_put_as_others(rt: HostRuntime) -> Result<(), Fail>
 }
 
 fn put_lines(alloc: Global) -> Result<Vec<u8>, AllocError> {
-    let rows = Rows::of_columns(64, Vec::new(alloc));
-    put(alloc, &Reply::Rows(rows))
+    put_all(alloc, Rows::of_columns(64, Vec::new(alloc)))
 }
 
 #[test]
-fn rows_without_columns_are_lines(rt: HostRuntime) -> Result<(), Fail> {
+fn rows_without_columns_are_lines(rt: HostRuntime) -> Result<(), AllocError> {
     let out = put_lines(rt.alloc())?;
-    assert_eq!(rt; out.len(), 9 + 64 + 1);
-    assert!(rt; same_bytes(&out[..11], b"7 rows 64\n\n"));
+    assert!(rt; out.len() == 9 + 64 + 1 && same_bytes(&out[..11], b"7 rows 64\n\n"));
     Ok(())
 }
 
@@ -165,7 +173,7 @@ fn numbers(alloc: Global, numbers: &[i64]) -> Result<Vec<Value>, AllocError> {
 // A column whose first and third row have the value 8, and the second 7.
 fn column(rt: &impl Abort, alloc: Global) -> Result<Cells, AllocError> {
     let values = numbers(alloc, &[7, 8])?;
-    assert_eq!(rt; values.len(), 2);
+    assert!(rt; values.len() == 2);
     let places = Vec::from_slice(alloc, &[1, 0, 1])?;
     Ok(Cells::of(values, places))
 }
@@ -173,7 +181,7 @@ fn column(rt: &impl Abort, alloc: Global) -> Result<Cells, AllocError> {
 // The rows of that column alone.
 fn by_column(rt: &impl Abort, alloc: Global) -> Result<Rows, AllocError> {
     let only = column(rt, alloc)?;
-    assert_eq!(rt; only.len(), 3);
+    assert!(rt; only.len() == 3);
     let mut columns = Vec::new(alloc);
     columns.push(only)?;
     Ok(Rows::of_columns(3, columns))
@@ -195,29 +203,28 @@ fn int_of(rt: &impl Abort, value: &Value) -> i64 {
 }
 
 fn number(rt: &impl Abort, rows: &Rows, row: usize, column: usize) -> i64 {
-    assert!(rt; row < rows.len());
-    assert!(rt; column < rows.width(row));
+    assert!(rt; row < rows.len() && column < rows.width(row));
     int_of(rt, rows.value(row, column))
 }
 
 fn are_lists(rt: &impl Abort, rows: &Rows) {
-    assert_eq!(rt; rows.len(), 2);
-    assert_eq!(rt; number(rt, rows, 0, 1), 6);
-    assert_eq!(rt; number(rt, rows, 1, 0), 9);
+    assert!(rt; rows.len() == 2);
+    assert!(rt; number(rt, rows, 0, 1) == 6 && number(rt, rows, 1, 0) == 9);
 }
 
 fn are_by_column(rt: &impl Abort, rows: &Rows) {
-    assert_eq!(rt; rows.len(), 3);
-    assert_eq!(rt; number(rt, rows, 0, 0), 8);
-    assert_eq!(rt; number(rt, rows, 1, 0), 7);
-    assert_eq!(rt; number(rt, rows, 2, 0), 8);
+    assert!(rt; rows.len() == 3 && number(rt, rows, 0, 0) == 8);
+    assert!(rt; number(rt, rows, 1, 0) == 7 && number(rt, rows, 2, 0) == 8);
 }
 
 #[test]
-fn rows_are_lists_or_stand_by_columns(rt: HostRuntime) -> Result<(), Fail> {
-    let alloc = rt.alloc();
-    are_lists(&rt, &by_lists(alloc, &[&[5, 6], &[9]])?);
-    are_by_column(&rt, &by_column(&rt, alloc)?);
+fn rows_are_lists_or_stand_by_columns(rt: HostRuntime) -> Result<(), AllocError> {
+    let lists = by_lists(rt.alloc(), &[&[5, 6], &[9]])?;
+    are_lists(&rt, &lists);
+    drop(lists);
+    let column = by_column(&rt, rt.alloc())?;
+    are_by_column(&rt, &column);
+    drop(column);
     Ok(())
 }
 
@@ -238,11 +245,13 @@ fn shares(rt: &impl Abort, cells: &Cells, numbers: &[i64], places: &[u32]) {
 fn lists_have_no_columns(rt: &impl Abort, alloc: Global) {
     let lists = Rows::of_lists(Seq::new(alloc));
     assert!(rt; lists.columns().is_none());
+    drop(lists);
 }
 
 fn no_rows_have_no_columns(rt: &impl Abort, alloc: Global) {
     let none = Rows::of_columns(0, Vec::new(alloc));
     assert!(rt; matches!(none.columns(), Some([])));
+    drop(none);
 }
 
 fn have_one_column(rt: &impl Abort, rows: &Rows) {
@@ -258,11 +267,15 @@ fn without_rows(alloc: Global) -> Result<Cells, AllocError> {
 }
 
 #[test]
-fn columns_hand_out_what_rows_share(rt: HostRuntime) -> Result<(), Fail> {
+fn columns_hand_out_what_rows_share(rt: HostRuntime) -> Result<(), AllocError> {
     let alloc = rt.alloc();
     lists_have_no_columns(&rt, alloc);
     no_rows_have_no_columns(&rt, alloc);
-    have_one_column(&rt, &by_column(&rt, alloc)?);
-    shares(&rt, &without_rows(alloc)?, &[9], &[]);
+    let rows = by_column(&rt, alloc)?;
+    have_one_column(&rt, &rows);
+    drop(rows);
+    let cells = without_rows(alloc)?;
+    shares(&rt, &cells, &[9], &[]);
+    drop(cells);
     Ok(())
 }

@@ -1,7 +1,6 @@
 //! Lines of the benchmark's script as another program wrote them, and the plan of some words.
 use std::alloc::AllocError;
 use std::process::Abort;
-use std::test::Fail;
 use ut_gen::{Script, script_len, script_line};
 use ut_value::same_bytes;
 use ut_words::{Mode, Plan, WordsError, plan_of};
@@ -55,14 +54,19 @@ const CASES: [Case; 6] = [
 
 fn has_line(rt: &impl Abort, case: &Case, out: &mut Vec<u8>) -> Result<(), AllocError> {
     assert!(rt; case.size <= 500);
-    assert!(rt; script_line(case.seed, case.size, case.number, out)?);
-    assert!(rt; same_bytes(out, case.line), "line {}", case.number);
-    assert!(rt; !script_line(case.seed, case.size, script_len(case.size), out)?);
+    let is_there = script_line(case.seed, case.size, case.number, out)?;
+    assert!(rt;
+        is_there && same_bytes(out, case.line),
+        "line {}",
+        case.number
+    );
+    let is_more = script_line(case.seed, case.size, script_len(case.size), out)?;
+    assert!(rt; !is_more);
     Ok(())
 }
 
 #[test]
-fn lines_are_found_by_number(rt: HostRuntime) -> Result<(), Fail> {
+fn lines_are_found_by_number(rt: HostRuntime) -> Result<(), AllocError> {
     for case in &CASES {
         let mut out = Vec::new(rt.alloc());
         has_line(&rt, case, &mut out)?;
@@ -97,10 +101,10 @@ fn sum_of(bytes: &[u8]) -> u32 {
 }
 
 #[test]
-fn all_lines_come_in_order(rt: HostRuntime) -> Result<(), Fail> {
+fn all_lines_come_in_order(rt: HostRuntime) -> Result<(), AllocError> {
     let mut out = Vec::new(rt.alloc());
     put_lines(&rt, &mut out)?;
-    assert_eq!(rt; sum_of(&out), SUM);
+    assert!(rt; sum_of(&out) == SUM);
     Ok(())
 }
 
@@ -173,10 +177,12 @@ const ROWS: [Row; 6] = [
 ];
 
 #[test]
-fn words_say_their_plan(rt: HostRuntime) -> Result<(), Fail> {
-    let alloc = rt.alloc();
+fn words_say_their_plan(rt: HostRuntime) {
     for row in &ROWS {
-        assert_eq!(rt; plan_of(alloc, row.words), row.plan, "{:?}", row.words);
+        assert!(rt;
+            plan_of(rt.alloc(), row.words) == row.plan,
+            "{:?}",
+            row.words
+        );
     }
-    Ok(())
 }

@@ -3,7 +3,6 @@ use check_oracle::Oracle;
 use check_scripts::{Answers, LINES, StoreLines, first_apart, script_line};
 use std::alloc::{AllocError, Global};
 use std::process::Abort;
-use std::test::Fail;
 use ut_plain::Parsed;
 use ut_script::parse_line;
 
@@ -177,7 +176,10 @@ fn check_counts(rt: &impl Abort, of_store: StoreLines, texts: &[Vec<u8>], words:
 
 // Whether a line is of the grammar.
 fn is_good(alloc: Global, line: &[u8]) -> bool {
-    matches!(parse_line(alloc, line, false), Ok(Parsed::Good(_, _)))
+    let parsed = parse_line(alloc, line, false);
+    let is_good = matches!(&parsed, Ok(Parsed::Good(_, _)));
+    drop(parsed);
+    is_good
 }
 
 fn check_grammar(rt: &impl Abort, alloc: Global, of_store: StoreLines) -> Result<(), AllocError> {
@@ -192,7 +194,7 @@ fn check_grammar(rt: &impl Abort, alloc: Global, of_store: StoreLines) -> Result
 }
 
 #[test]
-fn scripts_are_lines_of_the_grammar(rt: HostRuntime) -> Result<(), Fail> {
+fn scripts_are_lines_of_the_grammar(rt: HostRuntime) -> Result<(), AllocError> {
     for wanted in WANTED {
         check_grammar(&rt, rt.alloc(), wanted.of_store)?;
     }
@@ -213,13 +215,18 @@ fn alike(alloc: Global) -> Result<Two, AllocError> {
     })
 }
 
-#[test]
-fn alike_stores_answer_alike(rt: HostRuntime) -> Result<(), Fail> {
-    let mut two = alike(rt.alloc())?;
-    let of_store = StoreLines::OfSaves;
-    let apart = first_apart(rt.alloc(), &mut two.one, &mut two.other, of_store, 7)?;
-    assert_eq!(rt; apart, None);
+fn answer_alike(rt: &impl Abort, alloc: Global, two: &mut Two) -> Result<(), AllocError> {
+    let apart = first_apart(alloc, &mut two.one, &mut two.other, StoreLines::OfSaves, 7)?;
+    assert!(rt; apart.is_none());
     Ok(())
+}
+
+#[test]
+fn alike_stores_answer_alike(rt: HostRuntime) -> Result<(), AllocError> {
+    let mut two = alike(rt.alloc())?;
+    let answered = answer_alike(&rt, rt.alloc(), &mut two);
+    drop(two);
+    answered
 }
 
 // All lines of the scripts but the first ones.
@@ -234,7 +241,7 @@ fn all_lines(alloc: Global, of_store: StoreLines) -> Result<Vec<Vec<u8>>, AllocE
 }
 
 #[test]
-fn scripts_have_each_statement_and_comparison(rt: HostRuntime) -> Result<(), Fail> {
+fn scripts_have_each_statement_and_comparison(rt: HostRuntime) -> Result<(), AllocError> {
     for wanted in WANTED {
         let lines = all_lines(rt.alloc(), wanted.of_store)?;
         check_counts(&rt, wanted.of_store, lines.as_slice(), wanted.words);
@@ -275,24 +282,32 @@ impl Met {
     }
 }
 
+fn met_in(alloc: Global, met: &mut Met, of_store: StoreLines, seed: u64) -> Result<(), AllocError> {
+    met.begin(alloc)?;
+    for number in 0..LINES {
+        let line = line_of(alloc, of_store, seed, number)?;
+        met.meet(alloc, &line)?;
+    }
+    Ok(())
+}
+
 fn met_by(alloc: Global, of_store: StoreLines) -> Result<Met, AllocError> {
     let mut met = Met::new(alloc)?;
     for seed in 0..SCRIPTS {
-        met.begin(alloc)?;
-        for number in 0..LINES {
-            let line = line_of(alloc, of_store, seed, number)?;
-            met.meet(alloc, &line)?;
-        }
+        met_in(alloc, &mut met, of_store, seed)?;
     }
     Ok(met)
 }
 
 #[test]
-fn scripts_meet_conflicts_snapshots_merges_and_savepoints(rt: HostRuntime) -> Result<(), Fail> {
+fn scripts_meet_conflicts_snapshots_merges_and_savepoints(
+    rt: HostRuntime,
+) -> Result<(), AllocError> {
     for wanted in WANTED {
         let met = met_by(rt.alloc(), wanted.of_store)?;
         check_counts(&rt, wanted.of_store, met.answers.as_slice(), wanted.answers);
         let apart = met.apart;
+        drop(met);
         assert!(rt;
             apart >= VIEWS_APART,
             "{:?}: {apart} times",

@@ -13,7 +13,6 @@ use ut_value::{Duplicate, Entry, SEATS};
 
 /// The entries of the journal, the transaction of each session, the merge that is pending, the savepoint that is under way, and the
 /// stages of each table.
-#[derive(Drop)]
 pub struct Held {
     /// The entries that the journal's base holds, and those behind them.
     pub first: Vec<Entry>,
@@ -30,6 +29,26 @@ pub struct Held {
     /// So many pages an image is told to take.
     pub told: u32,
     pub stages: Vec<TableStages>,
+}
+
+// One step of a proof, wherever one is dropped.
+impl Drop for Held {
+    fn drop(self) {
+        let Held {
+            first: _,
+            entries: _,
+            opening: _,
+            sessions: _,
+            next_id: _,
+            rows_limit: _,
+            pending: _,
+            progress: _,
+            captured: _,
+            root_pages: _,
+            told: _,
+            stages: _,
+        } = self;
+    }
 }
 
 impl Held {

@@ -21,10 +21,19 @@ use std::marker::Model;
 use ut_plain::{Progress, Reply, Statement, TableStages, plain_laws};
 
 /// A store that works as the plain definitions say. Each statement takes time and memory for all that was ever done.
-#[derive(Drop)]
 pub struct Oracle {
     held: Held,
     selected: Image,
+}
+
+// One step of a proof, wherever one is dropped.
+impl Drop for Oracle {
+    fn drop(self) {
+        let Oracle {
+            held: _,
+            selected: _,
+        } = self;
+    }
 }
 
 impl Model for Oracle {

@@ -9,11 +9,33 @@ use std::alloc::{AllocError, Global};
 use ut_app::Status;
 
 /// A line of a script, and the first lines of the two outputs that differ.
-#[derive(Drop)]
 pub(crate) struct Apart {
     pub line: String,
     pub wanted: String,
     pub told: String,
+}
+
+// One step of a proof, wherever one is dropped.
+impl Drop for Apart {
+    fn drop(self) {
+        let Apart {
+            line: _,
+            wanted: _,
+            told: _,
+        } = self;
+    }
+}
+
+impl Apart {
+    /// The same, with a line that says more.
+    pub fn at_line(self, line: String) -> Apart {
+        let Apart {
+            line: _,
+            wanted,
+            told,
+        } = self;
+        Apart { line, wanted, told }
+    }
 }
 
 /// Where a run's output parts from what the slow store answers, if it does, or if the run didn't end well.

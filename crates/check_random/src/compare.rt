@@ -68,11 +68,21 @@ pub(crate) fn first_apart(
 }
 
 /// A script's two sides: the slow store, and the program's disk with what was acknowledged over it.
-#[derive(Drop)]
 struct Both {
     store: Oracle,
     disk: MemDisk,
     acks: Vec<Ack>,
+}
+
+// One step of a proof, wherever one is dropped.
+impl Drop for Both {
+    fn drop(self) {
+        let Both {
+            store: _,
+            disk: _,
+            acks: _,
+        } = self;
+    }
 }
 
 impl Both {

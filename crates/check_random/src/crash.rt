@@ -54,14 +54,25 @@ pub(crate) fn crash_apart(
         return Ok(None);
     }
     let mut image = disk.image(moment, tear_of(draw))?;
-    let told = told_by(acks, moment);
-    if told == 0 && run_on(rt, alloc, RUN, b"", &mut image)?.status == Status::NoStore {
+    image_apart(rt, alloc, halves, moment, told_by(acks, moment), &mut image)
+}
+
+// Where the store on what a crash left answers otherwise than behind so many lines that were told, and than behind the next one.
+fn image_apart(
+    rt: &(impl Threads + Wait + Sync),
+    alloc: Global,
+    halves: Halves,
+    moment: u64,
+    told: u32,
+    image: &mut MemDisk,
+) -> Result<Option<Apart>, AllocError> {
+    if told == 0 && run_on(rt, alloc, RUN, b"", image)?.status == Status::NoStore {
         return Ok(None);
     }
-    if apart_behind(rt, alloc, halves, told, &mut image)?.is_none() {
+    if apart_behind(rt, alloc, halves, told, image)?.is_none() {
         return Ok(None);
     }
-    let apart = apart_behind(rt, alloc, halves, told.saturating_add(1), &mut image)?;
+    let apart = apart_behind(rt, alloc, halves, told.saturating_add(1), image)?;
     told_of(alloc, apart, moment, told)
 }
 
@@ -115,14 +126,7 @@ fn told_of(
     let Some(apart) = apart else {
         return Ok(None);
     };
-    let Apart {
-        line,
-        wanted,
-        told: answered,
-    } = apart;
-    Ok(Some(Apart {
-        line: format!(in alloc; "stopped after {moment} calls and {told} replies, {line}")?,
-        wanted,
-        told: answered,
-    }))
+    let line = apart.line.as_str();
+    let line = format!(in alloc; "stopped after {moment} calls and {told} replies, {line}")?;
+    Ok(Some(apart.at_line(line)))
 }

@@ -5,7 +5,7 @@ use crate::compare::{AMPLE, apart_in_questions};
 use crate::worked::lines_of;
 use check_books::judge::{Verdict, Wrong};
 use check_oracle::Oracle;
-use check_run::run::{RUN, RUN_NEW, Ran, run_on};
+use check_run::run::{RUN, RUN_NEW, Ran, Run, run_new, run_on};
 use check_scripts::Answers;
 use std::alloc::{AllocError, Global};
 use std::fmt;
@@ -41,7 +41,6 @@ impl fmt::Display for Judged {
 }
 
 /// A slow store that follows what a run has told.
-#[derive(Drop)]
 struct Follower<'a> {
     /// What is still to be followed.
     rest: &'a [u8],
@@ -51,6 +50,19 @@ struct Follower<'a> {
     store: Oracle,
     /// The store without the last line, where its commit is open: the disk failed, or its reply couldn't be written.
     before: Option<Oracle>,
+}
+
+// One step of a proof, wherever one is dropped.
+impl<'a> Drop for Follower<'a> {
+    fn drop(self) {
+        let Follower {
+            rest: _,
+            answered: _,
+            refused: _,
+            store: _,
+            before: _,
+        } = self;
+    }
 }
 
 impl<'a> Follower<'a> {
@@ -213,19 +225,17 @@ fn verdict_of(
     alloc: Global,
     lines: &[&str],
 ) -> Result<Judged, AllocError> {
-    let mut disk = MemDisk::of(alloc, &[], &[], &[])?;
-    let ran = ran_of(rt, alloc, lines, &mut disk)?;
-    judged_by(rt, alloc, lines, &ran, &mut disk)
+    let mut run = run_of(rt, alloc, lines)?;
+    judged_by(rt, alloc, lines, &run.ran, &mut run.disk)
 }
 
-fn ran_of(
+fn run_of(
     rt: &(impl Threads + Wait + Sync),
     alloc: Global,
     lines: &[&str],
-    disk: &mut MemDisk,
-) -> Result<Ran, AllocError> {
+) -> Result<Run, AllocError> {
     let script = script_of(alloc, lines)?;
-    run_on(rt, alloc, RUN_NEW, &script, disk)
+    run_new(rt, alloc, RUN_NEW, &script)
 }
 
 fn script_of(alloc: Global, lines: &[&str]) -> Result<Vec<u8>, AllocError> {

@@ -123,9 +123,11 @@ fn judge_crowd(rt: &(impl Print + Threads + Wait + Sync), alloc: Global) -> Resu
 }
 
 fn say_apart(rt: &impl Print, seed: u64, apart: &Apart) -> Result<()> {
-    let Apart { line, wanted, told } = apart;
+    let line = apart.line.as_str();
     println!(rt; "seed {seed}: {line}")?;
+    let wanted = apart.wanted.as_str();
     println!(rt; "the slow store: {wanted}")?;
+    let told = apart.told.as_str();
     println!(rt; "the program: {told}")?;
     Ok(())
 }

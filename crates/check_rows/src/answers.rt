@@ -171,23 +171,16 @@ fn group_told(
     Ok(Reply::Groups(said))
 }
 
-/// The answer to a question, over the rows that are seen.
-pub fn told(
+// The answer to a question over the values of a column. None other is asked here.
+fn column_told(
     alloc: Global,
     tables: &[Table],
     rows: &[(u32, Stored)],
     query: &Query,
 ) -> Result<Reply, AllocError>
-    requires { length rows.now < 2 ^ 32 }
     ensures { IfOk result (λ reply. reply ≡ told tables.now rows.now query.now) }
 {
     match query {
-        Query::Select {
-            table,
-            columns,
-            preds,
-        } => select_told(alloc, tables, rows, table, columns, preds.as_slice()),
-        Query::Count { table, preds } => count_told(alloc, tables, rows, table, preds.as_slice()),
         Query::Sum {
             table,
             column,
@@ -211,6 +204,30 @@ pub fn told(
         } => {
             let values = values_found(alloc, tables, rows, table, column, preds.as_slice())?;
             Ok(Reply::Max(greatest(alloc, values.as_slice())?))
+        }
+        _ => Err(AllocError),
+    }
+}
+
+/// The answer to a question, over the rows that are seen.
+pub fn told(
+    alloc: Global,
+    tables: &[Table],
+    rows: &[(u32, Stored)],
+    query: &Query,
+) -> Result<Reply, AllocError>
+    requires { length rows.now < 2 ^ 32 }
+    ensures { IfOk result (λ reply. reply ≡ told tables.now rows.now query.now) }
+{
+    match query {
+        Query::Select {
+            table,
+            columns,
+            preds,
+        } => select_told(alloc, tables, rows, table, columns, preds.as_slice()),
+        Query::Count { table, preds } => count_told(alloc, tables, rows, table, preds.as_slice()),
+        Query::Sum { .. } | Query::Min { .. } | Query::Max { .. } => {
+            column_told(alloc, tables, rows, query)
         }
         Query::Group {
             table,

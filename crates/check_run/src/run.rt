@@ -2,7 +2,7 @@
 use std::alloc::{AllocError, Global};
 use std::sync::Wait;
 use std::thread::Threads;
-use ut_app::{Status, top};
+use ut_app::{Report, Status, top};
 use ut_outside::{AckList, MemDisk, MemSink, MemSource, NoHook, Which};
 
 /// The words that open a store, and those that make one.
@@ -14,12 +14,36 @@ pub const RUN_NEW: &[&str] = &["ut", "run", "--new"];
 pub const PIECE: usize = 4096;
 
 /// How a run ended, and what it wrote.
-#[derive(Drop)]
 pub struct Ran {
     pub status: Status,
     pub replies: Vec<u8>,
     pub acks: AckList,
     pub journal: u64,
+}
+
+// A drop of its own is one step of a proof wherever one is dropped. A derived one is a step for each part, at each place.
+impl Drop for Ran {
+    fn drop(self) {
+        let Ran {
+            status: _,
+            replies: _,
+            acks: _,
+            journal: _,
+        } = self;
+    }
+}
+
+impl Ran {
+    /// What it wrote.
+    pub fn into_replies(self) -> Vec<u8> {
+        let Ran {
+            status: _,
+            replies,
+            acks: _,
+            journal: _,
+        } = self;
+        replies
+    }
 }
 
 /// A run, and the disk that it leaves.
@@ -55,8 +79,10 @@ pub fn run_new(
     script: &[u8],
 ) -> Result<Run, AllocError> {
     let mut disk = new_disk(alloc)?;
-    let ran = run_on(rt, alloc, words, script, &mut disk)?;
-    Ok(Run { ran, disk })
+    match run_on(rt, alloc, words, script, &mut disk) {
+        Ok(ran) => Ok(Run { ran, disk }),
+        Err(error) => Err(error),
+    }
 }
 
 /// Runs the program between a source and a sink.
@@ -69,9 +95,14 @@ pub fn run_between(
     disk: &mut MemDisk,
 ) -> Result<Ran, AllocError> {
     let report = top(rt, alloc, words, source, &mut sink, disk, &NoHook);
+    ran_of(alloc, report, sink.bytes())
+}
+
+fn ran_of(alloc: Global, report: Report, replies: &[u8]) -> Result<Ran, AllocError> {
+    let replies = Vec::from_slice(alloc, replies)?;
     Ok(Ran {
         status: report.status,
-        replies: Vec::from_slice(alloc, sink.bytes())?,
+        replies,
         acks: report.acks,
         journal: report.journal,
     })

@@ -75,8 +75,9 @@ pub fn closing(
     let parts = stages.parts.as_slice();
     let lists = lists_of(alloc, parts, stages.l2.as_slice())?;
     let keep = flags(alloc, ids, staying(kind, parts.len()), lists.as_slice())?;
+    let closed = stages.l2.duplicate(alloc)?;
     let mut next = stages.duplicate(alloc)?;
-    next.closed = Some(stages.l2.duplicate(alloc)?);
+    next.closed = Some(closed);
     next.l2 = Seq::new(alloc);
     next.keep = keep;
     Ok(next)

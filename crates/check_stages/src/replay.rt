@@ -66,11 +66,27 @@ fn with_dead(alloc: Global, id: u32, stages: &TableStages) -> Result<TableStages
     ensures { IfOk result (λ copy. copy ≡ with_dead id stages.now) }
 {
     let mut copy = stages.duplicate(alloc)?;
+    match bury_in(alloc, id, stages, &mut copy) {
+        Ok(()) => Ok(copy),
+        Err(error) => Err(error),
+    }
+}
+
+// The same in a copy.
+fn bury_in(
+    alloc: Global,
+    id: u32,
+    stages: &TableStages,
+    copy: &mut TableStages,
+) -> Result<(), AllocError>
+    requires { copy.old ≡ stages.now }
+    ensures { OnOk result (copy.new ≡ with_dead id stages.now) }
+{
     copy.l1 = all_buried(alloc, id, stages.l1.as_slice())?;
     copy.l2 = all_buried(alloc, id, stages.l2.as_slice())?;
     copy.closed = closed_buried(alloc, id, &stages.closed)?;
     copy.parts = parts_buried(alloc, id, stages.parts.as_slice())?;
-    Ok(copy)
+    Ok(())
 }
 
 fn bury(

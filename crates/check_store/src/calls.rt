@@ -1,5 +1,5 @@
 //! Calls of a small store that promise nothing, so that the proofs of what calls them are short.
-ghost use Rattle.std.specs.Prelude.{IfOk, IsTrue};
+ghost use Rattle.std.specs.Prelude.{◌≡◌, false, IfOk, IsTrue};
 ghost use Rattle.ut_value.specs.Text.{is_name};
 ghost use Rattle.ut_plain.specs.Spelled.{is_spelled};
 
@@ -8,7 +8,7 @@ use std::process::Abort;
 use ut_engine::{Engine, L1Error, OpenError, PhaseError, SaveError};
 use ut_outside::MemDisk;
 use ut_plain::{Progress, Reply, Shape, Statement};
-use ut_value::{Column, Kind, Name, Seq, Value, is_name};
+use ut_value::{Column, Kind, Name, Seq, Value, is_name, same_bytes};
 
 /// Ids enough.
 const IDS: u32 = 100;
@@ -72,18 +72,28 @@ pub(crate) fn opened_again(
 
 // Calls of a store that is up.
 
+// Ends the test where the store is down.
+pub(crate) fn is_up(rt: &impl Abort, engine: &Engine<'_, MemDisk>)
+    ensures { engine.now.store.down ≡ false }
+{
+    assert!(rt; !engine.down());
+}
+
 // Whether a statement is answered by this commit.
 pub(crate) fn commits(
     rt: &impl Abort,
     alloc: Global,
     engine: &mut Engine<'_, MemDisk>,
-    statement: Statement,
+    statement: &Statement,
     number: u32,
 ) -> bool
-    requires { IsTrue (is_spelled statement) }
+    requires { IsTrue (is_spelled statement.now) }
 {
-    assert!(rt; !engine.down());
-    matches!(engine.statement(alloc, 1, &statement), Reply::Committed(n) if n == number)
+    is_up(rt, engine);
+    let reply = engine.statement(alloc, 1, statement);
+    let commits = matches!(&reply, Reply::Committed(n) if *n == number);
+    drop(reply);
+    commits
 }
 
 // Whether a statement is answered as a change of one row.
@@ -91,15 +101,15 @@ pub(crate) fn changes_one(
     rt: &impl Abort,
     alloc: Global,
     engine: &mut Engine<'_, MemDisk>,
-    statement: Statement,
+    statement: &Statement,
 ) -> bool
-    requires { IsTrue (is_spelled statement) }
+    requires { IsTrue (is_spelled statement.now) }
 {
-    assert!(rt; !engine.down());
-    matches!(
-        engine.statement(alloc, 1, &statement),
-        Reply::Changed { rows: 1, .. }
-    )
+    is_up(rt, engine);
+    let reply = engine.statement(alloc, 1, statement);
+    let changes = matches!(&reply, Reply::Changed { rows: 1, .. });
+    drop(reply);
+    changes
 }
 
 pub(crate) fn moved(
@@ -108,7 +118,7 @@ pub(crate) fn moved(
     engine: &mut Engine<'_, MemDisk>,
     table: &Name,
 ) -> Result<u32, L1Error> {
-    assert!(rt; !engine.down());
+    is_up(rt, engine);
     engine.merge_l1(alloc, table, 1)
 }
 
@@ -118,7 +128,7 @@ pub(crate) fn shape(
     engine: &mut Engine<'_, MemDisk>,
     table: &Name,
 ) -> Result<Option<Shape>, AllocError> {
-    assert!(rt; !engine.down());
+    is_up(rt, engine);
     engine.shape(alloc, table)
 }
 
@@ -128,7 +138,7 @@ pub(crate) fn ids(
     engine: &Engine<'_, MemDisk>,
     table: &Name,
 ) -> Result<Option<Vec<u32>>, AllocError> {
-    assert!(rt; !engine.down());
+    is_up(rt, engine);
     let Some(rows) = engine.rows(alloc, table)? else {
         return Ok(None);
     };
@@ -140,9 +150,8 @@ pub(crate) fn ids(
 }
 
 pub(crate) fn lengths(rt: &impl Abort, engine: &Engine<'_, MemDisk>) -> (u32, u32) {
-    assert!(rt; !engine.down());
-    assert_eq!(rt; engine.tables(), 1);
-    assert_eq!(rt; engine.table_name(0).as_slice(), b"T".as_slice());
+    is_up(rt, engine);
+    assert!(rt; engine.tables() == 1 && same_bytes(engine.table_name(0).as_slice(), b"T"));
     (engine.l1_len(0), engine.l2_len(0))
 }
 
@@ -151,17 +160,17 @@ pub(crate) fn begun(
     alloc: Global,
     engine: &mut Engine<'_, MemDisk>,
 ) -> Result<u32, SaveError> {
-    assert!(rt; !engine.down());
+    is_up(rt, engine);
     engine.save_begin(alloc)
 }
 
 pub(crate) fn stepped(rt: &impl Abort, engine: &mut Engine<'_, MemDisk>) -> Result<(), PhaseError> {
-    assert!(rt; !engine.down());
+    is_up(rt, engine);
     engine.save_step()
 }
 
 pub(crate) fn sealed(rt: &impl Abort, engine: &mut Engine<'_, MemDisk>) -> Result<(), PhaseError> {
-    assert!(rt; !engine.down());
+    is_up(rt, engine);
     engine.save_seal()
 }
 
@@ -169,16 +178,16 @@ pub(crate) fn flipped(
     rt: &impl Abort,
     engine: &mut Engine<'_, MemDisk>,
 ) -> Result<u32, PhaseError> {
-    assert!(rt; !engine.down());
+    is_up(rt, engine);
     engine.save_flip()
 }
 
 pub(crate) fn dropped(rt: &impl Abort, engine: &mut Engine<'_, MemDisk>) -> Result<(), PhaseError> {
-    assert!(rt; !engine.down());
+    is_up(rt, engine);
     engine.save_drop()
 }
 
 pub(crate) fn phase(rt: &impl Abort, engine: &Engine<'_, MemDisk>) -> Progress {
-    assert!(rt; !engine.down());
+    is_up(rt, engine);
     engine.phase()
 }

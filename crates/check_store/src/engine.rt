@@ -3,7 +3,6 @@ ghost use Rattle.std.specs.Prelude.{◌≡◌, ◌≤◌};
 
 use std::alloc::{AllocError, Global};
 use std::process::Abort;
-use std::test::Fail;
 use ut_engine::{Engine, OpenError};
 use ut_outside::{Disk, MemDisk, Which};
 
@@ -58,24 +57,29 @@ fn without_log(alloc: Global, disk: &MemDisk) -> Result<MemDisk, AllocError> {
 
 /// There is no store, then one is made, and not again.
 fn is_made_once(rt: &impl Abort, alloc: Global, disk: &mut MemDisk) {
-    assert_eq!(rt; cause_of(alloc, disk), Some(OpenError::NotMade));
-    assert_eq!(rt; left(alloc, disk), Ok(()));
-    assert_eq!(rt; left(alloc, disk), Err(OpenError::Made));
+    let before = cause_of(alloc, disk);
+    let first = left(alloc, disk);
+    let second = left(alloc, disk);
+    assert!(rt; before == Some(OpenError::NotMade));
+    assert!(rt; first == Ok(()) && second == Err(OpenError::Made));
 }
 
 /// Without its log there is no store.
 fn is_damaged(rt: &impl Abort, alloc: Global, disk: &MemDisk) -> Result<(), AllocError> {
     let mut cut = without_log(alloc, disk)?;
-    assert_eq!(rt; cause_of(alloc, &mut cut), Some(OpenError::Damaged));
+    let cause = cause_of(alloc, &mut cut);
+    drop(cut);
+    assert!(rt; cause == Some(OpenError::Damaged));
     Ok(())
 }
 
 #[test]
-fn it_is_told_why_there_is_no_store(rt: HostRuntime) -> Result<(), Fail> {
+fn it_is_told_why_there_is_no_store(rt: HostRuntime) -> Result<(), AllocError> {
     let mut disk = MemDisk::of(rt.alloc(), &[], &[], &[])?;
     is_made_once(&rt, rt.alloc(), &mut disk);
-    is_damaged(&rt, rt.alloc(), &disk)?;
-    Ok(())
+    let told = is_damaged(&rt, rt.alloc(), &disk);
+    drop(disk);
+    told
 }
 
 /// A disk whose second call fails.
@@ -86,8 +90,10 @@ fn failing(alloc: Global) -> Result<MemDisk, AllocError> {
 }
 
 #[test]
-fn a_disk_that_fails_has_no_store(rt: HostRuntime) -> Result<(), Fail> {
+fn a_disk_that_fails_has_no_store(rt: HostRuntime) -> Result<(), AllocError> {
     let mut disk = failing(rt.alloc())?;
-    assert_eq!(rt; left(rt.alloc(), &mut disk), Err(OpenError::Disk));
+    let made = left(rt.alloc(), &mut disk);
+    drop(disk);
+    assert!(rt; made == Err(OpenError::Disk));
     Ok(())
 }

@@ -3,10 +3,10 @@ ghost use Rattle.std.specs.Prelude.{◌≡◌, ◌+◌, ◌≤◌, ◌^◌, leng
 ghost use Rattle.ut_outside.specs.MemDisks.{mem_view};
 ghost use Rattle.ut_redo.specs.Appends.{HasClosedGate};
 
-use std::alloc::{AllocError, Global};
+use crate::frame::frame_of;
+use std::alloc::Global;
 use std::process::Abort;
 use std::test::Fail;
-use ut_entry::entry_from;
 use ut_outside::{Disk, MemDisk, Tear, Which};
 use ut_redo::{Frame, Redo};
 use ut_value::same_bytes;
@@ -26,13 +26,6 @@ const TEARS: [Tear; 5] = [
     Tear::Fill(0xFF),
 ];
 
-fn frame_of(rt: &impl Abort, alloc: Global, bytes: &[u8]) -> Result<Frame, AllocError> {
-    let Some((entry, _)) = entry_from(alloc, bytes)? else {
-        panic!(rt; "no entry")
-    };
-    Frame::of(alloc, &entry)
-}
-
 // Both entries at once.
 fn both(disk: &mut MemDisk, redo: &mut Redo, first: &Frame, second: &Frame) -> Result<(), Fail>
     requires low { redo.old.place.end ≤ 2 ^ 61 }
@@ -51,38 +44,77 @@ fn left(alloc: Global, disk: &MemDisk, moment: u64, tear: Tear) -> Result<usize,
     requires { moment ≤ (mem_view disk.now).moment }
 {
     let mut image = disk.image(moment, tear)?;
-    let (_, entries) = Redo::read_all(alloc, &mut image, Which::Redo, 0)?;
+    let read = Redo::read_all(alloc, &mut image, Which::Redo, 0);
+    drop(image);
+    let (_, entries) = read?;
     Ok(entries.len())
+}
+
+// A table is logged, and then both entries at once. Tells how many calls there were before them.
+fn logs(
+    rt: &impl Abort,
+    disk: &mut MemDisk,
+    create: &Frame,
+    first: &Frame,
+    second: &Frame,
+) -> Result<u64, Fail> {
+    assert!(rt; first.size() == 22 && second.size() == 22);
+    let mut redo = Redo::make(disk)?;
+    redo.append(disk, create)?;
+    let (_, end) = redo.place();
+    assert!(rt; end == 12);
+    let calls = disk.calls();
+    assert!(rt; calls < 100);
+    both(disk, &mut redo, first, second)?;
+    assert!(rt; disk.calls() == calls + 7 && redo.place().1 == 61);
+    Ok(calls)
+}
+
+fn logs_group(rt: &impl Abort, alloc: Global, disk: &mut MemDisk) -> Result<u64, Fail> {
+    let create = frame_of(rt, alloc, CREATE)?;
+    let first = frame_of(rt, alloc, FIRST)?;
+    let second = frame_of(rt, alloc, SECOND)?;
+    logs(rt, disk, &create, &first, &second)
+}
+
+// A crash at a moment of the group leaves the table alone, or all. Tells of how many kinds all is left.
+fn left_whole(rt: &impl Abort, alloc: Global, disk: &MemDisk, moment: u64) -> Result<u32, Fail> {
+    assert!(rt; moment <= disk.calls());
+    let mut whole = 0_u32;
+    for tear in &TEARS {
+        let entries = left(alloc, disk, moment, *tear)?;
+        assert!(rt; entries == 1 || entries == 3, "{entries} at {moment}");
+        if entries == 3 {
+            whole = whole.saturating_add(1);
+        }
+    }
+    Ok(whole)
+}
+
+// The same at each moment from a call on.
+fn are_left_whole(rt: &impl Abort, alloc: Global, disk: &MemDisk, calls: u64) -> Result<(), Fail> {
+    let mut whole = 0_u32;
+    for moment in calls..=disk.calls() {
+        whole = whole.saturating_add(left_whole(rt, alloc, disk, moment)?);
+    }
+    assert!(rt; whole >= 5);
+    Ok(())
+}
+
+/// The log of all three.
+const LOG: &[u8] =
+    b"\xa7\x07\0\0\0\x01\x01T\x01\x00\x01k\xa7\x2c\0\0\0\x02\x01\0\0\0\x01\0\0\x01\0\0\0\x01\x00\x80\0\0\0\0\0\0\x01\x02\x01\0\0\0\x01\0\0\x02\0\0\0\x01\x00\x80\0\0\0\0\0\0\x02\x00";
+
+fn counts_at_once(rt: &impl Abort, alloc: Global, disk: &mut MemDisk) -> Result<(), Fail> {
+    let calls = logs_group(rt, alloc, disk)?;
+    assert!(rt; same_bytes(disk.bytes(Which::Redo), LOG));
+    are_left_whole(rt, alloc, disk, calls)
 }
 
 #[test]
 fn a_group_counts_at_once(rt: HostRuntime) -> Result<(), Fail> {
-    let alloc = rt.alloc();
-    let mut disk = MemDisk::of(alloc, b"left", &[], &[])?;
-    let mut redo = Redo::make(&mut disk)?;
-    redo.append(&mut disk, &frame_of(&rt, alloc, CREATE)?)?;
-    let first = frame_of(&rt, alloc, FIRST)?;
-    let second = frame_of(&rt, alloc, SECOND)?;
-    assert!(rt; first.size() == 22 && second.size() == 22);
-    let calls = disk.calls();
-    assert!(rt; calls < 100);
-    both(&mut disk, &mut redo, &first, &second)?;
-    assert_eq!(rt; disk.calls(), calls + 7);
-    let bytes =
-        b"\xa7\x07\0\0\0\x01\x01T\x01\x00\x01k\xa7\x2c\0\0\0\x02\x01\0\0\0\x01\0\0\x01\0\0\0\x01\x00\x80\0\0\0\0\0\0\x01\x02\x01\0\0\0\x01\0\0\x02\0\0\0\x01\x00\x80\0\0\0\0\0\0\x02\x00";
-    assert!(rt; same_bytes(disk.bytes(Which::Redo), bytes));
-    assert!(rt; redo.place().1 == 61);
-    let mut with_both = 0_u32;
-    for moment in calls..disk.calls() + 1 {
-        for tear in &TEARS {
-            assert!(rt; moment <= disk.calls());
-            let entries = left(alloc, &disk, moment, *tear)?;
-            assert!(rt; entries == 1 || entries == 3, "{entries} at {moment}");
-            if entries == 3 {
-                with_both = with_both.saturating_add(1);
-            }
-        }
-    }
-    assert!(rt; with_both >= 5);
-    Ok(())
+    let mut disk = MemDisk::of(rt.alloc(), b"left", &[], &[])?;
+    let counted = counts_at_once(&rt, rt.alloc(), &mut disk);
+    drop(disk);
+    counted
 }

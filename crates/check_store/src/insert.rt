@@ -7,12 +7,11 @@ use std::alloc::{AllocError, Global};
 use std::process::Abort;
 use std::test::Fail;
 use ut_entry::{insert_len, put_insert};
-use ut_outside::{MemDisk, Which};
+use ut_outside::{Failed, MemDisk, Which};
 use ut_redo::{Frame, Redo};
 use ut_value::{Text, Value, is_text, same_bytes, values_keep_rules};
 
 /// A row of a number, and of a text where there is one, with the bytes of its insert.
-#[derive(Clone, Copy)]
 struct Case<'a> {
     table: u16,
     id: u32,
@@ -57,8 +56,7 @@ fn values_of(
     let mut values = Vec::new(alloc);
     values.push(Value::Int(number))?;
     if let Some(bytes) = text {
-        assert!(rt; bytes.len() <= 255);
-        assert!(rt; is_text(bytes));
+        assert!(rt; bytes.len() <= 255 && is_text(bytes));
         values.push(Value::Text(Text::from_slice(alloc, bytes)?))?;
     }
     Ok(values)
@@ -68,8 +66,7 @@ fn values_of(
 fn have_spelling(rt: &impl Abort, values: &[Value])
     ensures { IsTrue (are_values values.now) }
 {
-    assert!(rt; !values.is_empty());
-    assert!(rt; values.len() <= 64);
+    assert!(rt; !values.is_empty() && values.len() <= 64);
     values_keep_rules(values);
 }
 
@@ -87,29 +84,37 @@ fn spelled(
     let len = insert_len(values) as usize;
     let mut bytes = Vec::with_capacity(alloc, len)?;
     put_insert(table, id, values, &mut bytes);
-    assert_eq!(rt; bytes.len(), len);
+    assert!(rt; bytes.len() == len);
     Ok(bytes)
 }
 
+// The bytes of the insert of a row.
+fn row_spelled(
+    rt: &impl Abort,
+    alloc: Global,
+    table: u16,
+    id: u32,
+    number: i64,
+    text: Option<&[u8]>,
+) -> Result<Vec<u8>, AllocError> {
+    let values = values_of(rt, alloc, number, text)?;
+    spelled(rt, alloc, table, id, &values)
+}
+
 #[test]
-fn an_insert_is_spelled_from_its_values(rt: HostRuntime) -> Result<(), Fail> {
-    let alloc = rt.alloc();
-    assert_eq!(rt; insert_len(&[]), 8);
+fn an_insert_is_spelled_from_its_values(rt: HostRuntime) -> Result<(), AllocError> {
+    assert!(rt; insert_len(&[]) == 8);
     for case in &CASES {
-        let values = values_of(&rt, alloc, case.number, case.text)?;
-        let bytes = spelled(&rt, alloc, case.table, case.id, &values)?;
+        let bytes = row_spelled(&rt, rt.alloc(), case.table, case.id, case.number, case.text)?;
         assert!(rt; same_bytes(&bytes, case.bytes), "{}", case.table);
     }
     Ok(())
 }
 
 #[test]
-fn the_longest_text_is_spelled(rt: HostRuntime) -> Result<(), Fail> {
-    let alloc = rt.alloc();
-    let values = values_of(&rt, alloc, 0, Some(&[b'x'; 255]))?;
-    let bytes = spelled(&rt, alloc, 0, 0, &values)?;
-    assert_eq!(rt; bytes.len(), 8 + 9 + 2 + 255);
-    assert!(rt; same_bytes(&bytes[17..20], b"\x01\xffx"));
+fn the_longest_text_is_spelled(rt: HostRuntime) -> Result<(), AllocError> {
+    let bytes = row_spelled(&rt, rt.alloc(), 0, 0, 0, Some(&[b'x'; 255]))?;
+    assert!(rt; bytes.len() == 8 + 9 + 2 + 255 && same_bytes(&bytes[17..20], b"\x01\xffx"));
     Ok(())
 }
 
@@ -130,31 +135,50 @@ fn add(
     Ok(())
 }
 
-// The bytes of a log of one frame.
-fn logged(alloc: Global, frame: &Frame) -> Result<MemDisk, Fail> {
-    let mut disk = MemDisk::of(alloc, &[], &[], &[])?;
-    let mut redo = Redo::make(&mut disk)?;
-    redo.append(&mut disk, frame)?;
-    Ok(disk)
+// The log begins with a frame.
+fn begin_log(disk: &mut MemDisk, frame: &Frame) -> Result<(), Failed> {
+    let mut redo = Redo::make(disk)?;
+    redo.append(disk, frame)
 }
+
+// A log of one frame has these bytes.
+fn is_logged(rt: &impl Abort, alloc: Global, frame: &Frame, bytes: &[u8]) -> Result<(), Fail> {
+    let mut disk = MemDisk::of(alloc, &[], &[], &[])?;
+    let begun = begin_log(&mut disk, frame);
+    let is_right = same_bytes(disk.bytes(Which::Redo), bytes);
+    drop(disk);
+    begun?;
+    assert!(rt; is_right);
+    Ok(())
+}
+
+/// The log of a transaction without operations.
+const NONE: &[u8] = b"\xa7\x05\0\0\0\x02\0\0\0\0\0";
 
 /// The gate, the length and the head of a transaction, its two inserts, and the next gate.
 const LOG: &[u8] = b"\xa7\x2a\0\0\0\x02\x02\0\0\0\
     \x01\0\0\x01\0\0\0\x02\0\x80\0\0\0\0\0\0\x05\x01\x01a\
     \x01\x02\x01\x04\x03\x02\x01\x01\0\0\0\0\0\0\0\0\0\0";
 
+// The first two inserts join a frame.
+fn add_two(rt: &impl Abort, alloc: Global, frame: &mut Frame) -> Result<(), AllocError> {
+    for case in &CASES[..2] {
+        let values = values_of(rt, alloc, case.number, case.text)?;
+        add(rt, frame, case.table, case.id, &values)?;
+    }
+    assert!(rt; frame.size() == 42);
+    Ok(())
+}
+
+// A frame has no insert, and then two.
+fn grows(rt: &impl Abort, alloc: Global, frame: &mut Frame) -> Result<(), Fail> {
+    is_logged(rt, alloc, frame, NONE)?;
+    add_two(rt, alloc, frame)?;
+    is_logged(rt, alloc, frame, LOG)
+}
+
 #[test]
 fn a_frame_grows_by_inserts(rt: HostRuntime) -> Result<(), Fail> {
-    let alloc = rt.alloc();
-    let mut frame = Frame::txn(alloc)?;
-    let none = logged(alloc, &frame)?;
-    assert!(rt; same_bytes(none.bytes(Which::Redo), b"\xa7\x05\0\0\0\x02\0\0\0\0\0"));
-    for case in &CASES[..2] {
-        let values = values_of(&rt, alloc, case.number, case.text)?;
-        add(&rt, &mut frame, case.table, case.id, &values)?;
-    }
-    assert_eq!(rt; frame.size(), 42);
-    let two = logged(alloc, &frame)?;
-    assert!(rt; same_bytes(two.bytes(Which::Redo), LOG));
-    Ok(())
+    let mut frame = Frame::txn(rt.alloc())?;
+    grows(&rt, rt.alloc(), &mut frame)
 }

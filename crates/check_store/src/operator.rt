@@ -1,7 +1,7 @@
 //! The calls of the engine by hand, over a small store: rows and lengths, a merge and its job, a savepoint, and the store opened again.
 use crate::calls::{
-    begun, changes_one, commits, create, dropped, flipped, ids, insert, lengths, made, moved, name,
-    new_disk, opened_again, phase, sealed, shape, stepped,
+    begun, changes_one, commits, create, dropped, flipped, ids, insert, is_up, lengths, made,
+    moved, name, new_disk, opened_again, phase, sealed, shape, stepped,
 };
 use std::alloc::{AllocError, Global};
 use std::process::Abort;
@@ -17,7 +17,9 @@ fn creates(
     engine: &mut Engine<'_, MemDisk>,
 ) -> Result<(), AllocError> {
     let statement = create(rt, alloc)?;
-    assert!(rt; commits(rt, alloc, engine, statement, 1));
+    let commits = commits(rt, alloc, engine, &statement, 1);
+    drop(statement);
+    assert!(rt; commits);
     Ok(())
 }
 
@@ -28,7 +30,9 @@ fn inserts(
     number: i64,
 ) -> Result<(), AllocError> {
     let statement = insert(rt, alloc, number)?;
-    assert!(rt; changes_one(rt, alloc, engine, statement), "row {number}");
+    let changes = changes_one(rt, alloc, engine, &statement);
+    drop(statement);
+    assert!(rt; changes, "row {number}");
     Ok(())
 }
 
@@ -47,9 +51,8 @@ fn fill(
 }
 
 fn counts(rt: &impl Abort, engine: &Engine<'_, MemDisk>) {
-    assert_eq!(rt; engine.commits(), 3);
-    assert_eq!(rt; engine.journal_len(), 3);
-    assert_eq!(rt; engine.moment(), engine.disk().calls());
+    assert!(rt; engine.commits() == 3 && engine.journal_len() == 3);
+    assert!(rt; engine.moment() == engine.disk().calls());
 }
 
 /// The ids of a table's rows, if it is there.
@@ -69,10 +72,8 @@ fn has_both_rows(
     alloc: Global,
     engine: &Engine<'_, MemDisk>,
 ) -> Result<(), AllocError> {
-    match ids_of(rt, alloc, engine, b"T")? {
-        Some(found) => assert!(rt; found.as_slice() == [1, 2].as_slice()),
-        None => panic!(rt; "there is no table"),
-    }
+    let found = ids_of(rt, alloc, engine, b"T")?;
+    assert!(rt; matches!(&found, Some(ids) if ids.as_slice() == [1, 2].as_slice()));
     Ok(())
 }
 
@@ -94,7 +95,7 @@ fn check(
     l1: u32,
     l2: u32,
 ) -> Result<(), AllocError> {
-    assert_eq!(rt; lengths(rt, engine), (l1, l2));
+    assert!(rt; lengths(rt, engine) == (l1, l2));
     has_both_rows(rt, alloc, engine)?;
     has_no_other(rt, alloc, engine)
 }
@@ -108,7 +109,7 @@ fn moves(
     wanted: Result<u32, L1Error>,
 ) -> Result<(), AllocError> {
     let table = name(rt, alloc, bytes)?;
-    assert_eq!(rt; moved(rt, alloc, engine, &table), wanted);
+    assert!(rt; moved(rt, alloc, engine, &table) == wanted);
     Ok(())
 }
 
@@ -121,10 +122,12 @@ fn lens_of(
 ) -> Result<Option<(u32, u32)>, AllocError> {
     let table = name(rt, alloc, bytes)?;
     let shape = shape(rt, alloc, engine, &table)?;
-    Ok(match &shape {
+    let lens = match &shape {
         Some(shape) => Some((shape.l1, shape.l2)),
         None => None,
-    })
+    };
+    drop(shape);
+    Ok(lens)
 }
 
 fn has_lens(
@@ -134,7 +137,8 @@ fn has_lens(
     bytes: &[u8],
     wanted: Option<(u32, u32)>,
 ) -> Result<(), AllocError> {
-    assert_eq!(rt; lens_of(rt, alloc, engine, bytes)?, wanted);
+    let found = lens_of(rt, alloc, engine, bytes)?;
+    assert!(rt; found == wanted);
     Ok(())
 }
 
@@ -162,19 +166,34 @@ fn fill_and_merge(
     check(rt, alloc, engine, 1, 1)
 }
 
+/// The store is opened again, and has its rows in these stages.
+fn check_again(
+    rt: &impl Abort,
+    alloc: Global,
+    engine: Engine<'_, MemDisk>,
+    l1: u32,
+    l2: u32,
+) -> Result<(), Fail> {
+    let engine = opened_again(engine, alloc)?;
+    let checked = check(rt, alloc, &engine, l1, l2);
+    drop(engine);
+    checked?;
+    Ok(())
+}
+
 /// A store whose table is filled, of which a row is moved, and then opened again.
 fn fill_and_open(rt: &impl Abort, alloc: Global, disk: &mut MemDisk) -> Result<(), Fail> {
     let mut engine = made(alloc, disk)?;
     fill_and_merge(rt, alloc, &mut engine)?;
-    let engine = opened_again(engine, alloc)?;
-    check(rt, alloc, &engine, 2, 0)?;
-    Ok(())
+    check_again(rt, alloc, engine, 2, 0)
 }
 
 #[test]
 fn a_store_is_made_and_opened_again(rt: HostRuntime) -> Result<(), Fail> {
     let mut disk = new_disk(rt.alloc())?;
-    fill_and_open(&rt, rt.alloc(), &mut disk)
+    let opened = fill_and_open(&rt, rt.alloc(), &mut disk);
+    drop(disk);
+    opened
 }
 
 /// A merge of a table begins, and has a number.
@@ -184,10 +203,12 @@ fn begins(
     engine: &mut Engine<'_, MemDisk>,
     table: &Name,
 ) -> Result<u32, BeginError> {
-    assert!(rt; !engine.down());
+    is_up(rt, engine);
     let job = engine.merge_begin(alloc, table, MergeKind::Resort)?;
-    assert_eq!(rt; job.kind(), MergeKind::Resort);
-    Ok(job.number())
+    let (kind, number) = (job.kind(), job.number());
+    drop(job);
+    assert!(rt; kind == MergeKind::Resort);
+    Ok(number)
 }
 
 /// What comes of the begin of a merge of a table.
@@ -199,23 +220,24 @@ fn begins_as(
     wanted: Result<u32, BeginError>,
 ) -> Result<(), AllocError> {
     let table = name(rt, alloc, bytes)?;
-    assert_eq!(rt; begins(rt, alloc, engine, &table), wanted);
+    assert!(rt; begins(rt, alloc, engine, &table) == wanted);
     Ok(())
 }
 
 /// The job of the first merge is had again.
 fn has_job(rt: &impl Abort, alloc: Global, engine: &Engine<'_, MemDisk>) -> Result<(), AllocError> {
-    assert!(rt; !engine.down());
+    is_up(rt, engine);
     let job = engine.merge_again(alloc)?;
-    assert!(rt; matches!(&job, Some(job) if job.number() == 1));
+    let is_first = matches!(&job, Some(job) if job.number() == 1);
+    drop(job);
+    assert!(rt; is_first);
     Ok(())
 }
 
 /// The first merge is pending.
 fn it_is_pending(rt: &impl Abort, engine: &Engine<'_, MemDisk>) {
     assert!(rt; matches!(engine.pending(), Some(head) if head.number == 1 && head.table == 0));
-    assert_eq!(rt; engine.merges(), 1);
-    assert_eq!(rt; engine.journal_len(), 4);
+    assert!(rt; engine.merges() == 1 && engine.journal_len() == 4);
 }
 
 /// A table that isn't there is not merged, and the one that is there once.
@@ -245,12 +267,20 @@ fn fill_and_begin(
     begin_merge(rt, alloc, engine)
 }
 
+fn make_and_begin(rt: &impl Abort, alloc: Global, disk: &mut MemDisk) -> Result<(), Fail> {
+    let mut engine = made(alloc, disk)?;
+    let begun = fill_and_begin(rt, alloc, &mut engine);
+    drop(engine);
+    begun?;
+    Ok(())
+}
+
 #[test]
 fn a_merge_begins_and_hands_out_its_job(rt: HostRuntime) -> Result<(), Fail> {
     let mut disk = new_disk(rt.alloc())?;
-    let mut engine = made(rt.alloc(), &mut disk)?;
-    fill_and_begin(&rt, rt.alloc(), &mut engine)?;
-    Ok(())
+    let begun = make_and_begin(&rt, rt.alloc(), &mut disk);
+    drop(disk);
+    begun
 }
 
 /// A savepoint of one page begins, and no other one beside it.
@@ -259,7 +289,8 @@ fn begin_save(
     alloc: Global,
     engine: &mut Engine<'_, MemDisk>,
 ) -> Result<(), SaveError> {
-    assert_eq!(rt; begun(rt, alloc, engine)?, 1);
+    let pages = begun(rt, alloc, engine)?;
+    assert!(rt; pages == 1);
     assert!(rt; matches!(phase(rt, engine), Progress::Writing { done: 0, pages: 1 }));
     let again = begun(rt, alloc, engine);
     assert!(rt; matches!(again, Err(SaveError::State(Why::Saving))));
@@ -270,7 +301,8 @@ fn begin_save(
 fn end_save(rt: &impl Abort, engine: &mut Engine<'_, MemDisk>) -> Result<(), PhaseError> {
     stepped(rt, engine)?;
     sealed(rt, engine)?;
-    assert_eq!(rt; flipped(rt, engine)?, 3);
+    let root = flipped(rt, engine)?;
+    assert!(rt; root == 3);
     Ok(())
 }
 
@@ -292,18 +324,26 @@ fn drop_and_fill(
     merge(rt, alloc, engine)
 }
 
+fn fill_and_save(
+    rt: &impl Abort,
+    alloc: Global,
+    engine: &mut Engine<'_, MemDisk>,
+) -> Result<(), Fail> {
+    drop_and_fill(rt, alloc, engine)?;
+    save(rt, alloc, engine)
+}
+
 /// A store with a savepoint, and then opened again.
 fn save_and_open(rt: &impl Abort, alloc: Global, disk: &mut MemDisk) -> Result<(), Fail> {
     let mut engine = made(alloc, disk)?;
-    drop_and_fill(rt, alloc, &mut engine)?;
-    save(rt, alloc, &mut engine)?;
-    let engine = opened_again(engine, alloc)?;
-    check(rt, alloc, &engine, 1, 1)?;
-    Ok(())
+    fill_and_save(rt, alloc, &mut engine)?;
+    check_again(rt, alloc, engine, 1, 1)
 }
 
 #[test]
 fn a_store_is_opened_from_its_savepoint(rt: HostRuntime) -> Result<(), Fail> {
     let mut disk = new_disk(rt.alloc())?;
-    save_and_open(&rt, rt.alloc(), &mut disk)
+    let opened = save_and_open(&rt, rt.alloc(), &mut disk);
+    drop(disk);
+    opened
 }

@@ -1,6 +1,6 @@
 //! Faults that are planned come, in the call that was named and in no other: of a disk, a source and a sink in memory.
+use std::alloc::{AllocError, Global};
 use std::process::Abort;
-use std::test::Fail;
 use ut_outside::{Disk, Failed, MemDisk, MemSink, MemSource, Sink, Source, Which};
 use ut_value::same_bytes;
 
@@ -24,43 +24,55 @@ fn ask(disk: &mut MemDisk, kind: u64) -> Result<(), Failed> {
     Ok(())
 }
 
+// A disk in whose files something stands, and whose call of a number fails.
+fn failing(alloc: Global, planned: u64) -> Result<MemDisk, AllocError> {
+    let mut disk = MemDisk::of(alloc, b"left", b"over", b"pages")?;
+    disk.fail_at(planned)?;
+    Ok(disk)
+}
+
+// Of a call of each kind this one fails, and leaves no byte.
+fn fails_once(rt: &impl Abort, disk: &mut MemDisk, planned: u64) {
+    for kind in 0..KINDS {
+        let failed = ask(disk, kind).is_err();
+        assert!(rt; failed == (kind == planned), "{kind} of {planned}");
+    }
+    let written = same_bytes(disk.bytes(Which::Redo), b"Left");
+    assert!(rt;
+        disk.calls() == KINDS && written == (planned != 2),
+        "{planned}"
+    );
+}
+
 #[test]
-fn a_planned_call_of_a_disk_fails(rt: HostRuntime) -> Result<(), Fail> {
+fn a_planned_call_of_a_disk_fails(rt: HostRuntime) -> Result<(), AllocError> {
     for planned in 0..KINDS {
-        let mut disk = MemDisk::of(rt.alloc(), b"left", b"over", b"pages")?;
-        disk.fail_at(planned)?;
-        for kind in 0..KINDS {
-            let failed = ask(&mut disk, kind).is_err();
-            assert!(rt; failed == (kind == planned), "{kind} of {planned}");
-        }
-        assert_eq!(rt; disk.calls(), KINDS);
-        let written = same_bytes(disk.bytes(Which::Redo), b"Left");
-        assert!(rt; written == (planned != 2), "{planned}");
+        let mut disk = failing(rt.alloc(), planned)?;
+        fails_once(&rt, &mut disk, planned);
+        drop(disk);
     }
     Ok(())
 }
 
 #[test]
-fn a_planned_call_of_a_source_fails(rt: HostRuntime) -> Result<(), Fail> {
+fn a_planned_call_of_a_source_fails(rt: HostRuntime) -> Result<(), AllocError> {
     let sink = MemSink::new(rt.alloc(), None);
     let mut source = MemSource::new(rt.alloc(), b"abcd", 2, Some(1))?;
     for call in 0..4u64 {
         let mut buf = [0u8; 8];
         let told = Source::<MemSink>::take(&mut source, &sink, &mut buf);
-        match told {
-            Ok(count) => assert!(rt;
-                call != 1 && count == if call == 3 { 0 } else { 2 },
-                "{call}"
-            ),
-            Err(_) => assert!(rt; call == 1, "{call}"),
-        }
+        let is_planned = match told {
+            Ok(count) => call != 1 && count == if call == 3 { 0 } else { 2 },
+            Err(_) => call == 1,
+        };
+        assert!(rt; is_planned, "{call}");
     }
-    assert_eq!(rt; source.asks().len(), 3);
+    assert!(rt; source.asks().len() == 3);
     Ok(())
 }
 
 #[test]
-fn a_planned_call_of_a_sink_fails(rt: HostRuntime) -> Result<(), Fail> {
+fn a_planned_call_of_a_sink_fails(rt: HostRuntime) -> Result<(), AllocError> {
     let disk = MemDisk::of(rt.alloc(), &[], &[], &[])?;
     let mut sink = MemSink::new(rt.alloc(), Some(1));
     for call in 0..3u64 {
@@ -68,5 +80,6 @@ fn a_planned_call_of_a_sink_fails(rt: HostRuntime) -> Result<(), Fail> {
         assert!(rt; failed == (call == 1), "{call}");
     }
     assert!(rt; same_bytes(sink.bytes(), b"abab"));
+    drop(disk);
     Ok(())
 }

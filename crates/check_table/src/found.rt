@@ -1,5 +1,5 @@
 //! The rows that a scan of a small table finds.
-ghost use Rattle.std.specs.Prelude.{◌<◌, ◌∷◌, [], None, IsSome, IfOk, length};
+ghost use Rattle.std.specs.Prelude.{◌≡◌, ◌<◌, ◌∷◌, [], None, IsSome, IfOk, length};
 ghost use Rattle.ut_plain.specs.Compiled.{Compiles};
 ghost use Rattle.ut_staged.specs.Staged.{row_at};
 ghost use Rattle.ut_table.specs.Finds.{SeenOnce, AreThere};
@@ -11,7 +11,7 @@ use std::process::Abort;
 use ut_key::{Cmp, Key};
 use ut_plain::{Pred, column_of, has_column, is_of_kind, kind_in};
 use ut_scan::{ColumnPred, Found, Place};
-use ut_stamps::Fates;
+use ut_stamps::{Fates, Snapshot};
 use ut_table::Table;
 use ut_value::{Column, Value, key_of, same_bytes, value_keeps_rule};
 
@@ -20,9 +20,8 @@ fn placed(rt: &impl Abort, columns: &[Column], pred: &Pred) -> ColumnPred
     ensures { Compiles columns.now (pred.now ∷ []) (result ∷ []) }
 {
     let known = has_column(columns, pred.column.as_slice());
-    assert!(rt; known);
     let place = column_of(columns, pred.column.as_slice()).unwrap_or(64);
-    assert!(rt; place < 64);
+    assert!(rt; known && place < 64);
     let Some(kind) = kind_in(columns, pred.column.as_slice()) else {
         panic!(rt; "a column has no kind");
     };
@@ -50,6 +49,19 @@ pub(crate) fn number_pred(
     })
 }
 
+// What is seen before the first entry.
+fn at_first(fates: &Fates) -> Snapshot<'_>
+    ensures fates { result.fates.now ≡ fates.now }
+    ensures at { result.at ≡ 0 }
+    ensures own { result.own ≡ None }
+{
+    Snapshot {
+        fates,
+        at: 0,
+        own: None,
+    }
+}
+
 // How many rows meet a comparison.
 fn count(
     rt: &impl Abort,
@@ -61,7 +73,7 @@ fn count(
     requires { SeenOnce table.now.stages fates.now 0 None }
 {
     let preds = [placed(rt, table.columns(), pred)];
-    table.count(alloc, fates, 0, None, &preds)
+    table.count(alloc, at_first(fates), &preds)
 }
 
 /// Finds the rows that meet a comparison.
@@ -76,7 +88,7 @@ pub(crate) fn find(
     ensures { IfOk result (λ found. AreThere table.now.stages found.items) }
 {
     let preds = [placed(rt, table.columns(), pred)];
-    let found = table.scan(alloc, fates, 0, None, &preds)?;
+    let found = table.scan(alloc, at_first(fates), &preds)?;
     Ok(found)
 }
 
@@ -100,10 +112,25 @@ fn has_text(
     requires there { IsSome (row_at table.now.stages place) }
     requires wide { 1 < length table.now.stages.columns }
 {
-    match table.value(alloc, place, 1)? {
-        Value::Text(found) => assert!(rt; same_bytes(found.as_slice(), text)),
-        Value::Int(_) => panic!(rt; "a text is a number"),
-    }
+    let value = table.value(alloc, place, 1)?;
+    let is_text = matches!(&value, Value::Text(found) if same_bytes(found.as_slice(), text));
+    drop(value);
+    assert!(rt; is_text);
+    Ok(())
+}
+
+// The row in a place has two values, and this id.
+fn has_row(
+    rt: &impl Abort,
+    alloc: Global,
+    table: &Table,
+    place: Place,
+    id: u32,
+) -> Result<(), AllocError>
+    requires { IsSome (row_at table.now.stages place) }
+{
+    let row = table.row(alloc, place)?;
+    assert!(rt; row.id == id && row.values.len() == 2);
     Ok(())
 }
 
@@ -118,14 +145,11 @@ fn has(
 ) -> Result<(), AllocError>
     requires { IsSome (row_at table.now.stages place) }
 {
-    assert!(rt; table.columns().len() == 2);
+    assert!(rt; table.columns().len() == 2 && table.stamp(place).begin == 0);
     has_key(rt, table, place, text);
     has_text(rt, alloc, table, place, text)?;
+    has_row(rt, alloc, table, place, id)?;
     assert!(rt; table.values(alloc, place)?.len() == 2);
-    assert!(rt; table.stamp(place).begin == 0);
-    let row = table.row(alloc, place)?;
-    assert!(rt; row.id == id);
-    assert!(rt; row.values.len() == 2);
     Ok(())
 }
 
@@ -151,7 +175,24 @@ fn are(
     Ok(())
 }
 
-// The rows whose number meets a comparison are these, found and counted.
+// The rows that meet a comparison are these, found and counted.
+fn finds_by(
+    rt: &impl Abort,
+    alloc: Global,
+    table: &Table,
+    fates: &Fates,
+    pred: &Pred,
+    wanted: &[Wanted],
+) -> Result<(), AllocError>
+    requires { SeenOnce table.now.stages fates.now 0 None }
+{
+    let count = count(rt, alloc, table, fates, pred)?;
+    let found = find(rt, alloc, table, fates, pred)?;
+    assert!(rt; count == found.len() as u64);
+    are(rt, alloc, table, &found, wanted)
+}
+
+// The rows whose number meets a comparison are these.
 fn finds(
     rt: &impl Abort,
     alloc: Global,
@@ -164,10 +205,9 @@ fn finds(
     requires { SeenOnce table.now.stages fates.now 0 None }
 {
     let pred = number_pred(rt, alloc, op, number)?;
-    let count = count(rt, alloc, table, fates, &pred)?;
-    let found = find(rt, alloc, table, fates, &pred)?;
-    assert!(rt; count == found.len() as u64);
-    are(rt, alloc, table, &found, wanted)
+    let found = finds_by(rt, alloc, table, fates, &pred, wanted);
+    drop(pred);
+    found
 }
 
 /// Rows 1 and 3 have the number 5, and row 2 a negative one.

@@ -3,7 +3,6 @@ ghost use Rattle.std.specs.Prelude.{◌≡◌, length, IfOk};
 
 use std::alloc::{AllocError, Global};
 use std::process::Abort;
-use std::test::Fail;
 use ut_scan::Place;
 use ut_stamps::{Stamp, StampTable};
 
@@ -28,8 +27,9 @@ fn stamps(alloc: Global, n: u32) -> Result<Vec<Stamp>, AllocError>
 // A part that has as many rows as this, of which one ends.
 fn part_of(rt: &impl Abort, alloc: Global, n: u32, ended: u32) -> Result<StampTable, AllocError> {
     assert!(rt; ended < n);
+    let stamps = stamps(alloc, n)?;
     let mut table = StampTable::new(alloc)?;
-    table.push_part(stamps(alloc, n)?);
+    table.push_part(stamps);
     assert!(rt; table.part(0).joint() == Some(OLD));
     table.set_end(Place::Main(0, ended), 5);
     Ok(table)
@@ -39,21 +39,21 @@ fn part_of(rt: &impl Abort, alloc: Global, n: u32, ended: u32) -> Result<StampTa
 fn one_ends(rt: &impl Abort, table: &StampTable, n: u32, ended: u32) {
     assert!(rt; table.parts() == 1);
     let stamps = table.part(0);
-    assert!(rt; stamps.joint().is_none());
-    assert_eq!(rt; stamps.len(), n as usize);
+    assert!(rt; stamps.joint().is_none() && stamps.len() == n as usize);
     for i in 0..stamps.len() {
         let end = if i == ended as usize { Some(5) } else { None };
-        assert_eq!(rt; stamps.get(i), Stamp { begin: 0, end });
+        assert!(rt; stamps.get(i) == Stamp { begin: 0, end }, "at {i}");
     }
 }
 
 // A list of few stamps is emptied in place, one of many makes room for new.
 #[test]
-fn one_row_ends_where_all_stamps_agreed(rt: HostRuntime) -> Result<(), Fail> {
+fn one_row_ends_where_all_stamps_agreed(rt: HostRuntime) -> Result<(), AllocError> {
     let alloc = rt.alloc();
     for (n, ended) in [(3, 0), (3, 2), (3000, 0), (3000, 1500), (3000, 2999)] {
         let table = part_of(&rt, alloc, n, ended)?;
         one_ends(&rt, &table, n, ended);
+        drop(table);
     }
     Ok(())
 }

@@ -7,7 +7,6 @@ use crate::rows::{Stage, add, bare, text};
 use crate::table::has_shape;
 use std::alloc::{AllocError, Global};
 use std::process::Abort;
-use std::test::Fail;
 use ut_l2::L2;
 use ut_plain::fits_columns;
 use ut_stamps::Fates;
@@ -48,12 +47,10 @@ fn has_rows(rt: &impl Abort, l2: &L2, width: u8, from: u32, first_id: u32, rows:
     requires { l2.now.width ≡ width }
     ensures { (from ≤ 1000) × (rows ≤ 1000) }
 {
-    assert!(rt; from <= 1000);
-    assert!(rt; rows <= 1000);
-    assert!(rt; from + rows <= l2.len());
+    assert!(rt; from <= 1000 && rows <= 1000 && from + rows <= l2.len());
     for i in 0..rows {
         let id = u64::from(first_id) + u64::from(i);
-        assert_eq!(rt; u64::from(l2.row_id(from + i)), id, "at {i}");
+        assert!(rt; u64::from(l2.row_id(from + i)) == id, "at {i}");
         for j in 0..width {
             let [_, _, a, b] = (10 * i + u32::from(j)).to_be_bytes();
             let key = [0x80, 0, 0, 0, 0, 0, a, b];
@@ -87,23 +84,31 @@ fn append_rows(
     let values = numbers(alloc, width, rows)?;
     append(rt, l2, usize::from(width), first_id, &values)?;
     has_rows(rt, l2, width, from, first_id, rows);
-    assert_eq!(rt; l2.len(), from + rows);
+    assert!(rt; l2.len() == from + rows);
     Ok(())
 }
 
-fn append_each(rt: &impl Abort, alloc: Global, width: u8) -> Result<(), AllocError> {
-    let mut l2 = L2::new(alloc, width)?;
+fn append_each(rt: &impl Abort, alloc: Global, l2: &mut L2, width: u8) -> Result<(), AllocError>
+    requires { l2.old.width ≡ width }
+{
     for (from, first_id, rows) in APPENDED {
-        append_rows(rt, alloc, &mut l2, width, from, first_id, rows)?;
+        append_rows(rt, alloc, l2, width, from, first_id, rows)?;
     }
-    has_rows(rt, &l2, width, 0, 7, 2);
+    has_rows(rt, l2, width, 0, 7, 2);
     Ok(())
+}
+
+fn are_rows(rt: &impl Abort, alloc: Global, width: u8) -> Result<(), AllocError> {
+    let mut l2 = L2::new(alloc, width)?;
+    let appended = append_each(rt, alloc, &mut l2, width);
+    drop(l2);
+    appended
 }
 
 #[test]
-fn values_are_rows_of_each_width(rt: HostRuntime) -> Result<(), Fail> {
+fn values_are_rows_of_each_width(rt: HostRuntime) -> Result<(), AllocError> {
     for width in [1, 3] {
-        append_each(&rt, rt.alloc(), width)?;
+        are_rows(&rt, rt.alloc(), width)?;
     }
     Ok(())
 }
@@ -140,10 +145,9 @@ fn load_values(
     requires small { first_id < 100 }
     ensures { OnOk result (IsAtRest (first_id + 2) table.new.stages) }
 {
-    assert!(rt; table.columns().len() == 2);
-    assert!(rt; values.len() == 4);
-    assert!(rt; fits_columns(table.columns(), &values[..2]));
-    assert!(rt; fits_columns(table.columns(), &values[2..4]));
+    assert!(rt; table.columns().len() == 2 && values.len() == 4);
+    let (first, second) = (&values[..2], &values[2..4]);
+    assert!(rt; fits_columns(table.columns(), first) && fits_columns(table.columns(), second));
     table.load_values(first_id, values, 0)?;
     Ok(())
 }
@@ -178,15 +182,27 @@ fn load_three(rt: &impl Abort, alloc: Global, table: &mut Table) -> Result<(), A
     has_shape(rt, alloc, table, 1, 2, &[])
 }
 
+fn finds_loaded(
+    rt: &impl Abort,
+    alloc: Global,
+    table: &mut Table,
+    fates: &Fates,
+) -> Result<(), AllocError>
+    requires { IsAtRest 1 table.old.stages }
+{
+    load_three(rt, alloc, table)?;
+    finds_each(rt, alloc, table, fates, 4)
+}
+
 fn load_and_find(rt: &impl Abort, alloc: Global, fates: &Fates) -> Result<(), AllocError> {
     let mut table = bare(rt, alloc)?;
-    load_three(rt, alloc, &mut table)?;
-    finds_each(rt, alloc, &table, fates, 4)
+    let found = finds_loaded(rt, alloc, &mut table, fates);
+    drop(table);
+    found
 }
 
 #[test]
-fn loaded_values_are_found(rt: HostRuntime) -> Result<(), Fail> {
+fn loaded_values_are_found(rt: HostRuntime) -> Result<(), AllocError> {
     let fates = Fates::new(rt.alloc())?;
-    load_and_find(&rt, rt.alloc(), &fates)?;
-    Ok(())
+    load_and_find(&rt, rt.alloc(), &fates)
 }

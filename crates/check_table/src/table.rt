@@ -18,8 +18,7 @@ fn move_all(rt: &impl Abort, table: &mut Table, next: u32) -> Result<(), AllocEr
 {
     let there = table.l1_len();
     let moved = table.merge_l1(9)?;
-    assert!(rt; moved == there);
-    assert!(rt; table.l1_len() == 0);
+    assert!(rt; moved == there && table.l1_len() == 0);
     Ok(())
 }
 
@@ -67,7 +66,27 @@ pub(crate) fn end<B: Build>(
     Ok(())
 }
 
-// A merge, with scans between its begin and its end and behind it.
+// The end of a merge, with scans before and behind it.
+fn end_merge<B: Build>(
+    rt: &impl Abort,
+    builder: &B,
+    alloc: Global,
+    table: &mut Table,
+    job: &Job,
+    fates: &Fates,
+    next: u32,
+) -> Result<(), AllocError>
+    requires ready { B.ready builder.now }
+    requires numbered { AreNumbered next table.old.stages }
+    requires job { pending_job table.old.stages ≡ Some job.now }
+    ensures { OnOk result (IsAtRest next table.new.stages) }
+{
+    finds_each(rt, alloc, table, fates, next)?;
+    end(builder, alloc, table, job, next)?;
+    finds_each(rt, alloc, table, fates, next)
+}
+
+// A merge, with scans before it, between its begin and its end and behind it.
 fn merge<B: Build>(
     rt: &impl Abort,
     builder: &B,
@@ -82,10 +101,11 @@ fn merge<B: Build>(
     requires kind { kind ≢ MergeKind.Resort }
     ensures { OnOk result (IsAtRest next table.new.stages) }
 {
-    let job = begin(alloc, table, fates, kind, next)?;
     finds_each(rt, alloc, table, fates, next)?;
-    end(builder, alloc, table, &job, next)?;
-    finds_each(rt, alloc, table, fates, next)
+    let job = begin(alloc, table, fates, kind, next)?;
+    let ended = end_merge(rt, builder, alloc, table, &job, fates, next);
+    drop(job);
+    ended
 }
 
 /// How many rows stand in L1, in L2 and in the parts.
@@ -98,10 +118,12 @@ pub(crate) fn has_shape(
     parts: &[u32],
 ) -> Result<(), AllocError> {
     let shape = table.shape(alloc)?;
-    assert!(rt; shape.l1 == l1);
-    assert!(rt; shape.l2 == l2);
-    assert!(rt; shape.closed.is_none());
-    assert!(rt; shape.parts.as_slice() == parts);
+    let is_right = shape.l1 == l1
+        && shape.l2 == l2
+        && shape.closed.is_none()
+        && shape.parts.as_slice() == parts;
+    drop(shape);
+    assert!(rt; is_right);
     Ok(())
 }
 
@@ -117,11 +139,9 @@ pub(crate) fn in_two_parts<B: Build>(
     requires rest { IsAtRest 4 table.old.stages }
     ensures { OnOk result (IsAtRest 4 table.new.stages) }
 {
-    finds_each(rt, alloc, table, fates, 4)?;
     merge(rt, builder, alloc, table, fates, MergeKind::Extend, 4)?;
     has_shape(rt, alloc, table, 1, 0, &[2])?;
     move_all(rt, table, 4)?;
-    finds_each(rt, alloc, table, fates, 4)?;
     merge(rt, builder, alloc, table, fates, MergeKind::Partial, 4)?;
     has_shape(rt, alloc, table, 0, 0, &[2, 1])
 }

@@ -7,7 +7,6 @@ use crate::rows::{Stage, add, bare};
 use crate::table::{begin, end, has_shape};
 use std::alloc::{AllocError, Global};
 use std::process::Abort;
-use std::test::Fail;
 use ut_merge::{Build, Builder};
 use ut_outside::NoHook;
 use ut_stamps::Fates;
@@ -27,14 +26,15 @@ fn part_more<B: Build>(
     ensures { OnOk result (IsAtRest next table.new.stages) }
 {
     let job = begin(alloc, table, fates, MergeKind::Extend, next)?;
-    end(builder, alloc, table, &job, next)
+    let ended = end(builder, alloc, table, &job, next);
+    drop(job);
+    ended
 }
 
 // The numbers of main's keys in a column, each times its count, have this sum.
 fn has_total(rt: &impl Abort, table: &Table, column: usize, counts: &[u32], sum: i128) {
-    assert!(rt; table.columns().len() == 2);
-    assert!(rt; column < 2);
-    assert_eq!(rt; table.main_total(column, counts), sum, "{counts:?}");
+    assert!(rt; table.columns().len() == 2 && column < 2);
+    assert!(rt; table.main_total(column, counts) == sum, "{counts:?}");
 }
 
 /// Counts of the numbers -7, 5 and 100, and their sum.
@@ -56,6 +56,26 @@ fn has_totals(rt: &impl Abort, table: &Table) {
 }
 
 // The numbers of one part are weighed, and then those of a second.
+fn weighs_each<B: Build>(
+    rt: &impl Abort,
+    builder: &B,
+    alloc: Global,
+    table: &mut Table,
+    fates: &Fates,
+) -> Result<(), AllocError>
+    requires ready { B.ready builder.now }
+    requires bare { IsAtRest 1 table.old.stages }
+{
+    load_two(rt, alloc, table)?;
+    has_total(rt, table, 0, &[1, 1], 0);
+    part_more(builder, alloc, table, fates, 3)?;
+    has_total(rt, table, 0, &[1, 2], 3);
+    add(rt, alloc, table, Stage::Second, 3, 100, b"c")?;
+    part_more(builder, alloc, table, fates, 4)?;
+    has_totals(rt, table);
+    has_shape(rt, alloc, table, 0, 0, &[2, 1])
+}
+
 fn weighs<B: Build>(
     rt: &impl Abort,
     builder: &B,
@@ -65,22 +85,14 @@ fn weighs<B: Build>(
     requires { B.ready builder.now }
 {
     let mut table = bare(rt, alloc)?;
-    load_two(rt, alloc, &mut table)?;
-    has_total(rt, &table, 0, &[1, 1], 0);
-    part_more(builder, alloc, &mut table, fates, 3)?;
-    has_total(rt, &table, 0, &[1, 2], 3);
-    add(rt, alloc, &mut table, Stage::Second, 3, 100, b"c")?;
-    part_more(builder, alloc, &mut table, fates, 4)?;
-    has_shape(rt, alloc, &table, 0, 0, &[2, 1])?;
-    has_totals(rt, &table);
-    Ok(())
+    let weighed = weighs_each(rt, builder, alloc, &mut table, fates);
+    drop(table);
+    weighed
 }
 
 #[test]
-fn numbers_of_two_parts_are_weighed(rt: HostRuntime) -> Result<(), Fail> {
-    let alloc = rt.alloc();
-    let fates = Fates::new(alloc)?;
+fn numbers_of_two_parts_are_weighed(rt: HostRuntime) -> Result<(), AllocError> {
+    let fates = Fates::new(rt.alloc())?;
     let builder = Builder::alone(&rt, &NoHook);
-    weighs(&rt, &builder, alloc, &fates)?;
-    Ok(())
+    weighs(&rt, &builder, rt.alloc(), &fates)
 }

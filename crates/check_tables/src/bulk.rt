@@ -63,7 +63,7 @@ pub(crate) fn can_load(rt: &impl Abort, bulk: Bulk<'_>)
 fn has_len(rt: &impl Abort, bulk: Bulk<'_>, most: u32, len: Option<u32>) {
     can_load(rt, bulk);
     assert!(rt; most <= 1 << 30);
-    assert_eq!(rt; bulk.ops_len(most), len, "at most {most}");
+    assert!(rt; bulk.ops_len(most) == len, "at most {most}");
 }
 
 fn have_lengths(rt: &impl Abort, values: &[Value]) {
@@ -107,18 +107,20 @@ fn logged(alloc: Global, frame: &Frame) -> Result<MemDisk, Fail> {
 // A log of one frame has these bytes.
 fn is_logged(rt: &impl Abort, alloc: Global, frame: &Frame, bytes: &[u8]) -> Result<(), Fail> {
     let log = logged(alloc, frame)?;
-    assert!(rt; same_bytes(log.bytes(Which::Redo), bytes));
+    let is_right = same_bytes(log.bytes(Which::Redo), bytes);
+    drop(log);
+    assert!(rt; is_right);
     Ok(())
 }
 
 // The frame of an entry of the inserts.
 fn framed(rt: &impl Abort, alloc: Global, bulk: Bulk<'_>) -> Result<Frame, AllocError> {
     can_load(rt, bulk);
+    let Some(bytes) = bulk.ops_len(1000) else {
+        panic!(rt; "over a thousand bytes");
+    };
     let mut frame = Frame::txn(alloc)?;
-    match bulk.ops_len(1000) {
-        Some(bytes) => bulk.spell(&mut frame, bytes)?,
-        None => panic!(rt; "over a thousand bytes"),
-    }
+    bulk.spell(&mut frame, bytes)?;
     Ok(frame)
 }
 
@@ -162,8 +164,7 @@ fn commits(
     session: u8,
     bytes: &[u8],
 ) -> Result<(), Fail> {
-    assert!(rt; session < 17);
-    assert!(rt; sessions.has_own(session));
+    assert!(rt; session < 17 && sessions.has_own(session));
     let mut frame = Frame::txn(alloc)?;
     sessions.take_frame(session, &mut frame);
     assert!(rt; !sessions.has_own(session));
@@ -173,10 +174,9 @@ fn commits(
 // Rows join the operations of the fourth session.
 fn note_rows(rt: &impl Abort, sessions: &mut Sessions, values: &[Value]) -> Result<(), AllocError> {
     note(rt, sessions, 3, pairs(&[]))?;
-    assert_eq!(rt; sessions.size(3), 5);
+    assert!(rt; sessions.size(3) == 5);
     note(rt, sessions, 3, pairs(values))?;
-    assert_eq!(rt; sessions.size(3), 46);
-    assert_eq!(rt; sessions.size(4), 5);
+    assert!(rt; sessions.size(3) == 46 && sessions.size(4) == 5);
     Ok(())
 }
 
@@ -205,7 +205,6 @@ fn note_one(rt: &impl Abort, sessions: &mut Sessions) -> Result<(), AllocError> 
 fn an_insert_joins_a_session(rt: HostRuntime) -> Result<(), Fail> {
     let mut sessions = Sessions::new(rt.alloc())?;
     note_one(&rt, &mut sessions)?;
-    assert_eq!(rt; sessions.size(16), 22);
-    assert_eq!(rt; sessions.size(15), 5);
+    assert!(rt; sessions.size(16) == 22 && sessions.size(15) == 5);
     commits(&rt, rt.alloc(), &mut sessions, 16, ONE)
 }

@@ -4,35 +4,23 @@ ghost use Rattle.ut_plain.specs.State.{State};
 ghost use Rattle.ut_shot.specs.Shot.{IsShotOf};
 ghost use Rattle.check_tables.specs.OneRow.{HasOneRow};
 
+use crate::tables::{columns, name};
 use std::alloc::{AllocError, Global};
 use std::process::Abort;
-use std::test::Fail;
 use ut_look::Look;
 use ut_plain::{Query, Reply, Table, fits_columns};
 use ut_shot::Shot;
-use ut_stamps::{Fates, Stamp};
+use ut_stamps::{Fates, Snapshot, Stamp};
 use ut_table::Table as Stages;
-use ut_value::{Column, Duplicate, Kind, Name, Row, Seq, Value, is_name, values_keep_rules};
-
-fn name(rt: &impl Abort, alloc: Global, bytes: &[u8]) -> Result<Name, AllocError> {
-    let bytes = Vec::from_slice(alloc, bytes)?;
-    assert!(rt; is_name(&bytes));
-    Ok(Name::of(bytes))
-}
+use ut_value::{Column, Duplicate, Row, Seq, Value, values_keep_rules};
 
 // A table of one column of numbers.
 fn one_column(rt: &impl Abort, alloc: Global) -> Result<Table, AllocError>
     ensures { IfOk result (λ head. length head.columns ≡ 1) }
 {
-    let mut columns = Seq::new(alloc);
-    columns.push(Column {
-        name: name(rt, alloc, b"k")?,
-        kind: Kind::Int,
-    })?;
-    Ok(Table {
-        name: name(rt, alloc, b"t")?,
-        columns,
-    })
+    let name = name(rt, alloc, b"t")?;
+    let columns = columns(rt, alloc)?;
+    Ok(Table { name, columns })
 }
 
 // Its stages, with one row of the number 7, which everybody sees.
@@ -58,26 +46,33 @@ fn one_row(rt: &impl Abort, alloc: Global, columns: Seq<Column>) -> Result<Stage
 fn shot_of_one(rt: &impl Abort, alloc: Global, query: &Query) -> Result<Shot, AllocError>
     ensures { IfOk result (λ shot. (s : State) × IsShotOf query.now s shot) }
 {
+    let fates = Fates::new(alloc)?;
     let head = one_column(rt, alloc)?;
     let columns = head.columns.duplicate(alloc)?;
     let table = one_row(rt, alloc, columns)?;
-    let fates = Fates::new(alloc)?;
     let heads = [head];
     let stages = [table];
+    let snapshot = Snapshot {
+        fates: &fates,
+        at: 0,
+        own: None,
+    };
     let look = Look {
         tables: &heads,
         stages: &stages,
-        fates: &fates,
-        snapshot: 0,
-        own: None,
+        snapshot,
     };
-    Shot::take(alloc, &look, query)
+    let shot = Shot::take(alloc, &look, query);
+    drop(stages);
+    shot
 }
 
 // What a shot tells.
 fn told(rt: &impl Abort, alloc: Global, query: &Query) -> Result<Reply, AllocError> {
     let shot = shot_of_one(rt, alloc, query)?;
-    shot.answer(alloc, query)
+    let reply = shot.answer(alloc, query);
+    drop(shot);
+    reply
 }
 
 // The sum of a column of a table.
@@ -94,21 +89,28 @@ fn sum_of(
     })
 }
 
+// What a shot tells of the sum of the column k of a table.
+fn sum_told(rt: &impl Abort, alloc: Global, table: &[u8]) -> Result<Reply, AllocError> {
+    let query = sum_of(rt, alloc, table, b"k")?;
+    let reply = told(rt, alloc, &query);
+    drop(query);
+    reply
+}
+
 #[test]
-fn a_shot_is_answered_when_its_table_is_gone(rt: HostRuntime) -> Result<(), Fail> {
-    let query = sum_of(&rt, rt.alloc(), b"t", b"k")?;
-    match told(&rt, rt.alloc(), &query)? {
-        Reply::Sum(sum) => assert!(rt; sum == 7),
-        _ => panic!(rt; "the sum isn't told"),
-    }
+fn a_shot_is_answered_when_its_table_is_gone(rt: HostRuntime) -> Result<(), AllocError> {
+    let reply = sum_told(&rt, rt.alloc(), b"t")?;
+    let is_told = matches!(&reply, Reply::Sum(7));
+    drop(reply);
+    assert!(rt; is_told);
     Ok(())
 }
 
 #[test]
-fn a_shot_refuses_a_name_that_is_not_there(rt: HostRuntime) -> Result<(), Fail> {
-    let query = sum_of(&rt, rt.alloc(), b"u", b"k")?;
-    match told(&rt, rt.alloc(), &query)? {
-        Reply::Refused(_) => Ok(()),
-        _ => panic!(rt; "a table that isn't there has a sum"),
-    }
+fn a_shot_refuses_a_name_that_is_not_there(rt: HostRuntime) -> Result<(), AllocError> {
+    let reply = sum_told(&rt, rt.alloc(), b"u")?;
+    let is_refused = matches!(&reply, Reply::Refused(_));
+    drop(reply);
+    assert!(rt; is_refused);
+    Ok(())
 }

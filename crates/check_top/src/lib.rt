@@ -7,3 +7,5 @@ mod crowds;
 mod scripts;
 #[cfg(test)]
 mod sizes;
+#[cfg(test)]
+mod words;

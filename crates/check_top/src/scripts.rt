@@ -5,7 +5,6 @@ use check_scripts::{Answers, LINES, StoreLines, script_line};
 use std::alloc::{AllocError, Global};
 use std::process::Abort;
 use std::sync::Wait;
-use std::test::Fail;
 use std::thread::Threads;
 use ut_app::Status;
 use ut_outside::MemDisk;
@@ -82,27 +81,39 @@ impl Both {
     ) -> Result<(), AllocError> {
         let script = scripted(alloc, &mut self.store, seed)?;
         let ran = run_on(rt, alloc, words, &script.lines, &mut self.disk)?;
-        assert_eq!(rt; ran.status, Status::Done, "seed {seed}");
-        let told = ran.replies.as_slice();
-        assert_eq!(rt; told, script.replies.as_slice(), "seed {seed}");
+        let is_alike = ran.replies.as_slice() == script.replies.as_slice();
+        let is_done = ran.status == Status::Done;
+        drop(ran);
+        assert!(rt; is_done && is_alike, "seed {seed}");
         Ok(())
     }
 }
 
 /// A store is opened again after its script, and answers another.
+fn check_both(
+    rt: &(impl Abort + Threads + Wait + Sync),
+    alloc: Global,
+    both: &mut Both,
+    seed: u64,
+) -> Result<(), AllocError> {
+    both.run(rt, alloc, RUN_NEW, seed)?;
+    both.open_again(alloc)?;
+    both.run(rt, alloc, RUN, seed.saturating_add(100))
+}
+
 fn check_seed(
     rt: &(impl Abort + Threads + Wait + Sync),
     alloc: Global,
     seed: u64,
 ) -> Result<(), AllocError> {
     let mut both = Both::new(alloc)?;
-    both.run(rt, alloc, RUN_NEW, seed)?;
-    both.open_again(alloc)?;
-    both.run(rt, alloc, RUN, seed.saturating_add(100))
+    let checked = check_both(rt, alloc, &mut both, seed);
+    drop(both);
+    checked
 }
 
 #[test]
-fn scripts_are_answered_as_by_the_slow_store(rt: HostRuntime) -> Result<(), Fail> {
+fn scripts_are_answered_as_by_the_slow_store(rt: HostRuntime) -> Result<(), AllocError> {
     for seed in 1..8 {
         check_seed(&rt, rt.alloc(), seed)?;
     }

@@ -1,9 +1,8 @@
 //! A long log is opened, many rows are replied, and the image of many rows is a chain of pages.
-use check_run::run::{RUN, RUN_NEW, Ran, run_new, run_on};
+use check_run::run::{RUN, RUN_NEW, Ran, Run, run_new, run_on};
 use std::alloc::{AllocError, Global};
 use std::process::Abort;
 use std::sync::Wait;
-use std::test::Fail;
 use std::thread::Threads;
 use ut_app::Status;
 use ut_outside::{MemDisk, Which};
@@ -21,9 +20,7 @@ const BEHIND_ID: &[u8] = b"\x01\x00\x80\0\0\0\0\0\0\x05";
 
 /// A run ends well, with these replies.
 fn check_replies(rt: &impl Abort, ran: &Ran, replies: &[u8]) {
-    assert_eq!(rt; ran.status, Status::Done);
-    let told = ran.replies.as_slice();
-    assert_eq!(rt; told, replies);
+    assert!(rt; ran.status == Status::Done && ran.replies.as_slice() == replies);
 }
 
 /// The log of a table, with a row for each entry more.
@@ -43,17 +40,21 @@ fn long_disk(
     rt: &(impl Abort + Threads + Wait + Sync),
     alloc: Global,
 ) -> Result<MemDisk, AllocError> {
-    let made = run_new(rt, alloc, RUN_NEW, b"")?;
-    assert_eq!(rt; made.ran.status, Status::Done);
     let redo = long_log(alloc)?;
-    MemDisk::of(alloc, &redo, &[], made.disk.bytes(Which::Pages))
+    let made = run_new(rt, alloc, RUN_NEW, b"")?;
+    assert!(rt; made.ran.status == Status::Done);
+    let disk = MemDisk::of(alloc, &redo, &[], made.disk.bytes(Which::Pages));
+    drop(made);
+    disk
 }
 
 #[test]
-fn a_log_of_many_entries_is_opened(rt: HostRuntime) -> Result<(), Fail> {
+fn a_log_of_many_entries_is_opened(rt: HostRuntime) -> Result<(), AllocError> {
     let mut disk = long_disk(&rt, rt.alloc())?;
     let script = b"1 count T where k = 5\n1 insert T 6\n1 count T\n";
-    let ran = run_on(&rt, rt.alloc(), RUN, script, &mut disk)?;
+    let ran = run_on(&rt, rt.alloc(), RUN, script, &mut disk);
+    drop(disk);
+    let ran = ran?;
     let wanted = b"1 count 100000\n1 ok 1 commit 100002\n1 count 100001\n";
     check_replies(&rt, &ran, wanted);
     Ok(())
@@ -79,23 +80,24 @@ fn long_replies(alloc: Global) -> Result<Vec<u8>, AllocError> {
     Ok(replies)
 }
 
-/// Runs the lines on a new disk, which is left.
+/// Runs the lines on a new disk, and hands out both.
 fn check_long(
     rt: &(impl Abort + Threads + Wait + Sync),
     alloc: Global,
     behind: &[u8],
     replies: &[u8],
-) -> Result<MemDisk, AllocError> {
+) -> Result<Run, AllocError> {
     let script = long_script(alloc, behind)?;
     let run = run_new(rt, alloc, RUN_NEW, &script)?;
     check_replies(rt, &run.ran, replies);
-    Ok(run.disk)
+    Ok(run)
 }
 
 #[test]
-fn many_rows_are_replied(rt: HostRuntime) -> Result<(), Fail> {
+fn many_rows_are_replied(rt: HostRuntime) -> Result<(), AllocError> {
     let wanted = long_replies(rt.alloc())?;
-    let _disk = check_long(&rt, rt.alloc(), b"1 select T *\n", &wanted)?;
+    let run = check_long(&rt, rt.alloc(), b"1 select T *\n", &wanted)?;
+    drop(run);
     Ok(())
 }
 
@@ -108,10 +110,12 @@ const SAVED: &[u8] = b"1 ok commit 1\n1 ok 1000 commit 2\n\
 
 /// A directory of a thousand rows is a chain of three pages: 19 bytes, and 12 for each row.
 #[test]
-fn a_long_directory_is_a_chain_of_pages(rt: HostRuntime) -> Result<(), Fail> {
-    let mut disk = check_long(&rt, rt.alloc(), SAVE, SAVED)?;
+fn a_long_directory_is_a_chain_of_pages(rt: HostRuntime) -> Result<(), AllocError> {
+    let mut run = check_long(&rt, rt.alloc(), SAVE, SAVED)?;
     let question = b"0 shape T\n1 count T where k = 7\n";
-    let ran = run_on(&rt, rt.alloc(), RUN, question, &mut disk)?;
+    let ran = run_on(&rt, rt.alloc(), RUN, question, &mut run.disk);
+    drop(run);
+    let ran = ran?;
     let again = b"0 shape l1 0 l2 1000 closed none parts none\n1 count 1000\n";
     check_replies(&rt, &ran, again);
     Ok(())

@@ -20,11 +20,21 @@ pub(crate) fn tally_of(
     let mut tally = Tally::new();
     for row in rows {
         let mut disk = disk_for(alloc, disks.as_slice(), row)?;
-        let found = check_row(rt, alloc, row, &mut disk)?;
-        tally.count(is_right(rt, row, &found)?);
+        let is_right = is_answered(rt, alloc, row, &mut disk);
         disks.push(disk)?;
+        tally.count(is_right?);
     }
     Ok(tally)
+}
+
+fn is_answered(
+    rt: &(impl Print + Threads + Wait + Sync),
+    alloc: Global,
+    row: &Row<'_>,
+    disk: &mut MemDisk,
+) -> Result<bool> {
+    let found = check_row(rt, alloc, row, disk)?;
+    is_right(rt, row, &found)
 }
 
 // The disk that a row is for: as the row left it that it stands behind, or an empty one.

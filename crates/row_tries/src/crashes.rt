@@ -3,7 +3,7 @@ use crate::left::{Base, Must, meets, moment_of};
 use crate::scene::Scene;
 use crate::tries::Trouble;
 use check_run::run::{RUN, RUN_NEW, run_on};
-use row_files::{Place, Wanted};
+use row_files::{Place, Row, Wanted};
 use std::alloc::{AllocError, Global};
 use std::sync::Wait;
 use std::thread::Threads;
@@ -26,14 +26,23 @@ pub(crate) fn base_of(
     scene: Scene<'_, '_>,
 ) -> Result<Base, AllocError> {
     let mut disk = scene.disk(alloc)?;
-    if scene.row.behind.is_some() {
-        let ran = run_on(rt, alloc, RUN, b"", &mut disk)?;
+    base_on(rt, alloc, scene.row, &mut disk)
+}
+
+fn base_on(
+    rt: &(impl Threads + Wait + Sync),
+    alloc: Global,
+    row: &Row<'_>,
+    disk: &mut MemDisk,
+) -> Result<Base, AllocError> {
+    if row.behind.is_some() {
+        let ran = run_on(rt, alloc, RUN, b"", disk)?;
         return Ok(Base {
             making: 0,
             entries: ran.journal,
         });
     }
-    let _made = run_on(rt, alloc, RUN_NEW, b"", &mut disk)?;
+    let _made = run_on(rt, alloc, RUN_NEW, b"", disk)?;
     Ok(Base {
         making: disk.calls(),
         entries: 0,
@@ -118,7 +127,20 @@ pub(crate) fn torn(
         return Ok(Some(Trouble::at(moment)));
     }
     let mut image = disk.image(moment, tear)?;
-    let left = scene.asked_on(rt, alloc, &mut image)?;
+    torn_on(rt, alloc, scene, moment, tear, must, &mut image)
+}
+
+// What is opened on what a crash left.
+fn torn_on(
+    rt: &(impl Threads + Wait + Sync),
+    alloc: Global,
+    scene: Scene<'_, '_>,
+    moment: u64,
+    tear: Tear,
+    must: Must,
+    image: &mut MemDisk,
+) -> Result<Option<Trouble>, AllocError> {
+    let left = scene.asked_on(rt, alloc, image)?;
     if meets(scene.row, &left, must) {
         return Ok(None);
     }

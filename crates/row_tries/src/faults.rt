@@ -3,7 +3,7 @@ use crate::crashes::{base_of, torn, torn_each};
 use crate::left::{Base, Must, replies_by};
 use crate::scene::Scene;
 use crate::tries::Trouble;
-use check_run::run::{RUN, Run, run_on};
+use check_run::run::{RUN, Ran, Run, run_on};
 use row_files::{Row, Wanted};
 use std::alloc::{AllocError, Global};
 use std::sync::Wait;
@@ -62,7 +62,21 @@ fn fault(
     more: Option<u64>,
 ) -> Result<Option<Trouble>, AllocError> {
     let mut failed = failed_at(rt, alloc, scene, call, more)?;
-    if !is_told(scene.row, acks, &failed, call) {
+    all_kept(rt, alloc, scene, base, acks, call, more, &mut failed)
+}
+
+// What is kept of a run that failed. Behind two faults the store is opened once on the disk that failed.
+fn all_kept(
+    rt: &(impl Threads + Wait + Sync),
+    alloc: Global,
+    scene: Scene<'_, '_>,
+    base: Base,
+    acks: &[Ack],
+    call: u64,
+    more: Option<u64>,
+    failed: &mut Run,
+) -> Result<Option<Trouble>, AllocError> {
+    if !is_told(scene.row, acks, failed, call) {
         return Ok(Some(Trouble::of(call, &failed.ran)));
     }
     if more.is_some() {
@@ -84,19 +98,24 @@ pub(crate) fn fault_at(
     wanted: Wanted,
 ) -> Result<Option<Trouble>, AllocError> {
     let failed = failed_at(rt, alloc, scene, call, None)?;
-    if !is_told(scene.row, acks, &failed, call) {
+    torn_behind(rt, alloc, scene, acks, call, tear, wanted, &failed)
+}
+
+fn torn_behind(
+    rt: &(impl Threads + Wait + Sync),
+    alloc: Global,
+    scene: Scene<'_, '_>,
+    acks: &[Ack],
+    call: u64,
+    tear: Tear,
+    wanted: Wanted,
+    failed: &Run,
+) -> Result<Option<Trouble>, AllocError> {
+    if !is_told(scene.row, acks, failed, call) {
         return Ok(Some(Trouble::of(call, &failed.ran)));
     }
-    let moment = failed.disk.calls();
-    torn(
-        rt,
-        alloc,
-        scene,
-        &failed.disk,
-        moment,
-        tear,
-        Must::Be(wanted),
-    )
+    let disk = &failed.disk;
+    torn(rt, alloc, scene, disk, disk.calls(), tear, Must::Be(wanted))
 }
 
 // Runs a row on a disk that fails at a call, and at one so many calls behind it.
@@ -108,12 +127,25 @@ fn failed_at(
     more: Option<u64>,
 ) -> Result<Run, AllocError> {
     let mut disk = scene.disk(alloc)?;
+    match run_failing(rt, alloc, scene, call, more, &mut disk) {
+        Ok(ran) => Ok(Run { ran, disk }),
+        Err(error) => Err(error),
+    }
+}
+
+fn run_failing(
+    rt: &(impl Threads + Wait + Sync),
+    alloc: Global,
+    scene: Scene<'_, '_>,
+    call: u64,
+    more: Option<u64>,
+    disk: &mut MemDisk,
+) -> Result<Ran, AllocError> {
     disk.fail_at(call)?;
     if let Some(more) = more {
         disk.fail_at(call.saturating_add(more))?;
     }
-    let ran = scene.run_on(rt, alloc, &mut disk)?;
-    Ok(Run { ran, disk })
+    scene.run_on(rt, alloc, disk)
 }
 
 fn look(

@@ -140,14 +140,26 @@ pub(crate) fn opened_with(
     patch: Patch<'_>,
     wanted: Wanted,
 ) -> Result<Option<Trouble>, AllocError> {
-    let Some(mut other) = patched(alloc, disk, patch)? else {
-        return Ok(Some(Trouble::at(place_of(patch.change))));
-    };
-    let left = scene.asked_on(rt, alloc, &mut other)?;
+    let place = place_of(patch.change);
+    match patched(alloc, disk, patch)? {
+        Some(mut other) => opened_on(rt, alloc, scene, place, wanted, &mut other),
+        None => Ok(Some(Trouble::at(place))),
+    }
+}
+
+fn opened_on(
+    rt: &(impl Threads + Wait + Sync),
+    alloc: Global,
+    scene: Scene<'_, '_>,
+    place: u64,
+    wanted: Wanted,
+    disk: &mut MemDisk,
+) -> Result<Option<Trouble>, AllocError> {
+    let left = scene.asked_on(rt, alloc, disk)?;
     if meets(scene.row, &left, Must::Be(wanted)) {
         return Ok(None);
     }
-    Ok(Some(Trouble::of(place_of(patch.change), &left)))
+    Ok(Some(Trouble::of(place, &left)))
 }
 
 // Where a change is.

@@ -96,11 +96,23 @@ fn checked_calls(
 ) -> Result<Found, AllocError> {
     let before = copy_of(alloc, disk)?;
     if row.calls.is_empty() {
-        return checked_usual(rt, alloc, row, lines, &before, disk);
+        checked_usual(rt, alloc, row, lines, &before, disk)
+    } else {
+        checked_each(rt, alloc, row, lines, &before, disk)
     }
+}
+
+fn checked_each(
+    rt: &(impl Threads + Wait + Sync),
+    alloc: Global,
+    row: &Row<'_>,
+    lines: &Lines,
+    before: &MemDisk,
+    disk: &mut MemDisk,
+) -> Result<Found, AllocError> {
     for call in &row.calls {
-        *disk = copy_of(alloc, &before)?;
-        let found = checked_call(rt, alloc, row, lines, call, &before, disk)?;
+        *disk = copy_of(alloc, before)?;
+        let found = checked_call(rt, alloc, row, lines, call, before, disk)?;
         if !matches!(found, Found::Right) {
             return Ok(found);
         }

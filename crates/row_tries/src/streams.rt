@@ -35,7 +35,18 @@ fn given_in(
         return Ok(Some(Trouble::at(0)));
     }
     let mut source = MemSource::new(alloc, script, len, None)?;
-    let ran = run_from(rt, alloc, scene, &mut source)?;
+    given_by(rt, alloc, scene, script, len, &mut source)
+}
+
+fn given_by(
+    rt: &(impl Threads + Wait + Sync),
+    alloc: Global,
+    scene: Scene<'_, '_>,
+    script: &[u8],
+    len: usize,
+    source: &mut MemSource,
+) -> Result<Option<Trouble>, AllocError> {
+    let ran = run_from(rt, alloc, scene, source)?;
     let is_told = ends(scene.row, &ran, Status::Done);
     if is_told
         && source
@@ -114,9 +125,7 @@ pub(crate) fn unwritten(
     call: u64,
     replies: usize,
 ) -> Result<Option<Trouble>, AllocError> {
-    let mut disk = scene.disk(alloc)?;
-    let sink = MemSink::new(alloc, Some(call));
-    let ran = scene.run_into(rt, alloc, sink, &mut disk)?;
+    let ran = run_unwritten(rt, alloc, scene, call)?;
     if ran.status == Status::WriteFault
         && is_front(scene.row, &ran, call)
         && ran.acks.len() == replies
@@ -124,6 +133,16 @@ pub(crate) fn unwritten(
         return Ok(None);
     }
     Ok(Some(Trouble::of(call, &ran)))
+}
+
+fn run_unwritten(
+    rt: &(impl Threads + Wait + Sync),
+    alloc: Global,
+    scene: Scene<'_, '_>,
+    call: u64,
+) -> Result<Ran, AllocError> {
+    let mut disk = scene.disk(alloc)?;
+    scene.run_into(rt, alloc, MemSink::new(alloc, Some(call)), &mut disk)
 }
 
 // Whether what was told are the answers to so many lines.

@@ -9,8 +9,8 @@ use Rattle.ut_shot.specs.Shot.{IsShot, IsShotOf}
 use Rattle.check_tables.proofs.OneRowLemmas.{can-look-there, shot-there}
 use Rattle.check_tables.proofs.shot.shot_of_one.Goals as goal
 
-pub take-requires : goal.take-requires
-take-requires g c =
+pub take-shot-requires : goal.take-shot-requires
+take-shot-requires g c =
     let with-fates : List Fate → Sight = λ f. record { tables = c.in_ok-head.head ∷ []; staged = c.in_ok-table.table.stages ∷ []; fates = f; snapshot = 0; own = None } in
     can-look-there c.in_ok-head.head c.in_ok-table.table.stages c.in_ok-columns.columns (with-fates c.in_ok-fates.fates) c.in_ok-columns.ensures c.in_ok-head.ensures c.in_ok-table.ensures (ap with-fates c.in_ok-fates.ensures)
 
@@ -18,6 +18,6 @@ pub returns : goal.returns
 returns g c =
     let with-fates : List Fate → Sight = λ f. record { tables = c.in_ok-head.head ∷ []; staged = c.in_ok-table.table.stages ∷ []; fates = f; snapshot = 0; own = None } in
     let look : Sight = with-fates c.in_ok-fates.fates in
-    IfOk-weaker c.take.result (λ shot. (seen : List (ℕ × Stored)) → Sees look seen → IsShot c.args.query.now look.tables seen shot) (λ shot. (s : State) × IsShotOf c.args.query.now s shot)
+    IfOk-weaker c.take-shot.result (λ shot. (seen : List (ℕ × Stored)) → Sees look seen → IsShot c.args.query.now look.tables seen shot) (λ shot. (s : State) × IsShotOf c.args.query.now s shot)
     (λ shot taken. shot-there c.in_ok-head.head c.in_ok-table.table.stages c.in_ok-columns.columns look c.args.query.now shot c.in_ok-columns.ensures c.in_ok-head.ensures c.in_ok-table.ensures (ap with-fates c.in_ok-fates.ensures) taken)
-    c.take.ensures
+    c.take-shot.ensures
